@@ -18,7 +18,7 @@ use Rattle.hum_stage.specs.Decided.{Decision, MayStep, Steps}
 use Rattle.hum_stage.specs.Limits.{in_room}
 use Rattle.hum_cells.specs.declared.rewritten.Rewritten.{Rewritten}
 use Rattle.hum_cells.specs.Rewriting.{Rewriting, is_kern, kern_columns}
-use Rattle.hum_cells.specs.Rewriter.{Frames, MayFollow, HasFollowed, MayTell, HasTold, decision}
+use Rattle.hum_cells.specs.Rewriter.{Columns, Frames, MayFollow, HasFollowed, MayTell, HasTold, MayTellData, HasToldData, decision}
 
 quiet : (path : Path) (tokens : List (List ℕ)) → all_plain tokens ≡ true → find (breaks path tokens) in_order ≡ None
     → exclusives path ≡ names_after path tokens
@@ -49,15 +49,15 @@ data_stays past row is sound = kern_stays past row (quiet_data row is) sound
     quiet_data (Spined Interpretation tokens) is = absurd cc
 
 -- What one step asks of its parts.
-moved : {follows : Rewriting → List Row → Type 0} {path : Path} {kern : List Bool} {decide : Decision} {past : List Row} (row : Row) (found : List Move)
+moved : {follows : Rewriting → Columns → Type 0} {path : Path} {kern : List Bool} {decide : Decision} {past : List Row} (row : Row) (found : List Move)
     → found ≡ moves path row → Frames follows path kern decide past → found ≡ moves (path_after past) row
 moved row found is h = is ∙ ap (λ p. moves p row) h.spines
 
-pub no_fault : {follows : Rewriting → List Row → Type 0} {path : Path} {kern : List Bool} (row : Row)
+pub no_fault : {follows : Rewriting → Columns → Type 0} {path : Path} {kern : List Bool} (row : Row)
     → MayStep (Frames follows path kern) row → fault_of path row ≡ None
 no_fault row m = ap (λ p. fault_of p row) m.memory.spines ∙ m.score.1
 
-pub may_follow : {follows : Rewriting → List Row → Type 0} {path : Path} {kern : List Bool} (row : Row) (found : List Move) → found ≡ moves path row
+pub may_follow : {follows : Rewriting → Columns → Type 0} {path : Path} {kern : List Bool} (row : Row) (found : List Move) → found ≡ moves path row
     → MayStep (Frames follows path kern) row → MayFollow follows row found
 may_follow row found is m = record {
   rewriting = m.memory.rewriting;
@@ -67,7 +67,7 @@ may_follow row found is m = record {
   moved = moved row found is m.memory;
 }
 
-pub may_tell : (before after : Rewriting → List Row → Type 0) {path : Path} {kern shown : List Bool} (row : Row) (found : List Move)
+pub may_tell : (before after : Rewriting → Columns → Type 0) {path : Path} {kern shown : List Bool} (row : Row) (found : List Move)
     → shown ≡ kern → found ≡ moves path row → HasFollowed before after row found → MayStep (Frames before path kern) row → MayTell after shown row
 may_tell before after row found same is follow m = record {
   rewriting = m.memory.rewriting;
@@ -78,7 +78,7 @@ may_tell before after row found same is follow m = record {
 }
 
 -- What they say together.
-pub stepped : (before followed told : Rewriting → List Row → Type 0) {path path' : Path} {kern shown kern' : List Bool} (row : Row)
+pub stepped : (before followed told : Rewriting → Columns → Type 0) {path path' : Path} {kern shown kern' : List Bool} (row : Row)
     (found : List Move) (answer : Rewritten) (rows : List Row) (room : ℕ) → shown ≡ kern → found ≡ moves path row
     → path' ≡ after path row → HasFollowed before followed row found → HasTold followed told shown row (Ok answer)
     → ((past : List Row) → kern ≡ kern_columns past → path' ≡ path_after (row ∷ past) → IsOpen (row ∷ past) → kern' ≡ kern_columns (row ∷ past))
@@ -94,7 +94,7 @@ stepped before followed told {path' = path'} row found answer rows room same is 
     )
 
 -- The same of a record that is refused.
-pub refused : (before followed told : Rewriting → List Row → Type 0) {path : Path} {kern shown : List Bool} (row : Row)
+pub refused : (before followed told : Rewriting → Columns → Type 0) {path : Path} {kern shown : List Bool} (row : Row)
     (found : List Move) (rule : Rule) (room : ℕ) → shown ≡ kern → found ≡ moves path row
     → HasFollowed before followed row found → HasTold followed told shown row (Err rule)
     → (decide : Decision) (past : List Row) → Frames before path kern decide past → IsOpen (row ∷ past)
@@ -102,4 +102,46 @@ pub refused : (before followed told : Rewriting → List Row → Type 0) {path :
 refused before followed told row found rule room same is follow tell decide past h sound =
     let m = follow h.rewriting past h.memory sound (moved row found is h) in
     let t = tell h.rewriting past m (same ∙ h.kern_is) sound in
+    ap (in_room room) (ap (λ (d : Decision). d past row) h.command ∙ t.1)
+
+-- The same of data, by which no spine moves.
+spines_stay : (past : List Row) (row : Row) → kind_of row ≡ AnyValues → path_after past ≡ path_after (row ∷ past)
+spines_stay past (Comment text) k = refl
+spines_stay past (Spined Local tokens) k = refl
+spines_stay past (Spined Interpretation tokens) k = absurd cc
+spines_stay past (Spined Values tokens) k = refl
+
+pub may_tell_data : {follows : Rewriting → Columns → Type 0} {path : Path} {kern shown : List Bool} (row : Row) → shown ≡ kern
+    → MayStep (Frames follows path kern) row → MayTellData follows shown row
+may_tell_data row same m = record {
+  rewriting = m.memory.rewriting;
+  past = m.past;
+  memory = m.memory.memory;
+  kern_is = same ∙ m.memory.kern_is;
+  score = m.score;
+}
+
+pub stepped_data : (before told : Rewriting → Columns → Type 0) {path : Path} {kern shown : List Bool} (row : Row)
+    (answer : Rewritten) (rows : List Row) (room : ℕ) → kind_of row ≡ AnyValues → shown ≡ kern
+    → HasToldData before told shown row (Ok answer) → decision row (Ok answer) ≡ Ok rows
+    → (decide : Decision) (past : List Row) → Frames before path kern decide past → IsOpen (row ∷ past)
+    → Steps decide past row (Frames told path kern) room rows None
+stepped_data before told row answer rows room k same tell puts decide past h sound =
+    let t = tell h.rewriting past h.memory (same ∙ h.kern_is) sound in (
+      ap (λ (d : Decision). d past row) h.command ∙ t.1 ∙ puts,
+      record {
+        rewriting = h.rewriting;
+        command = h.command;
+        memory = t.0;
+        spines = h.spines ∙ spines_stay past row k;
+        kern_is = h.kern_is ∙ data_stays past row k sound;
+      },
+    )
+
+pub refused_data : (before told : Rewriting → Columns → Type 0) {path : Path} {kern shown : List Bool} (row : Row)
+    (rule : Rule) (room : ℕ) → shown ≡ kern → HasToldData before told shown row (Err rule)
+    → (decide : Decision) (past : List Row) → Frames before path kern decide past → IsOpen (row ∷ past)
+    → in_room room (decide past row) ≡ Err rule
+refused_data before told row rule room same tell decide past h sound =
+    let t = tell h.rewriting past h.memory (same ∙ h.kern_is) sound in
     ap (in_room room) (ap (λ (d : Decision). d past row) h.command ∙ t.1)

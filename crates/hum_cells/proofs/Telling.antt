@@ -1,8 +1,8 @@
 -- Tokens of a data record, told one by one.
 use Rattle.std.proofs.Common.{◌≡◌, ◌∙◌, refl, sym, ap, subst, ℕ, zero, suc, ◌+◌, ◌<◌, ◌≤◌, Bool, true, false, ◌&&◌, List, [], ◌∷◌, ◌++◌}
-use Rattle.std.proofs.Common.{length-append, length, drop, get_or, arith, add-one, drop-cons, append_assoc, append-nil}
+use Rattle.std.proofs.Common.{length-append, length, take, drop, get_or, arith, add-one, drop-cons, append_assoc, append-nil}
 use Rattle.std.specs.Prelude.{None, Result, Ok, Err, nat_lt}
-use Rattle.std.proofs.lemmas.List.{drop_all, length-map}
+use Rattle.std.proofs.lemmas.List.{drop_all, take_all, length-map}
 use Rattle.std.proofs.lemmas.Bool.{or_parts}
 use Rattle.std.proofs.lemmas.Bool.Decides.{nat_tests}
 use Rattle.hum_record.specs.declared.Kind.TheVariants.{Values as AnyValues, Global}
@@ -12,7 +12,7 @@ use Rattle.hum_record.specs.Spelling.{IsToken, IsTokenOf}
 use Rattle.hum_record.specs.Building.{Draft, spelled}
 use Rattle.hum_path.specs.Spines.{exclusives}
 use Rattle.hum_path.specs.Score.{IsOpen, path_after}
-use Rattle.hum_path.specs.Chains.{columns, longer, history}
+use Rattle.hum_path.specs.Chains.{columns, longer}
 use Rattle.hum_path.proofs.Widths.{columns_width, text_width}
 use Rattle.hum_stage.specs.declared.faults.Rule.{Rule}
 use Rattle.hum_stage.specs.declared.faults.Rule.TheVariants.{L1}
@@ -20,7 +20,7 @@ use Rattle.hum_record.specs.RecordDraft.{Holds}
 use Rattle.hum_stage.specs.declared.faults.Refusal.{Refusal}
 use Rattle.hum_stage.specs.Refusals.{IfTold}
 use Rattle.hum_stage.proofs.Telling.{told_to}
-use Rattle.hum_cells.specs.Rewriter.{Pushes, HasRewritten, HasPushed}
+use Rattle.hum_cells.specs.Rewriter.{Columns, one_longer, Pushes, HasRewritten, HasPushed}
 use Rattle.hum_cells.specs.Rewriting.{Rewriting, is_kern, kern_columns, has_content, any_told, rewritten, beside, all_rewritten, if_fit, data_record, rewrite}
 
 pub none_told : (kerns : List Bool) (tokens : List (List ℕ)) (j : ℕ) → length tokens ≤ j
@@ -85,14 +85,14 @@ pub changes : (becomes : List (List ℕ) → List ℕ → Result (List ℕ) Rule
 changes becomes kern above token is = rw is refl
 
 -- what was added of a token that is told anew
-pub pushed_on : {A : Type 0} (r : Result A Refusal) (before after : Rewriting → List Row → Type 0) (j : ℕ) (kern : Bool) (token : List ℕ)
+pub pushed_on : {A : Type 0} (r : Result A Refusal) (before after : Rewriting → Columns → Type 0) (j : ℕ) (kern : Bool) (token : List ℕ)
     (made making : List (List ℕ) → Type 0) → (kern && has_content token) ≡ true → IfTold r (HasRewritten before after j token made making)
     → IfTold r (HasPushed before after j kern token made making)
 pushed_on r before after j kern token made making is h =
-    told_to r _ _ (λ refused told rewriting past above follows cell.
-    let t = told rewriting past above follows cell in (
+    told_to r _ _ (λ refused told rewriting above follows.
+    let t = told rewriting above follows in (
       t.0,
-      subst (λ (x : Result (List ℕ) Rule). Pushes x made making refused) (sym (changes rewriting.becomes kern above token is)) t.1,
+      subst (λ (x : Result (List ℕ) Rule). Pushes x made making refused) (sym (changes rewriting.becomes kern (get_or above j []) token is)) t.1,
     )) h
 
 module _ (becomes : List (List ℕ) → List ℕ → Result (List ℕ) Rule) (kerns : List Bool) (columns : List (List (List ℕ))) (tokens : List (List ℕ)) (j : ℕ)
@@ -147,28 +147,39 @@ as_wide past (Spined Values tokens) sound k =
       length-map (exclusives (path_after past)) is_kern ∙ sym wide,
     )
 
-longer_at : (tokens : List (List ℕ)) (above : List (List (List ℕ))) (j : ℕ) → j < length tokens → length tokens ≡ length above
-    → get_or (longer tokens above) j [] ≡ get_or tokens j [] ∷ get_or above j []
-longer_at [] above j h e = absurd (omega (arith, h))
-longer_at (t ∷ ts) [] j h e = absurd (omega (arith, e))
-longer_at (t ∷ ts) (chain ∷ above) zero h e = refl
-longer_at (t ∷ ts) (chain ∷ above) (suc j) h e = longer_at ts above j (omega (arith, h)) (omega (arith, e))
+-- Columns of which those to the left have one cell more.
+pub longer_length : (tokens : List (List ℕ)) (above : Columns) → length (longer tokens above) ≡ length above
+longer_length [] above = refl
+longer_length (t ∷ ts) [] = refl
+longer_length (t ∷ ts) (c ∷ cs) = ap suc (longer_length ts cs)
 
--- a column behind a data record: its last cell, and those above
-pub last_cell : (past : List Row) (row : Row) (j : ℕ) (token : List ℕ) → IsOpen (row ∷ past) → kind_of row ≡ AnyValues
-    → j < width_of row → token ≡ get_or (tokens_of row) j [] → history (row ∷ past) j ≡ token ∷ history past j
-last_cell past (Comment text) j token sound k below is = absurd (comment_no_data k)
-last_cell past (Spined Local tokens) j token sound k below is = absurd cc
-last_cell past (Spined Interpretation tokens) j token sound k below is = absurd cc
-last_cell past (Spined Values tokens) j token sound k below is =
-    longer_at tokens (columns past) j below (sym (as_wide past (Spined Values tokens) sound k).0)
-    ∙ ap (λ (t : List ℕ). t ∷ history past j) (sym is)
+pub longer_rest : (tokens : List (List ℕ)) (above : Columns) (j : ℕ) → get_or (longer (take j tokens) above) j [] ≡ get_or above j []
+longer_rest tokens above zero = refl
+longer_rest [] above (suc j) = refl
+longer_rest (t ∷ ts) [] (suc j) = refl
+longer_rest (t ∷ ts) (c ∷ cs) (suc j) = longer_rest ts cs j
 
-pub wider : (past : List Row) (row : Row) → IsOpen (row ∷ past) → kind_of row ≡ AnyValues → length (columns (row ∷ past)) ≡ length (columns past)
-wider past (Comment text) sound k = absurd (comment_no_data k)
-wider past (Spined Local tokens) sound k = absurd cc
-wider past (Spined Interpretation tokens) sound k = absurd cc
-wider past (Spined Values tokens) sound k = columns_width (Spined Values tokens ∷ past) sound ∙ sym (columns_width past sound.0)
+one_more : (tokens : List (List ℕ)) (above : Columns) (j : ℕ) → j < length tokens → j < length above
+    → one_longer j (get_or tokens j []) (longer (take j tokens) above) ≡ longer (take (suc j) tokens) above
+one_more [] above j a b = absurd (omega (arith, a))
+one_more (t ∷ ts) [] j a b = absurd (omega (arith, b))
+one_more (t ∷ ts) (c ∷ cs) zero a b = refl
+one_more (t ∷ ts) (c ∷ cs) (suc j) a b = ap (λ (rest : Columns). (t ∷ c) ∷ rest) (one_more ts cs j (omega (arith, a)) (omega (arith, b)))
+
+pub longer_more : (tokens : List (List ℕ)) (above : Columns) (j : ℕ) (token : List ℕ) → token ≡ get_or tokens j []
+    → j < length tokens → j < length above
+    → one_longer j token (longer (take j tokens) above) ≡ longer (take (j + 1) tokens) above
+longer_more tokens above j token is a b =
+    ap (λ (t : List ℕ). one_longer j t (longer (take j tokens) above)) is
+    ∙ rw add-one (one_more tokens above j a b)
+
+-- with all of them these are the columns behind the record
+pub all_longer : (past : List Row) (row : Row) (j : ℕ) → kind_of row ≡ AnyValues → width_of row ≤ j
+    → longer (take j (tokens_of row)) (columns past) ≡ columns (row ∷ past)
+all_longer past (Comment text) j k all = absurd (comment_no_data k)
+all_longer past (Spined Local tokens) j k all = absurd cc
+all_longer past (Spined Interpretation tokens) j k all = absurd cc
+all_longer past (Spined Values tokens) j k all = rw (take_all j tokens all) refl
 
 pub told_data : (rewriting : Rewriting) (past : List Row) (row : Row) → kind_of row ≡ AnyValues
     → rewrite rewriting past row ≡ data_record (all_rewritten rewriting.becomes (kern_columns past) (columns past) (tokens_of row))

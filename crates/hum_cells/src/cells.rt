@@ -7,12 +7,12 @@ ghost use Rattle.hum_path.specs.Score.{IsOpen, path_after};
 ghost use Rattle.hum_stage.specs.Decided.{MayStep, HasStepped};
 ghost use Rattle.hum_stage.specs.Refusals.{IfAnswered, IfTold};
 ghost use Rattle.hum_cells.specs.Rewriting.{is_kern, kern_columns, rewrite};
-ghost use Rattle.hum_cells.specs.Rewriter.{MayTell, HasTold};
+ghost use Rattle.hum_cells.specs.Rewriter.{MayTell, HasTold, MayTellData, HasToldData};
 
 use crate::heading::{has_kern, is_kern, with_heading};
 use crate::rewriter::{Heading, TokenRewriter};
 use crate::rewritten::Rewritten;
-use crate::tokens::{any_told, tell_tokens};
+use crate::tokens::{any_told, hear_tokens, tell_tokens};
 use hum_path::{Paths, steers};
 use hum_record::{Kind, Record, Spare};
 use hum_stage::{AtOnce, Command, Decides, Refusal, UpToTwo, unless_long};
@@ -99,14 +99,15 @@ fn tell_data<T: TokenRewriter>(
     row: &Record,
     spare: &mut Spare,
 ) -> Result<Rewritten, Refusal>
-    requires score { MayTell (T.follows teller.old) kern.now row.now }
+    requires score { MayTellData (T.follows teller.old) kern.now row.now }
     requires kind { kind_of row.now ≡ AnyValues }
     requires at_most { length (text_of row.now) ≤ 1048576 }
-    ensures { IfAnswered result (HasTold (T.follows teller.old) (T.follows teller.new) kern.now row.now) }
+    ensures { IfAnswered result (HasToldData (T.follows teller.old) (T.follows teller.new) kern.now row.now) }
 {
     if any_told(kern, row) {
         tell_tokens(alloc, teller, kern, row, spare)
     } else {
+        hear_tokens(teller, row)?;
         Ok(Rewritten::Same)
     }
 }
@@ -137,7 +138,7 @@ fn tell_other<T: TokenRewriter>(
 impl<T: TokenRewriter> Cells<T> {
     ghost use Rattle.hum_cells.specs.Rewriter.{Frames};
 
-    /// Puts what a data record becomes. Behind it each column is under what it was.
+    /// Puts what a data record becomes. Behind it each spine is where it was, and under what it was.
     ///
     /// # Errors
     /// The rule by which it is refused; or out of memory.
@@ -151,7 +152,6 @@ impl<T: TokenRewriter> Cells<T> {
             (Frames (T.follows self.new.teller) self.new.paths.path self.new.kern.items)
             next _room out.new) }
     {
-        self.teller.follow(&next, &self.paths.follow(&next)?)?;
         let told = tell_data(
             self.alloc,
             &mut self.teller,

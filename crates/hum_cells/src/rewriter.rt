@@ -1,15 +1,14 @@
 //! What is a command's own.
-ghost use Rattle.std.specs.Prelude.{◌≡◌, [], true, List, OnOk};
+ghost use Rattle.std.specs.Prelude.{◌≡◌, [], true, OnOk};
 ghost use Rattle.hum_record.specs.declared.SpinedKind.TheVariants.{Values};
-ghost use Rattle.hum_record.specs.Row.{Row};
 ghost use Rattle.hum_record.specs.Spelling.{IsToken};
 ghost use Rattle.hum_record.specs.RecordDraft.{Holds};
 ghost use Rattle.hum_path.specs.Step.{ComeFrom};
 ghost use Rattle.hum_stage.specs.declared.faults.Command.{Command};
 ghost use Rattle.hum_stage.specs.Refusals.{IfTold};
 ghost use Rattle.hum_cells.specs.Rewriting.{Rewriting, IsHeading, has_content};
-ghost use Rattle.hum_cells.specs.Rewriter.{MayRewrite, HasRewritten, MayFollow, HasFollowed};
-ghost use Rattle.hum_cells.specs.Rewriter.{ShowsHeading};
+ghost use Rattle.hum_cells.specs.Rewriter.{Columns, MayHear, HasHeard, HasRewritten};
+ghost use Rattle.hum_cells.specs.Rewriter.{MayFollow, HasFollowed, ShowsHeading};
 
 use hum_path::Moves;
 use hum_record::{Record, RecordDraft};
@@ -36,8 +35,8 @@ pub trait TokenRewriter: Drop {
     /// What it makes of kern columns.
     ghost rewriting: { Self.Options → Rewriting };
 
-    /// It stands for these records, the newest first, and makes this of kern columns.
-    ghost follows: { Self → Rewriting → List Row → Type 0 };
+    /// It stands for columns of these cells, and makes this of kern columns.
+    ghost follows: { Self → Rewriting → Columns → Type 0 };
 
     /// Which command it is.
     fn command() -> Command
@@ -51,13 +50,13 @@ pub trait TokenRewriter: Drop {
     fn heading(&self) -> Heading<'_>
         ensures { ShowsHeading (follows self.now) result };
 
-    /// Adds what the last cell of column `j`, a data token, becomes to a record in the making. The
-    /// token is neither null nor a barline.
+    /// Hears the next cell of column `j`, a data token, and adds what it becomes to a record in the
+    /// making. The token is neither null nor a barline.
     ///
     /// # Errors
     /// The rule by which it is refused; or out of memory.
     fn rewrite(&mut self, j: usize, token: &[u8], making: &mut RecordDraft) -> Result<(), Refusal>
-        requires column { MayRewrite (follows self.old) j token.now }
+        requires column { MayHear (follows self.old) j }
         requires lawful { IsToken Values token.now }
         requires told { has_content token.now ≡ true }
         requires kind { making.old.builder.kind ≡ Values }
@@ -67,7 +66,13 @@ pub trait TokenRewriter: Drop {
             (Holds Values making.new.builder making.new.is_long)) }
         ensures kind { OnOk result (making.new.builder.kind ≡ Values) };
 
-    /// Goes on with the next record, whose moves are known. Its tokens are told behind that.
+    /// Hears the next cell of column `j`, a data token that stays as it is.
+    fn hear(&mut self, j: usize, token: &[u8]) -> Result<(), AllocError>
+        requires column { MayHear (follows self.old) j }
+        requires lawful { IsToken Values token.now }
+        ensures { OnOk result (HasHeard (follows self.old) (follows self.new) j token.now) };
+
+    /// Goes on with the next record, whose moves are known. The cells of data are heard one by one instead.
     fn follow(&mut self, row: &Record, found: &Moves) -> Result<(), AllocError>
         requires score { MayFollow (follows self.old) row.now found.now }
         requires sources { ComeFrom row.now found.now }
@@ -75,6 +80,6 @@ pub trait TokenRewriter: Drop {
             (HasFollowed (follows self.old) (follows self.new) row.now found.now) };
 
     /// The heading is lawful.
-    ghost lawful: { (s : Self) (rewriting : Rewriting) (past : List Row)
-        → follows s rewriting past → IsHeading rewriting.heading };
+    ghost lawful: { (s : Self) (rewriting : Rewriting) (above : Columns)
+        → follows s rewriting above → IsHeading rewriting.heading };
 }

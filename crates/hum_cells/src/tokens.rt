@@ -1,19 +1,21 @@
 //! Data records with tokens that are told anew.
-ghost use Rattle.std.specs.Prelude.{◌≡◌, ◌&&◌, length, OnOk};
+ghost use Rattle.std.specs.Prelude.{◌≡◌, ◌&&◌, ◌∷◌, Bool, List, length, OnOk};
 ghost use Rattle.hum_record.specs.declared.Kind.TheVariants.{Values as AnyValues};
 ghost use Rattle.hum_record.specs.declared.SpinedKind.TheVariants.{Values};
-ghost use Rattle.hum_record.specs.Row.{tokens_of, width_of, kind_of};
+ghost use Rattle.hum_record.specs.Row.{Row, tokens_of, width_of, kind_of};
 ghost use Rattle.hum_record.specs.Spelling.{IsToken};
 ghost use Rattle.hum_stage.specs.Refusals.{IfTold, IfAnswered};
-ghost use Rattle.hum_cells.specs.Rewriting.{has_content, any_told};
-ghost use Rattle.hum_cells.specs.Rewriter.{MayRewrite, HasPushed, MayTell, HasTold};
+ghost use Rattle.hum_path.specs.Score.{IsOpen};
+ghost use Rattle.hum_path.specs.Chains.{columns};
+ghost use Rattle.hum_cells.specs.Rewriting.{Rewriting, has_content, any_told};
+ghost use Rattle.hum_cells.specs.Rewriter.{MayHear, HasPushed, MayTellData, HasToldData};
 ghost use Rattle.hum_record.specs.RecordDraft.{Holds};
 
 use crate::rewriter::TokenRewriter;
 use crate::rewritten::Rewritten;
 use hum_record::{Record, RecordDraft, Spare, SpinedKind, is_barline, is_null};
 use hum_stage::{Refusal, unless_long};
-use std::alloc::Global;
+use std::alloc::{AllocError, Global};
 
 /// Whether a data token of a kern column is told anew: it is neither null nor a barline.
 #[inline]
@@ -57,7 +59,7 @@ fn push_told<T: TokenRewriter>(
     token: &[u8],
     making: &mut RecordDraft,
 ) -> Result<(), Refusal>
-    requires column { MayRewrite (T.follows teller.old) j token.now }
+    requires column { MayHear (T.follows teller.old) j }
     requires lawful { IsToken Values token.now }
     requires kind { making.old.builder.kind ≡ Values }
     ensures pushed { IfTold result (HasPushed (T.follows teller.old) (T.follows teller.new) j kern
@@ -66,10 +68,26 @@ fn push_told<T: TokenRewriter>(
     ensures kind { OnOk result (making.new.builder.kind ≡ Values) }
 {
     if !is_rewritten(kern, token) {
+        teller.hear(j, token)?;
         making.push(token)?;
         return Ok(());
     }
     teller.rewrite(j, token, making)
+}
+
+/// Hears the tokens of a data record, of which none is told anew.
+#[inline(always)]
+pub(crate) fn hear_tokens<T: TokenRewriter>(teller: &mut T, row: &Record) -> Result<(), AllocError>
+    requires score { (kern : List Bool) × MayTellData (T.follows teller.old) kern row.now }
+    requires kind { kind_of row.now ≡ AnyValues }
+    ensures { OnOk result ((rewriting : Rewriting) (past : List Row)
+        → T.follows teller.old rewriting (columns past) → IsOpen (row.now ∷ past)
+        → T.follows teller.new rewriting (columns (row.now ∷ past))) }
+{
+    for j in 0..row.width() {
+        teller.hear(j, row.token(j))?;
+    }
+    Ok(())
 }
 
 /// What a data record becomes.
@@ -84,9 +102,9 @@ pub(crate) fn tell_tokens<T: TokenRewriter>(
     row: &Record,
     spare: &mut Spare,
 ) -> Result<Rewritten, Refusal>
-    requires score { MayTell (T.follows teller.old) kern.now row.now }
+    requires score { MayTellData (T.follows teller.old) kern.now row.now }
     requires kind { kind_of row.now ≡ AnyValues }
-    ensures { IfAnswered result (HasTold (T.follows teller.old) (T.follows teller.new) kern.now row.now) }
+    ensures { IfAnswered result (HasToldData (T.follows teller.old) (T.follows teller.new) kern.now row.now) }
 {
     let mut making = RecordDraft::new(alloc, SpinedKind::Values, spare);
     for j in 0..row.width() {

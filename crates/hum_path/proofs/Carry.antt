@@ -105,6 +105,12 @@ module _ {M : Type 0} (see : List ℕ → M → M) (fresh : M) where
         | inr more ↦ omega (arith, more)
       ]
 
+-- what is got of a list is what stands there
+pub got : {X : Type 0} (xs : List X) (j : ℕ) (x d : X) → slice_get xs j ≡ Some x → get_or xs j d ≡ x
+got [] j x d h = cc
+got (y ∷ xs) zero x d h = let e : y ≡ x = cc in e
+got (y ∷ xs) (suc j) x d h = got xs j x d h
+
 -- one memory more has seen its token
 pub see_more : {M : Type 0} (see : List ℕ → M → M) (tokens : List (List ℕ)) (ms : List M) (j : ℕ) (m x : M)
     → j < length tokens → j < length ms → m ≡ get_or ms j m → x ≡ see (get_or tokens j []) m

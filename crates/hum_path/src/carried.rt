@@ -1,6 +1,6 @@
 //! One memory for each spine.
 ghost use Rattle.std.specs.Prelude.{◌≡◌, ◌<◌, true, false, map, length, List, [], ℕ};
-ghost use Rattle.std.specs.Prelude.{slice_index_or, IsTrue, IsErr, OnOk, OnErr, IfOk};
+ghost use Rattle.std.specs.Prelude.{slice_index_or, slice_get, slice_set, Some, IsTrue, IsErr, OnOk, OnErr, IfOk};
 ghost use Rattle.std.specs.List.{AllByRecursion};
 ghost use Rattle.hum_record.specs.declared.{SpinedKind.SpinedKind, Kind.TheVariants.Interpretation};
 ghost use Rattle.hum_record.specs.Row.{kind_of, width_of, tokens_of};
@@ -197,6 +197,22 @@ impl<M: ColumnMemory> Carried<M> {
         ensures { result.now ≡ slice_index_or self.now.each j result.now }
     {
         &self.memories[j]
+    }
+
+    /// A memory sees the token under it, of a record that moves no spine. Where such a record is taken column
+    /// by column, each of its tokens is seen so.
+    ///
+    /// # Errors
+    /// Out of memory.
+    #[inline(always)]
+    pub fn see(&mut self, rule: &mut M::Rule, j: usize, token: &[u8]) -> Result<(), AllocError>
+        requires within { j < length self.old.each }
+        requires lawful { (kind : SpinedKind) × IsToken kind token.now }
+        ensures seen { OnOk result ((memory : M) → slice_get self.old.each j ≡ Some memory
+            → self.new.each ≡ slice_set self.old.each j (M.seen rule.old token.now memory)) }
+        ensures kept { rule.new ≡ rule.old }
+    {
+        self.memories[j].see(rule, token)
     }
 
     /// Takes one more record, whose moves are known: memories of the cells above stay memories of

@@ -1,17 +1,15 @@
 -- What mint makes of a token, by what it heard.
 use Rattle.std.proofs.Common.{◌≡◌, ◌∙◌, refl, sym, ap, subst, ℕ, zero, suc, ◌<◌, true, Bool, List, [], ◌∷◌, length, Option, arith}
-use Rattle.std.specs.Prelude.{slice_index_or, map, Result, not, ◌&&◌, if◌then◌else◌}
+use Rattle.std.specs.Prelude.{slice_get, slice_index_or, slice_set, Some, map, Result, not, ◌&&◌, if◌then◌else◌}
 use Rattle.std.proofs.lemmas.Bool.{and_parts}
 use Rattle.hum_record.specs.Contents.{is_filled, is_null, is_barline}
 use Rattle.std.proofs.lemmas.List.{length-map}
 use Rattle.hum_record.specs.declared.SpinedKind.TheVariants.{Values}
-use Rattle.hum_record.specs.Row.{Row}
 use Rattle.hum_record.specs.Spelling.{IsToken}
-use Rattle.hum_path.specs.Chains.{columns, history}
 use Rattle.hum_path.specs.Memories.{remembered}
 use Rattle.hum_pitch.specs.Pitch.{Spelled}
 use Rattle.hum_cells.specs.Rewriting.{Rewriting, has_content}
-use Rattle.hum_cells.specs.Rewriter.{MayRewrite, HasRewritten, Pushes}
+use Rattle.hum_cells.specs.Rewriter.{Columns, MayHear, HasHeard, HasRewritten, Pushes}
 use Rattle.hum_stage.specs.declared.faults.Rule.{Rule}
 use Rattle.hum_stage.specs.declared.faults.Refusal.{Refusal}
 use Rattle.hum_stage.specs.Refusals.{IfTold}
@@ -23,15 +21,75 @@ use Rattle.hum_tones.specs.Commands.{Mints}
 use Rattle.hum_tones.proofs.TokenTone.{told_is}
 use Rattle.hum_tones.proofs.LastNotes.{note_kept}
 
-at_map : (f : List (List ℕ) → HeardColumn) (xs : List (List (List ℕ))) (j : ℕ) (e : HeardColumn) →
-    j < length xs → slice_index_or (map f xs) j e ≡ f (slice_index_or xs j [])
-at_map f [] j e h = absurd (omega (arith, h))
-at_map f (x ∷ xs) zero e h = refl
-at_map f (x ∷ xs) (suc j) e h = at_map f xs j e (omega (arith, h))
+-- a column of those that are mapped, and with one cell more
+got_of : (f : List (List ℕ) → HeardColumn) (above : Columns) (j : ℕ) → j < length above → slice_get (map f above) j ≡ Some (f (slice_index_or above j []))
+got_of f [] j h = absurd (omega (arith, h))
+got_of f (x ∷ xs) zero h = refl
+got_of f (x ∷ xs) (suc j) h = got_of f xs j (omega (arith, h))
 
-many : (options : MintOptions) (memories : List HeardColumn) (rewriting : Rewriting) (past : List Row) →
-    Mints options memories rewriting past → length memories ≡ length (columns past)
-many options memories rewriting past h = ap length h.remembered ∙ length-map (columns past) (remembered (heard_after options) unheard)
+set_of : (f : List (List ℕ) → HeardColumn) (above : Columns) (j : ℕ) (cells : List (List ℕ))
+    → slice_set (map f above) j (f cells) ≡ map f (slice_set above j cells)
+set_of f [] j cells = refl
+set_of f (x ∷ xs) zero cells = refl
+set_of f (x ∷ xs) (suc j) cells = ap (λ (rest : List HeardColumn). f x ∷ rest) (set_of f xs j cells)
+
+got_set : (columns : List HeardColumn) (j : ℕ) (column other : HeardColumn) → j < length columns
+    → slice_index_or (slice_set columns j column) j other ≡ column
+got_set [] j column other h = absurd (omega (arith, h))
+got_set (x ∷ xs) zero column other h = refl
+got_set (x ∷ xs) (suc j) column other h = got_set xs j column other (omega (arith, h))
+
+length_set : (columns : List HeardColumn) (j : ℕ) (column : HeardColumn) → length (slice_set columns j column) ≡ length columns
+length_set [] j column = refl
+length_set (x ∷ xs) zero column = refl
+length_set (x ∷ xs) (suc j) column = ap suc (length_set xs j column)
+
+-- a memory has seen a cell
+abbrev pub Saw : MintOptions → List HeardColumn → List HeardColumn → ℕ → List ℕ → Type 0
+Saw options memories new j token = (memory : HeardColumn) → slice_get memories j ≡ Some memory
+    → new ≡ slice_set memories j (heard_after options token memory)
+
+module _ (options : MintOptions) (memories new : List HeardColumn) (j : ℕ) (token : List ℕ)
+    (may : MayHear (Mints options memories) j) (saw : Saw options memories new j token) where
+  abbrev pub kept : List (List ℕ) → HeardColumn
+  kept = remembered (heard_after options) unheard
+
+  many : {rewriting : Rewriting} {above : Columns} → Mints options memories rewriting above → length memories ≡ length above
+  many {above = above} h = ap length h.heard ∙ length-map above kept
+
+  within : j < length memories
+  within = let size = many may.memory in let column = may.column in omega (arith, size, column)
+
+  set : {rewriting : Rewriting} {above : Columns} → Mints options memories rewriting above
+      → new ≡ slice_set memories j (heard_after options token (kept (slice_index_or above j [])))
+  set {above = above} h =
+      let size = many h in
+      let inside = within in
+      saw (kept (slice_index_or above j [])) (ap (λ (l : List HeardColumn). slice_get l j) h.heard ∙ got_of kept above j (omega (arith, size, inside)))
+
+  pub within_new : j < length new
+  within_new =
+      let same = ap length (set may.memory) in
+      let size = length_set memories j (heard_after options token (kept (slice_index_or may.above j []))) in
+      let inside = within in
+      omega (arith, same, size, inside)
+
+  pub heard_more : HasHeard (Mints options memories) (Mints options new) j token
+  heard_more rewriting above h = record {
+    command = h.command;
+    lawful = h.lawful;
+    heard = set h
+        ∙ ap (λ (l : List HeardColumn). slice_set l j (kept (token ∷ slice_index_or above j []))) h.heard
+        ∙ set_of kept above j (token ∷ slice_index_or above j []);
+  }
+
+  -- what is kept of the column then is what was heard of its cells
+  pub column_is : (column : HeardColumn) → column ≡ slice_index_or new j column
+      → {rewriting : Rewriting} {above : Columns} → Mints options memories rewriting above
+      → column ≡ heard_after options token (kept (slice_index_or above j []))
+  column_is column is {above = above} h =
+      is ∙ ap (λ (l : List HeardColumn). slice_index_or l j column) (set h)
+      ∙ got_set memories j (heard_after options token (kept (slice_index_or above j []))) column within
 
 -- a data token that is neither null nor a barline is told
 last_told : (options : MintOptions) (token : List ℕ) (column : HeardColumn) → IsToken Values token → has_content token ≡ true
@@ -41,37 +99,24 @@ last_told options token column lawful told =
     let all : (is_filled token && not (is_barline token)) ≡ true = rw (lawful.of_kind, both.0, both.1) refl in
     ap (λ (b : Bool). if b then told_as options.signless options.sizeonly column.note (heard_of token) else column.told) all
 
--- What is kept of a column is what was heard of its cells.
-heard_is : (options : MintOptions) (memories : List HeardColumn) (j : ℕ) (token : List ℕ) (column : HeardColumn) →
-    MayRewrite (Mints options memories) j token → column ≡ slice_index_or memories j column
-    → (rewriting : Rewriting) (past : List Row) (above : List (List ℕ)) → Mints options memories rewriting past
-    → history past j ≡ token ∷ above → column ≡ heard_after options token (remembered (heard_after options) unheard above)
-heard_is options memories j token column may is rewriting past above h cell =
-    let one = many options memories may.rewriting may.past may.memory in
-    let two = many options memories rewriting past h in
-    let place = may.column in
-    let below : j < length (columns past) = omega (arith, one, two, place) in
-    is ∙ ap (λ (l : List HeardColumn). slice_index_or l j column) h.remembered
-    ∙ at_map (remembered (heard_after options) unheard) (columns past) j column below
-    ∙ ap (remembered (heard_after options) unheard) cell
-
-pub has_rewritten : {A : Type 0} (options : MintOptions) (memories : List HeardColumn) (j : ℕ) (token : List ℕ) (column : HeardColumn)
-    (made making : List (List ℕ) → Type 0) → MayRewrite (Mints options memories) j token → IsToken Values token → has_content token ≡ true
-    → column ≡ slice_index_or memories j column → (r : Result A Refusal) → IfTold r (Pushes column.told made making)
-    → IfTold r (HasRewritten (Mints options memories) (Mints options memories) j token made making)
-has_rewritten options memories j token column made making may lawful told is r h =
-    told_to r _ _ (λ refused pushed rewriting past above follows cell.
-    (follows, pushes refused pushed rewriting past above follows cell)) h
+pub has_rewritten : {A : Type 0} (options : MintOptions) (memories new : List HeardColumn) (j : ℕ) (token : List ℕ) (column : HeardColumn)
+    (made making : List (List ℕ) → Type 0) → MayHear (Mints options memories) j → Saw options memories new j token
+    → IsToken Values token → has_content token ≡ true
+    → column ≡ slice_index_or new j column → (r : Result A Refusal) → IfTold r (Pushes column.told made making)
+    → IfTold r (HasRewritten (Mints options memories) (Mints options new) j token made making)
+has_rewritten options memories new j token column made making may saw lawful told is r h =
+    told_to r _ _ (λ refused pushed rewriting above follows.
+    (heard_more options memories new j token may saw rewriting above follows, pushes refused pushed rewriting above follows)) h
   where
     pushes : (refused : Option Rule) → Pushes column.told made making refused
-        → (rewriting : Rewriting) (past : List Row) (above : List (List ℕ)) → Mints options memories rewriting past
-        → history past j ≡ token ∷ above → Pushes (rewriting.becomes above token) made making refused
-    pushes refused pushed rewriting past above follows cell =
-        let heard = heard_is options memories j token column may is rewriting past above follows cell in
-        let known : column.told ≡ rewriting.becomes above token =
-        ap (λ (c : HeardColumn). c.told) heard
-        ∙ last_told options token (remembered (heard_after options) unheard above) lawful told
-        ∙ ap (λ (b : Option Spelled). told_as options.signless options.sizeonly b (heard_of token)) (note_kept options above)
-        ∙ told_is options.signless options.sizeonly (note_before options.breaks above) token lawful told
-        ∙ ap (λ (x : Rewriting). x.becomes above token) (sym follows.command) in
+        → (rewriting : Rewriting) (above : Columns) → Mints options memories rewriting above
+        → Pushes (rewriting.becomes (slice_index_or above j []) token) made making refused
+    pushes refused pushed rewriting above follows =
+        let cells = slice_index_or above j [] in
+        let known : column.told ≡ rewriting.becomes cells token =
+        ap (λ (c : HeardColumn). c.told) (column_is options memories new j token may saw column is follows)
+        ∙ last_told options token (remembered (heard_after options) unheard cells) lawful told
+        ∙ ap (λ (b : Option Spelled). told_as options.signless options.sizeonly b (heard_of token)) (note_kept options cells)
+        ∙ told_is options.signless options.sizeonly (note_before options.breaks cells) token lawful told
+        ∙ ap (λ (x : Rewriting). x.becomes cells token) (sym follows.command) in
         subst (λ (x : Result (List ℕ) Rule). Pushes x made making refused) known pushed

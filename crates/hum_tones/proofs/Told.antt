@@ -26,6 +26,7 @@ refused_so (Err other) text rule h = ap (λ (x : Rule). Err x) (sym h)
 -- a token is rewritten by what its parts give
 pub rewritten_given : {A : Type 0} (heading : Heading) (giving : PartRule) (j : ℕ) (token : List ℕ) (made making : List (List ℕ) → Type 0)
     (r : Result A Refusal) → IfTold r (Pushes (given giving token) made making)
-    → IfTold r (HasRewritten (GivesUnder heading giving) (GivesUnder heading giving) j token made making)
+    → IfTold r (HasRewritten (λ rewriting above. GivesUnder heading giving rewriting) (λ rewriting above. GivesUnder heading giving rewriting)
+    j token made making)
 rewritten_given heading giving j token made making r h =
-    told_to r _ _ (λ refused pushed rewriting past above follows cell. (follows, rw follows.command pushed)) h
+    told_to r _ _ (λ refused pushed rewriting above follows. (follows, rw follows.command pushed)) h

@@ -1,12 +1,12 @@
 -- What the commands on notes make of kern columns.
-use Rattle.std.specs.Prelude.{◌≡◌, ℕ, ℤ, List, ◌++◌}
+use Rattle.std.specs.Prelude.{◌≡◌, ℕ, ℤ, List, ◌++◌, map}
 use Rattle.std.specs.Fmt.{signed_decimal}
 use lib.Chars.{codes}
-use Rattle.hum_record.specs.Row.{Row}
-use Rattle.hum_path.specs.Memories.{Remember}
+use Rattle.hum_path.specs.Memories.{remembered}
 use Rattle.hum_stage.specs.declared.faults.Command.TheVariants.{Trans, Semits, Mint, Recip}
 use Rattle.hum_stage.specs.Meaning.{Meaning}
 use Rattle.hum_cells.specs.Rewriting.{Rewriting, Heading, Renamed, Followed, IsHeading, meaning}
+use Rattle.hum_cells.specs.Rewriter.{Columns}
 use Rattle.hum_tones.specs.declared.part_rule.PartRule.{PartRule}
 use Rattle.hum_tones.specs.declared.part_rule.PartRule.TheVariants.{Semitones, Durations}
 use Rattle.hum_choices.specs.declared.trans.TransOptions.{TransOptions}
@@ -51,17 +51,16 @@ given_under heading giving = record { heading = heading; becomes = λ above. giv
 
 -- what a command keeps whose tokens become what their parts give: what becomes of **kern by it, and
 -- what a part gives
-pub record GivesUnder (heading : Heading) (giving : PartRule) (rewriting : Rewriting)
-    (past : List Row) : Type 0 where
+pub record GivesUnder (heading : Heading) (giving : PartRule) (rewriting : Rewriting) : Type 0 where
   pub command : rewriting ≡ given_under heading giving
   pub lawful : IsHeading rewriting.heading
 
 -- what mint keeps: its options, and what it heard of each column
 pub record Mints (options : MintOptions) (memories : List HeardColumn) (rewriting : Rewriting)
-    (past : List Row) : Type 0 where
+    (above : Columns) : Type 0 where
   pub command : rewriting ≡ mint options
   pub lawful : IsHeading rewriting.heading
-  pub remembered : Remember (heard_after options) unheard past memories
+  pub heard : memories ≡ map (remembered (heard_after options) unheard) above
 
 -- what the stages of these numbers mean
 abbrev pub meaning_of_trans : ℕ → TransOptions → Meaning

@@ -33,7 +33,7 @@ impl TokenRewriter for MintTokens {
 
     ghost follows = { λ s. Mints s.options s.carried.each };
 
-    ghost lawful = { λ s rewriting past h. h.lawful };
+    ghost lawful = { λ s rewriting above h. h.lawful };
 
     fn command() -> Command {
         Command::Mint
@@ -52,13 +52,14 @@ impl TokenRewriter for MintTokens {
     }
 
     #[inline]
-    fn rewrite(
-        &mut self,
-        j: usize,
-        _token: &[u8],
-        making: &mut RecordDraft,
-    ) -> Result<(), Refusal> {
+    fn rewrite(&mut self, j: usize, token: &[u8], making: &mut RecordDraft) -> Result<(), Refusal> {
+        self.carried.see(&mut self.options, j, token)?;
         self.carried.at(j).push(&mut self.text, making)
+    }
+
+    #[inline(always)]
+    fn hear(&mut self, j: usize, token: &[u8]) -> Result<(), AllocError> {
+        self.carried.see(&mut self.options, j, token)
     }
 
     fn follow(&mut self, row: &Record, found: &Moves) -> Result<(), AllocError> {

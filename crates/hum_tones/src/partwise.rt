@@ -92,9 +92,9 @@ impl<G: Partwise> TokenRewriter for PartwiseColumns<G> {
 
     ghost rewriting = { G.rewriting };
 
-    ghost follows = { λ s. GivesUnder (G.heading s.command) (G.giving s.command) };
+    ghost follows = { λ s rewriting above. GivesUnder (G.heading s.command) (G.giving s.command) rewriting };
 
-    ghost lawful = { λ s rewriting past h. h.lawful };
+    ghost lawful = { λ s rewriting above h. h.lawful };
 
     fn command() -> Command {
         G::command()
@@ -123,6 +123,11 @@ impl<G: Partwise> TokenRewriter for PartwiseColumns<G> {
             return Ok(());
         }
         self.rewrite_any(token, making)
+    }
+
+    #[inline(always)]
+    fn hear(&mut self, _j: usize, _token: &[u8]) -> Result<(), AllocError> {
+        Ok(())
     }
 
     fn follow(&mut self, _row: &Record, _found: &Moves) -> Result<(), AllocError> {

@@ -1,15 +1,15 @@
-use Rattle.std.proofs.Common.{◌∙◌, sym}
+use Rattle.std.proofs.Common.{◌∙◌, sym, get_or, []}
 use Rattle.hum_record.specs.declared.SpinedKind.TheVariants.{Values}
 use Rattle.hum_record.specs.RecordDraft.{Holds}
 use Rattle.hum_cells.proofs.Telling.{stays, pushed_on}
 use Rattle.hum_cells.proofs.tokens.push_told.Goals as goal
 
 pub returns-then-not-is_rewritten-clause-pushed : goal.returns-then-not-is_rewritten-clause-pushed
-returns-then-not-is_rewritten-clause-pushed g c = λ rewriting past above h cell. (
-  h,
+returns-then-not-is_rewritten-clause-pushed g c = λ rewriting above h. (
+  c.in_ok-hear.ensures rewriting above h,
   (
     c.args.token.now,
-    stays rewriting.becomes c.args.kern above c.args.token.now (sym c.is_rewritten.ensures ∙ c.if-not-is_rewritten.true),
+    stays rewriting.becomes c.args.kern (get_or above c.args.j []) c.args.token.now (sym c.is_rewritten.ensures ∙ c.if-not-is_rewritten.true),
     λ tokens held. c.in_ok-push.ensures.pushed _ tokens held,
   ),
 )

@@ -1,24 +1,17 @@
-use Rattle.std.proofs.Common.{ap, ◌∙◌}
 use Rattle.hum_stage.proofs.Telling.{told_on}
-use Rattle.hum_cells.proofs.Framing.{no_fault, may_follow, may_tell, stepped, refused, data_stays}
+use Rattle.hum_cells.proofs.Framing.{may_tell_data, stepped_data, refused_data}
 use Rattle.hum_cells.proofs.cells.Cells.step_data.Goals as goal
 
-pub follow-requires : goal.follow-requires
-follow-requires g c = no_fault c.args.next c.requires.score
-
-pub follow-requires-2-clause-score : goal.follow-requires-2-clause-score
-follow-requires-2-clause-score g c = may_follow c.args.next _ c.in_ok-follow.ensures.moves c.requires.score
-
 pub tell_data-requires-clause-score : goal.tell_data-requires-clause-score
-tell_data-requires-clause-score g c = may_tell _ _ c.args.next _ c.deref.ensures.value c.in_ok-follow.ensures.moves c.in_ok-follow-2.ensures c.requires.score
+tell_data-requires-clause-score g c = may_tell_data c.args.next c.deref.ensures.value c.requires.score
 
 pub returns : goal.returns
 returns g c =
-    stepped _ (g.T.TokenRewriter.follows c.follow-2.new.self) _ c.args.next _ _ _ c.args._room c.deref.ensures.value c.in_ok-follow.ensures.moves
-    (ap (λ p. p.path) c.in_ok-follow.ensures.after) c.in_ok-follow-2.ensures c.in_ok-told.ensures (λ past kern at sound. kern ∙ data_stays past c.args.next c.requires.kind sound) c.put.ensures
+    stepped_data _ (g.T.TokenRewriter.follows c.tell_data.new.teller) c.args.next _ _ c.args._room c.requires.kind c.deref.ensures.value
+    c.in_ok-told.ensures c.put.ensures
 
 pub returns-in_err-told : goal.returns-in_err-told
 returns-in_err-told g c =
-    told_on c.from_residual-in_err-told.result c.in_err-told.field-0.0 _ _ c.from_residual-in_err-told.ensures.1 c.in_err-told.ensures
-    (λ rule told decide past h score. refused _ (g.T.TokenRewriter.follows c.follow-2.new.self) (g.T.TokenRewriter.follows c.tell_data.new.teller) c.args.next _ rule c.args._room
-    c.deref.ensures.value c.in_ok-follow.ensures.moves c.in_ok-follow-2.ensures told decide past h score)
+    told_on c.from_residual.result c.in_err-told.field-0.0 _ _ c.from_residual.ensures.1 c.in_err-told.ensures
+    (λ rule told decide past h score. refused_data _ (g.T.TokenRewriter.follows c.tell_data.new.teller) c.args.next rule c.args._room
+    c.deref.ensures.value told decide past h score)

@@ -5,7 +5,7 @@ use Rattle.hum_tones.proofs.partwise.PartwiseColumnsTokenRewriter.rewrite.Goals 
 
 pub returns-then-pushed-clause-rewritten : goal.returns-then-pushed-clause-rewritten
 returns-then-pushed-clause-rewritten g c =
-    λ rewriting past above follows cell. (follows, rw (follows.command, ← c.giving.ensures) (c.in_ok-pushed.ensures.pushed c.if-pushed.true))
+    λ rewriting above follows. (follows, rw (follows.command, ← c.giving.ensures) (c.in_ok-pushed.ensures.pushed c.if-pushed.true))
 
 pub returns-clause-rewritten : goal.returns-clause-rewritten
 returns-clause-rewritten g c =
