@@ -15,13 +15,14 @@ use Rattle.hum_options.specs.Meant as meant
 use Rattle.hum_options.specs.Answers.{Word, Answer, IsAnswer}
 use Rattle.hum_plan.specs.declared.faults.PlanFault.{PlanFault}
 use Rattle.hum_plan.specs.declared.faults.PlanRule.TheVariants.{N12}
+use Rattle.hum_stage.specs.Words.{command_of}
 use Rattle.hum_plan.specs.declared.commands.Opening.{Opening}
 use Rattle.hum_plan.specs.declared.commands.Opening.TheVariants as opening
 use Rattle.hum_plan.specs.Faults.{rule_of, of_text}
 use Rattle.hum_plan.specs.Stages.{Stage}
 use Rattle.hum_plan.specs.Branches.{is_out}
 use Rattle.hum_plan.specs.Lines.{groups}
-use Rattle.hum_plan.specs.Answers.{Outline, Outcome, nothing, with_command, command_of, opening_of, is_source}
+use Rattle.hum_plan.specs.Answers.{Outline, Outcome, nothing, with_command, opening_of, is_source}
 use Rattle.hum_plan.specs.Answers.{is_end, Begins, Placed, StageAnswer, StagesAnswer, Then, Onward, Unless}
 use Rattle.hum_plan.specs.Answers.{name_fault, ended, NameAnswer, BranchAnswer, CutAnswer, LinesAnswer}
 use Rattle.hum_plan.specs.Answers.{whole_fault, WholeAnswer, PlanAnswer}

@@ -17,7 +17,7 @@ use Rattle.hum_words.specs.Writing.{IsWritten}
 use Rattle.hum_words.specs.declared.text.PlanTextFault.{PlanTextFault}
 use Rattle.hum_words.proofs.Decided.{cut_as_written, refused_as_wrong}
 use Rattle.hum_words.proofs.Ends.{with_colon}
-use Rattle.hum_stage.specs.Words.{word_of}
+use Rattle.hum_stage.specs.Words.{word_of, command_of}
 use Rattle.hum_stage.specs.declared.faults.Command.{Command}
 use Rattle.hum_options.specs.Answers.{Word, Answer, IsAnswer}
 use Rattle.hum_options.proofs.Refusing.{in_order}
@@ -30,7 +30,7 @@ use Rattle.hum_plan.specs.Faults.{broken, of_text}
 use Rattle.hum_plan.specs.Branches.{Branches, branch_of, with_branch, taken, first_unused, is_out}
 use Rattle.hum_plan.specs.Lines.{groups, empty_stage}
 use Rattle.hum_plan.specs.Answers.{Outline, Outcome, nothing, with_read, with_joined, with_command, name_read, name_joined, branch_joined}
-use Rattle.hum_plan.specs.Answers.{names_joined, joined, Joined, and_then, command_of, opening_of, is_source, is_end}
+use Rattle.hum_plan.specs.Answers.{names_joined, joined, Joined, and_then, opening_of, is_source, is_end}
 use Rattle.hum_plan.specs.Answers.{Begins, Placed, StageAnswer, StagesAnswer, Then, Onward, Unless, name_fault}
 use Rattle.hum_plan.specs.Answers.{ended, NameAnswer, BranchAnswer, CutAnswer, LinesAnswer, whole_fault, WholeAnswer, PlanAnswer}
 use Rattle.hum_plan.specs.Grammar.{TakesBranches, AddStages, AreBranches}

@@ -152,17 +152,7 @@ stage_added is_last old new command.Assemble n words h = record {
       (sym (ap (λ (o : Outline). o.branches) h.5)) (words_taken old.branches words h.0 h.1 h.2);
 }
 stage_added is_last old new command.Read n words h = plain_added old new command.Read [] (Read h.1) h.4
-stage_added is_last old new command.Rid n words h = plain_added old new command.Rid (length old.stages ∷ []) (Takes h.0) h.2
-stage_added is_last old new command.Extract n words h = plain_added old new command.Extract (length old.stages ∷ []) (Takes h.0) h.2
-stage_added is_last old new command.Ditto n words h = plain_added old new command.Ditto (length old.stages ∷ []) (Takes h.0) h.2
-stage_added is_last old new command.Timebase n words h = plain_added old new command.Timebase (length old.stages ∷ []) (Takes h.0) h.2
-stage_added is_last old new command.Context n words h = plain_added old new command.Context (length old.stages ∷ []) (Takes h.0) h.2
-stage_added is_last old new command.Trans n words h = plain_added old new command.Trans (length old.stages ∷ []) (Takes h.0) h.2
-stage_added is_last old new command.Semits n words h = plain_added old new command.Semits (length old.stages ∷ []) (Takes h.0) h.2
-stage_added is_last old new command.Mint n words h = plain_added old new command.Mint (length old.stages ∷ []) (Takes h.0) h.2
-stage_added is_last old new command.Recip n words h = plain_added old new command.Recip (length old.stages ∷ []) (Takes h.0) h.2
-stage_added is_last old new command.Yank n words h = plain_added old new command.Yank (length old.stages ∷ []) (Takes h.0) h.2
-stage_added is_last old new command.Cleave n words h = plain_added old new command.Cleave (length old.stages ∷ []) (Takes h.0) h.2
+stage_added is_last old new kind n words h = plain_added old new kind (length old.stages ∷ []) (Takes h.0) h.2
 
 stages_added : (ends is_first : Bool) (old new : Outline) (stages : List (List Word)) → AddStages ends is_first old stages new
     → HasAdded old new (length stages) (λ x. list_any (is_assembled x) stages)

@@ -14,8 +14,9 @@ use Rattle.hum_options.specs.Seen.{words_of, words_before_bar}
 use Rattle.hum_plan.specs.declared.faults.PlanError.{PlanError}
 use Rattle.hum_plan.specs.declared.faults.PlanError.TheVariants.{Fault, Memory}
 use Rattle.hum_plan.specs.declared.faults.PlanFault.{PlanFault}
+use Rattle.hum_stage.specs.Words.{command_of}
 use Rattle.hum_plan.specs.Answers.{Outline, Outcome, Joined, name_joined, names_joined, Begins, StageAnswer}
-use Rattle.hum_plan.specs.Answers.{StagesAnswer, opening_of, command_of, is_source, is_end}
+use Rattle.hum_plan.specs.Answers.{StagesAnswer, opening_of, is_source, is_end}
 use Rattle.hum_plan.specs.Lines.{behind_bar, groups, groups_behind}
 use Rattle.hum_plan.specs.Tells.{Fails, Tells}
 

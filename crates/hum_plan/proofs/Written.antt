@@ -22,7 +22,7 @@ use Rattle.hum_words.specs.Text.{longest, fault_of}
 use Rattle.hum_words.specs.Writing.{IsWritten}
 use Rattle.hum_words.proofs.Decided.{cut_as_written}
 use Rattle.hum_words.proofs.Ends.{with_colon, ends_in}
-use Rattle.hum_stage.specs.Words.{word_of}
+use Rattle.hum_stage.specs.Words.{commands, word_of, command_of}
 use Rattle.hum_stage.specs.declared.faults.Command.{Command}
 use Rattle.hum_stage.specs.declared.faults.Command.TheVariants as command
 use Rattle.hum_options.specs.Answers.{Word, Answer}
@@ -37,8 +37,8 @@ use Rattle.hum_plan.specs.Stages.{Stage, Read, Assemble, Takes, IsTree}
 use Rattle.hum_plan.specs.Branches.{Branches, branch_of, first_unused, is_out}
 use Rattle.hum_plan.specs.Lines.{groups, groups_behind, empty_stage}
 use Rattle.hum_plan.specs.Answers.{Outline, Outcome, nothing, with_stage, with_read, with_joined, with_command}
-use Rattle.hum_plan.specs.Answers.{name_read, names_joined, joined, Joined, command_of, opening_of, is_source}
-use Rattle.hum_plan.specs.Answers.{is_end, commands}
+use Rattle.hum_plan.specs.Answers.{name_read, names_joined, joined, Joined, opening_of, is_source}
+use Rattle.hum_plan.specs.Answers.{is_end}
 use Rattle.hum_plan.specs.Answers.{Begins, Placed, StageAnswer, StagesAnswer, Then, Onward, Unless, name_fault}
 use Rattle.hum_plan.specs.Answers.{ended, NameAnswer, BranchAnswer, CutAnswer, LinesAnswer, whole_fault}
 use Rattle.hum_plan.specs.Answers.{WholeAnswer, PlanAnswer}
@@ -133,18 +133,7 @@ command_spelled word kind h =
 pub command_known : (kind : Command) → command_of (word_of kind) ≡ Some kind
 unfolding command_of
 command_known command.Read = refl
-command_known command.Rid = refl
-command_known command.Extract = refl
-command_known command.Ditto = refl
-command_known command.Timebase = refl
-command_known command.Context = refl
-command_known command.Trans = refl
-command_known command.Semits = refl
-command_known command.Mint = refl
-command_known command.Recip = refl
-command_known command.Yank = refl
-command_known command.Cleave = refl
-command_known command.Assemble = refl
+command_known other = refl
 
 -- The stages of a line.
 

@@ -3,8 +3,6 @@ use Rattle.std.specs.Prelude.{◌≡◌, ℕ, Bool, true, false, ◌&&◌, ◌||
 use Rattle.std.specs.Prelude.{if◌then◌else◌, List, [], ◌∷◌, ◌++◌, length, MatchBool}
 use Rattle.std.specs.Prelude.{Option, None, Some, is_some, is_none, option_map, Result, Ok, Err}
 use Rattle.std.specs.Bool.{beq}
-use Rattle.std.specs.List.{find}
-use Rattle.std.specs.Str.{bytes_eq}
 use lib.Chars.{codes}
 use Rattle.hum_words.specs.Branches.{lines_of, branches_of}
 use Rattle.hum_words.specs.Cutting.{Cut, cut_line}
@@ -12,7 +10,7 @@ use Rattle.hum_words.specs.Names.{name_in}
 use Rattle.hum_words.specs.Pieces.{Item}
 use Rattle.hum_words.specs.Pieces as item
 use Rattle.hum_words.specs.Text.{fault_of}
-use Rattle.hum_stage.specs.Words.{word_of}
+use Rattle.hum_stage.specs.Words.{command_of}
 use Rattle.hum_stage.specs.declared.faults.Command.{Command}
 use Rattle.hum_stage.specs.declared.faults.Command.TheVariants as command
 use Rattle.hum_options.specs.Answers.{Word, Answer, IsAnswer}
@@ -55,16 +53,6 @@ Unless None Next answer = Next answer
 Unless (Some fault) Next answer = answer ≡ Err fault
 
 -- The command of a stage.
-
-abbrev pub commands : List Command
-commands =
-    command.Read ∷ command.Rid ∷ command.Extract ∷ command.Ditto ∷ command.Timebase
-    ∷ command.Context ∷ command.Trans ∷ command.Semits ∷ command.Mint ∷ command.Recip
-    ∷ command.Yank ∷ command.Cleave ∷ command.Assemble ∷ []
-
--- the command that a word is
-unfoldable pub command_of : List ℕ → Option Command
-command_of word = find (λ command. bytes_eq (word_of command) word) commands
 
 -- what a stage begins with: a source, or a command with options
 abbrev pub opening_of : Command → Opening

@@ -12,7 +12,7 @@ ghost use Rattle.hum_plan.specs.Answers.{StageAnswer, StagesAnswer, opening_of, 
 ghost use Rattle.hum_plan.specs.Branches.{Branches, with_branch, taken};
 
 use crate::branches::{Branch, Branches};
-use crate::commands::{Opening, command_of, opening_of};
+use crate::commands::{Opening, opening_of};
 use crate::draft::Draft;
 use crate::faults::{PlanError, PlanRule, broken, in_line};
 use crate::stages::{Options, PlanStage};
@@ -274,7 +274,7 @@ impl<'a> Draft<'a> {
         if self.is_full() {
             return Err(broken(place.line, number, PlanRule::N11));
         }
-        let Some(command) = command_of(word) else {
+        let Some(command) = Command::of_word(word) else {
             return Err(broken(place.line, number, PlanRule::N7));
         };
         if opening_of(command).is_source() == place.is_first {

@@ -1,6 +1,6 @@
-//! The commands of stages, by their words.
+//! What a stage begins with, by its command.
 ghost use Rattle.std.specs.Prelude.{◌≡◌};
-ghost use Rattle.hum_plan.specs.Answers.{commands, command_of, opening_of, is_source};
+ghost use Rattle.hum_plan.specs.Answers.{opening_of, is_source};
 
 use hum_stage::Command;
 
@@ -10,38 +10,6 @@ pub(crate) enum Opening {
     Read,
     Assemble,
     Takes(Command),
-}
-
-/// All commands.
-fn commands() -> &'static [Command]
-    ensures { result.now ≡ commands }
-{
-    &[
-        Command::Read,
-        Command::Rid,
-        Command::Extract,
-        Command::Ditto,
-        Command::Timebase,
-        Command::Context,
-        Command::Trans,
-        Command::Semits,
-        Command::Mint,
-        Command::Recip,
-        Command::Yank,
-        Command::Cleave,
-        Command::Assemble,
-    ]
-}
-
-/// The command that a word is.
-#[tactic(auto, unfolding(crate::specs::Answers::command_of))]
-pub(crate) fn command_of(word: &str) -> Option<Command>
-    ensures { result ≡ command_of word.now }
-{
-    commands()
-        .iter()
-        .copied()
-        .find(|command| command.word() == word)
 }
 
 /// What a stage of this command begins with.

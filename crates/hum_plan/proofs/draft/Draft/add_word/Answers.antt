@@ -1,7 +1,8 @@
 use Rattle.std.proofs.Common.{◌≡◌, true, false, length, rules, Some}
 use Rattle.std.specs.Bool.{beq}
 use Rattle.std.specs.Prelude.{nat_le}
-use Rattle.hum_plan.specs.Answers.{opening_of, command_of, is_source}
+use Rattle.hum_stage.specs.Words.{command_of}
+use Rattle.hum_plan.specs.Answers.{opening_of, is_source}
 use Rattle.hum_plan.specs.Seen.{stages_of}
 use Rattle.hum_options.specs.Seen.{words_of}
 use Rattle.hum_plan.specs.Tells.{outline_of}
