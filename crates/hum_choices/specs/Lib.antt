@@ -1,3 +1,4 @@
 pub mod Extract
 pub mod Cleave
 pub mod Timebase
+pub mod Options

@@ -5,7 +5,6 @@
 #![tactic(auto)]
 
 mod cleave;
-mod commands;
 mod context;
 mod ditto;
 mod extract;
@@ -18,7 +17,6 @@ mod trans;
 mod yank;
 
 pub use cleave::{CleaveOptions, is_name, is_separator};
-pub use commands::CommandOptions;
 pub use context::{ContextOptions, GREATEST_COUNT, Span, TokenCount};
 pub use ditto::DittoOptions;
 pub use extract::{ExtractOptions, Field, FieldRange};
@@ -29,3 +27,19 @@ pub use semits::SemitsOptions;
 pub use timebase::TimebaseOptions;
 pub use trans::TransOptions;
 pub use yank::{GREATEST_PASSAGE, Markers, YankOptions, YankRange};
+
+/// A command of one input, and what it is told to do.
+#[derive(Drop)]
+pub enum CommandOptions {
+    Rid(RidOptions),
+    Extract(ExtractOptions),
+    Ditto(DittoOptions),
+    Timebase(TimebaseOptions),
+    Context(ContextOptions),
+    Trans(TransOptions),
+    Semits(SemitsOptions),
+    Mint(MintOptions),
+    Recip(RecipOptions),
+    Yank(YankOptions),
+    Cleave(CleaveOptions),
+}

@@ -12,8 +12,8 @@ use Rattle.hum_context.specs.Options as context
 use Rattle.hum_tones.specs.Commands as tones
 use Rattle.hum_yank.specs.Options as yank
 use Rattle.hum_cleave.specs.Cleave as cleave
-use Rattle.hum_choices.specs.declared.commands.CommandOptions.{CommandOptions}
-use Rattle.hum_choices.specs.declared.commands.CommandOptions.TheVariants as told
+use Rattle.hum_choices.specs.declared.CommandOptions.{CommandOptions}
+use Rattle.hum_choices.specs.declared.CommandOptions.TheVariants as told
 use Rattle.hum_stage.specs.declared.TheConstants.{MOST_WAITING}
 
 -- what the stage of this number means, by what it is told to do

@@ -10,8 +10,8 @@ use Rattle.hum_stage.specs.Meaning.{KeepsScore}
 use Rattle.hum_stage.specs.Decided.{at_once}
 use Rattle.hum_cells.specs.Rewriting.{Renamed, Rewriting, is_kern, rewrite}
 use Rattle.hum_tones.specs.Commands.{trans, semits, mint, recip}
-use Rattle.hum_choices.specs.declared.commands.CommandOptions.{CommandOptions}
-use Rattle.hum_choices.specs.declared.commands.CommandOptions.TheVariants.{Rid, Extract, Ditto, Timebase, Context, Trans, Semits, Mint, Recip, Yank, Cleave}
+use Rattle.hum_choices.specs.declared.CommandOptions.{CommandOptions}
+use Rattle.hum_choices.specs.declared.CommandOptions.TheVariants.{Rid, Extract, Ditto, Timebase, Context, Trans, Semits, Mint, Recip, Yank, Cleave}
 use Rattle.hum_commands.specs.Meaning.{meaning, MakesScores}
 use Rattle.hum_laws.specs.declared.given.Given.{Given}
 use Rattle.hum_laws.specs.Piped.{IsAlone, IsPiped}

@@ -1,9 +1,9 @@
 -- Commands beside which global comments may be dropped first or last.
 use Rattle.std.specs.Prelude.{◌≡◌, ℕ, true, false}
 use Rattle.hum_choices.specs.declared.rid.RidOptions.{RidOptions}
-use Rattle.hum_choices.specs.declared.commands.CommandOptions.{CommandOptions}
-use Rattle.hum_choices.specs.declared.commands.CommandOptions.TheVariants.{Extract, Ditto, Cleave}
-use Rattle.hum_choices.specs.declared.commands.CommandOptions.TheVariants.{Trans, Semits, Mint, Recip}
+use Rattle.hum_choices.specs.declared.CommandOptions.{CommandOptions}
+use Rattle.hum_choices.specs.declared.CommandOptions.TheVariants.{Extract, Ditto, Cleave}
+use Rattle.hum_choices.specs.declared.CommandOptions.TheVariants.{Trans, Semits, Mint, Recip}
 use Rattle.hum_commands.specs.Meaning.{meaning}
 
 -- the letter G alone

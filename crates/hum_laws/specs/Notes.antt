@@ -1,6 +1,6 @@
 -- Commands on the notes of kern columns.
-use Rattle.hum_choices.specs.declared.commands.CommandOptions.{CommandOptions}
-use Rattle.hum_choices.specs.declared.commands.CommandOptions.TheVariants.{Trans, Semits, Mint, Recip}
+use Rattle.hum_choices.specs.declared.CommandOptions.{CommandOptions}
+use Rattle.hum_choices.specs.declared.CommandOptions.TheVariants.{Trans, Semits, Mint, Recip}
 
 -- one that gives kern columns another name
 abbrev pub NamesColumns : CommandOptions → Type 0

@@ -14,13 +14,13 @@ use Rattle.hum_yank.specs.Passages.{Form}
 use Rattle.hum_yank.specs.Yank.{yank}
 use Rattle.hum_yank.specs.Options as yank
 use Rattle.hum_commands.specs.Meaning.{meaning, MakesScores}
-use Rattle.hum_choices.specs.declared.commands.CommandOptions.{CommandOptions}
-use Rattle.hum_choices.specs.declared.commands.CommandOptions.TheVariants as told
+use Rattle.hum_choices.specs.declared.CommandOptions.{CommandOptions}
+use Rattle.hum_choices.specs.declared.CommandOptions.TheVariants as told
 use Rattle.hum_nodes.specs.At.{At, fresh}
 use Rattle.hum_nodes.specs.Trees.{kind_of}
 use Rattle.hum_nodes.specs.Single.{single}
 use Rattle.hum_nodes.specs.Merging.{merging}
-use Rattle.hum_options.specs.Seen.{options_of, span_of, markers_of}
+use Rattle.hum_choices.specs.Options.{options_of, span_of, markers_of}
 use Rattle.hum_plan.specs.Stages.{Takes, drops_interpretations}
 use Rattle.hum_net.specs.Commands.{means, extent_of, form_of}
 use Rattle.hum_plan.specs.Seen.{options_of as said_by}

@@ -3,9 +3,9 @@ use Rattle.std.proofs.Common.{subst, ℕ, suc, ◌+◌, List, [], ◌∷◌}
 use Rattle.hum_record.specs.Row.{Row}
 use Rattle.hum_stage.specs.Meaning.{Meaning}
 use Rattle.hum_commands.specs.Meaning.{meaning as meaning_told}
-use Rattle.hum_choices.specs.declared.commands.CommandOptions.{CommandOptions}
+use Rattle.hum_choices.specs.declared.CommandOptions.{CommandOptions}
 use Rattle.hum_turns.specs.Flow.{Flow}
-use Rattle.hum_options.specs.Seen.{options_of}
+use Rattle.hum_choices.specs.Options.{options_of}
 use Rattle.hum_nodes.specs.Fine.{IsFine}
 use Rattle.hum_nodes.specs.Trees.{meaning_of, IsTree}
 use Rattle.hum_valid.specs.Records.{AreRecords, KeepsRecords}

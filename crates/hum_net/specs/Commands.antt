@@ -17,9 +17,9 @@ use Rattle.hum_yank.specs.Passages as passages
 use Rattle.hum_yank.specs.Options.{matched_by}
 use Rattle.hum_yank.specs.Yank.{yank}
 use Rattle.hum_cleave.specs.Cleave as cleave
-use Rattle.hum_options.specs.Meant.{Span, Number, Phrase, Markers, Lines, Numbers, Occurrences}
-use Rattle.hum_options.specs.Meant.{Labels, Options, Rid, Extract, Ditto, Timebase, Context, Trans}
-use Rattle.hum_options.specs.Meant.{Semits, Mint, Recip, Yank, Cleave}
+use Rattle.hum_choices.specs.Options.{Span, Number, Phrase, Markers, Lines, Numbers, Occurrences}
+use Rattle.hum_choices.specs.Options.{Labels, Options, Rid, Extract, Ditto, Timebase, Context, Trans}
+use Rattle.hum_choices.specs.Options.{Semits, Mint, Recip, Yank, Cleave}
 
 -- so many tokens, or those from a match through the next
 abbrev pub extent_of : Span → Extent

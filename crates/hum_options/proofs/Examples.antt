@@ -14,8 +14,8 @@ use Rattle.hum_stage.specs.declared.faults.Command.TheVariants as command
 use Rattle.hum_options.specs.declared.faults.OptionRule.{OptionRule}
 use Rattle.hum_options.specs.declared.faults.OptionRule.TheVariants.{N8, N9, N10, N11, N12}
 use Rattle.hum_options.specs.declared.faults.PatternRefusal.TheVariants.{NoExpression, TooLarge}
-use Rattle.hum_options.specs.Meant as is
-use Rattle.hum_options.specs.Meant.{Options}
+use Rattle.hum_choices.specs.Options as is
+use Rattle.hum_choices.specs.Options.{Options}
 use Rattle.hum_options.specs.Answers.{Word, Answer, Answers, fault, IsAnswer}
 
 abbrev numbered : ℕ → List (List ℕ) → List Word

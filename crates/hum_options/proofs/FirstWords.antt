@@ -11,10 +11,11 @@ use Rattle.hum_options.specs.declared.faults.OptionRule.TheVariants.{N8, N9, N10
 use Rattle.hum_options.specs.declared.faults.OptionFault.{OptionFault}
 use Rattle.hum_options.specs.declared.reading.Turn.{Turn}
 use Rattle.hum_options.specs.declared.reading.Turn.TheVariants.{Free, Awaits}
-use Rattle.hum_options.specs.Options.{option_of}
+use Rattle.hum_options.specs.Options.{option_of, meant}
 use Rattle.hum_options.specs.Values.{Value, Nothing, Fields, Names, Name, Text, Ranges, Label, Pattern, Count, Steps, Semitones, Duration}
 use Rattle.hum_options.specs.Values.{value_of, IsSound, IsRefused}
-use Rattle.hum_options.specs.Meant.{Given, Options, meant}
+use Rattle.hum_choices.specs.Options.{Options}
+use Rattle.hum_options.specs.Given.{Given}
 use Rattle.hum_options.specs.Answers.{Word, Answer, Answers, AtOption, AtValue, next_option, unless_barred, is_barred, is_alone, with_value, together}
 use Rattle.hum_options.specs.Spelling.{IsValue, Spells, none, alone, valued, AreAllowed, given_as}
 use Rattle.hum_options.proofs.Turns.{sound, option_goes, option_awaits, option_fails, value_lacks}

@@ -8,7 +8,7 @@ use Rattle.std.proofs.lemmas.Bool.{ltb-true, ltb-false, eqb-true}
 use Rattle.hum_path.proofs.Cases.{by_bool}
 use Rattle.hum_options.specs.declared.given.GivenOption.{GivenOption}
 use Rattle.hum_options.specs.Values.{Value}
-use Rattle.hum_options.specs.Meant.{Given, value_at, without}
+use Rattle.hum_options.specs.Given.{Given, value_at, without}
 use Rattle.hum_options.specs.Seen.{seen, given_of}
 
 -- a test of what was given, seen or not

@@ -5,10 +5,9 @@ use Rattle.std.specs.Option.{option_map}
 use Rattle.hum_choices.specs.Extract as choice
 use Rattle.hum_choices.specs.declared.yank.YankRange.{YankRange}
 use Rattle.hum_stage.specs.declared.faults.Command.TheVariants as command
-use Rattle.hum_options.specs.Meant.{Given, without, get, Span, Phrase, Markers, Occurrences, Context, Trans, Yank, Cleave, both}
-use Rattle.hum_options.specs.Meant.{as_fields, as_names, as_name, as_text, as_ranges, as_pattern, as_count, as_steps, as_semitones}
-use Rattle.hum_options.specs.Meant.{choice_meant, phrase_meant, span_meant, labels_meant, occurrences_meant}
-use Rattle.hum_options.specs.Meant.{numbers_meant, markers_meant, separator_meant, meant}
+use Rattle.hum_choices.specs.Options.{Span, Phrase, Markers, Occurrences, Context, Trans, Yank, Cleave}
+use Rattle.hum_options.specs.Given.{Given, without, get, as_fields, as_names, as_name, as_text, as_ranges, as_pattern, as_count, as_steps, as_semitones}
+use Rattle.hum_options.specs.Options.{both, choice_meant, phrase_meant, span_meant, labels_meant, occurrences_meant, numbers_meant, markers_meant, separator_meant, meant}
 use Rattle.hum_options.proofs.Lookups.{value_at-without, kept}
 
 pub names_chosen : (given new : List Given) (names : Option (List (List ℕ)))

@@ -8,7 +8,7 @@ use Rattle.hum_path.proofs.Cases.{by_bool}
 use Rattle.hum_stage.specs.declared.faults.Command.{Command}
 use Rattle.hum_options.specs.declared.faults.OptionRule.TheVariants.{N8, N11}
 use Rattle.hum_options.specs.declared.faults.OptionFault.{OptionFault}
-use Rattle.hum_options.specs.Options.{letter}
+use Rattle.hum_options.specs.Given.{letter}
 use Rattle.hum_options.specs.Letters.{is_letter_word, has_letter}
 use Rattle.hum_options.specs.Answers.{Word, Answer, is_rid, word_fault, rid_fault, rid_of, rid_answer}
 use Rattle.hum_options.specs.Refused.{at, BreaksRid, no_letters, before_another, BreaksNone, IsFirstWord, IsFirstOfRid, AreRefusedInOrder}

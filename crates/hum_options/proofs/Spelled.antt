@@ -8,10 +8,11 @@ use Rattle.hum_stage.specs.declared.faults.Command.{Command}
 use Rattle.hum_options.specs.declared.options.CommandOption.{CommandOption}
 use Rattle.hum_options.specs.declared.reading.Turn.{Turn}
 use Rattle.hum_options.specs.declared.reading.Turn.TheVariants.{Free, Awaits}
-use Rattle.hum_options.specs.Options.{option_of}
+use Rattle.hum_options.specs.Options.{option_of, meant}
 use Rattle.hum_options.specs.Values.{Value, Nothing, Fields, Names, Name, Text, Ranges, Label, Pattern, Count, Steps, Semitones, Duration}
 use Rattle.hum_options.specs.Values.{value_of, IsSound}
-use Rattle.hum_options.specs.Meant.{Given, Options, meant}
+use Rattle.hum_choices.specs.Options.{Options}
+use Rattle.hum_options.specs.Given.{Given}
 use Rattle.hum_options.specs.Answers.{Word, Answer, Answers, AtOption, AtValue, next_option, unless_barred, is_barred, is_alone, with_value, together}
 use Rattle.hum_options.specs.Spelling.{IsValue, Spells, none, alone, valued, AreAllowed, AreReadAsSpelled, given_as}
 use Rattle.hum_options.proofs.Turns.{sound, option_goes, option_awaits}

@@ -12,9 +12,9 @@ use Rattle.hum_options.specs.declared.grammar.ValueError.{ValueError}
 use Rattle.hum_options.specs.declared.grammar.ValueError.TheVariants.{Grammar, Pattern as Refused, Memory as NoMemory}
 use Rattle.hum_options.specs.Values.{Value, Nothing, Fields, Names, Name, Text, Ranges, Label, Pattern, Count, Steps, Semitones, Duration}
 use Rattle.hum_options.specs.Values.{value_of, IsSound}
-use Rattle.hum_options.specs.Options.{option_of}
-use Rattle.hum_options.specs.Meant.{Given}
-use Rattle.hum_options.specs.Meant.{Options, meant}
+use Rattle.hum_options.specs.Options.{option_of, meant}
+use Rattle.hum_options.specs.Given.{Given}
+use Rattle.hum_choices.specs.Options.{Options}
 use Rattle.hum_options.specs.declared.faults.OptionError.{OptionError}
 use Rattle.hum_options.specs.declared.faults.OptionError.TheVariants as failed
 use Rattle.hum_options.specs.declared.faults.OptionRule.TheVariants.{N8, N9}

@@ -17,10 +17,11 @@ use Rattle.hum_options.specs.declared.faults.OptionRule.TheVariants.{N8, N9, N10
 use Rattle.hum_options.specs.declared.faults.OptionFault.{OptionFault}
 use Rattle.hum_options.specs.declared.reading.Turn.{Turn}
 use Rattle.hum_options.specs.declared.reading.Turn.TheVariants.{Free, Awaits}
-use Rattle.hum_options.specs.Options.{letter, excludes, option_of}
+use Rattle.hum_options.specs.Given.{letter, Given}
+use Rattle.hum_options.specs.Options.{excludes, option_of, meant}
 use Rattle.hum_options.specs.Values.{Value, Nothing, Pattern, value_of, IsRefused}
 use Rattle.hum_options.specs.Values.{IsSound}
-use Rattle.hum_options.specs.Meant.{Given, Options, Rid, meant}
+use Rattle.hum_choices.specs.Options.{Options, Rid}
 use Rattle.hum_options.specs.Letters.{is_letter_word, has_letter, dropped}
 
 -- a word with its number

@@ -4,7 +4,7 @@ use Rattle.std.specs.Prelude.{List, [], ◌∷◌, length}
 use Rattle.std.specs.List.{list_any, list_all}
 use lib.Chars.{codes}
 use Rattle.hum_choices.specs.declared.rid.RidOptions.{RidOptions}
-use Rattle.hum_options.specs.Options.{letter}
+use Rattle.hum_options.specs.Given.{letter}
 
 -- what a record may be dropped by
 abbrev pub letters : List ℕ

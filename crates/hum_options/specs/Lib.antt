@@ -5,9 +5,9 @@ pub mod Names
 pub mod Numbers
 pub mod Passages
 pub mod Steps
-pub mod Options
 pub mod Values
-pub mod Meant
+pub mod Given
+pub mod Options
 pub mod Letters
 pub mod Answers
 pub mod Seen

@@ -10,9 +10,9 @@ use Rattle.hum_options.specs.declared.faults.OptionRule.{OptionRule}
 use Rattle.hum_options.specs.declared.faults.OptionRule.TheVariants.{N8, N9, N10, N11, N12}
 use Rattle.hum_options.specs.declared.faults.OptionFault.{OptionFault}
 use Rattle.hum_options.specs.Letters.{is_letter_word, has_letter}
-use Rattle.hum_options.specs.Options.{letter, option_of}
+use Rattle.hum_options.specs.Given.{letter, Given}
+use Rattle.hum_options.specs.Options.{option_of, meant}
 use Rattle.hum_options.specs.Values.{Pattern, value_of, IsRefused}
-use Rattle.hum_options.specs.Meant.{Given, meant}
 use Rattle.hum_options.specs.Answers.{Word, IsAnswer, is_rid, is_alone, is_barred}
 use Rattle.hum_options.specs.Spelling.{Spells, AreAllowed}
 

@@ -5,12 +5,8 @@ use Rattle.hum_stage.specs.declared.faults.Command.{Command}
 use Rattle.hum_words.specs.Pieces.{Item, items_of}
 use Rattle.hum_words.specs.Pieces as item
 use Rattle.hum_words.specs.declared.cutting.Piece.{Piece}
-use Rattle.hum_choices.specs.Extract.{choice_of}
 use Rattle.hum_choices.specs.Timebase.{pace_of}
-use Rattle.hum_choices.specs.declared.context.Span.{Span as WrittenSpan}
-use Rattle.hum_choices.specs.declared.context.Span.TheVariants as span
-use Rattle.hum_choices.specs.declared.yank.Markers.{Markers as WrittenMarkers}
-use Rattle.hum_choices.specs.declared.yank.Markers.TheVariants as markers
+use Rattle.hum_choices.specs.Options.{options_of}
 use Rattle.hum_options.specs.declared.options.ValueKind.{ValueKind}
 use Rattle.hum_options.specs.declared.values.Value.{Value as WrittenValue}
 use Rattle.hum_options.specs.declared.values.Value.TheVariants as value
@@ -18,8 +14,7 @@ use Rattle.hum_options.specs.declared.grammar.ValueError.{ValueError}
 use Rattle.hum_options.specs.declared.grammar.ValueError.TheVariants.{Grammar, Pattern as Refused}
 use Rattle.hum_options.specs.declared.grammar.ValueError.TheVariants.{Memory as NoMemory}
 use Rattle.hum_options.specs.declared.given.GivenOption.{GivenOption}
-use Rattle.hum_choices.specs.declared.commands.CommandOptions.{CommandOptions}
-use Rattle.hum_choices.specs.declared.commands.CommandOptions.TheVariants as told
+use Rattle.hum_choices.specs.declared.CommandOptions.{CommandOptions}
 use Rattle.hum_options.specs.declared.reading.Turn.{Turn}
 use Rattle.hum_options.specs.declared.faults.OptionError.{OptionError}
 use Rattle.hum_options.specs.declared.faults.OptionError.TheVariants as failed
@@ -27,10 +22,7 @@ use Rattle.hum_options.specs.declared.faults.OptionRule.TheVariants.{N10, N12}
 use Rattle.hum_options.specs.Values.{Value, Nothing, Fields, Names, Name, Text, Ranges, Label}
 use Rattle.hum_options.specs.Values.{Pattern, Count, Steps, Semitones, Duration}
 use Rattle.hum_options.specs.Values.{value_of, IsSound, IsRefused}
-use Rattle.hum_options.specs.Meant.{Given}
-use Rattle.hum_options.specs.Meant.{Options, Span, Number, Phrase, Markers, Lines, Numbers}
-use Rattle.hum_options.specs.Meant.{Occurrences, Labels, Rid, Extract, Ditto, Timebase, Context}
-use Rattle.hum_options.specs.Meant.{Trans, Semits, Mint, Recip, Yank, Cleave}
+use Rattle.hum_options.specs.Given.{Given}
 use Rattle.hum_options.specs.Answers.{Word, Answer, Answers}
 
 -- a value, wherever its list or its text lies
@@ -58,30 +50,6 @@ GivesValue kind text (Err NoMemory) = Unit {0}
 
 abbrev pub given_of : GivenOption → Given
 given_of given = record { letter = given.letter; value = seen given.value }
-
-abbrev pub span_of : WrittenSpan → Span
-span_of (span.Number count) = Number count.number
-span_of (span.Phrase begin end) = Phrase begin end
-
-abbrev pub markers_of : WrittenMarkers → Markers
-markers_of markers.Lines = Lines
-markers_of (markers.Numbers pattern) = Numbers pattern
-markers_of (markers.Occurrences begins ends) = Occurrences begins ends
-markers_of (markers.Labels text) = Labels text.items
-
--- options, wherever their lists lie
-abbrev pub options_of : CommandOptions → Options
-options_of (told.Rid options) = Rid options
-options_of (told.Extract choice) = Extract (choice_of choice)
-options_of (told.Ditto options) = Ditto options
-options_of (told.Timebase options) = Timebase (pace_of options)
-options_of (told.Context options) = Context (span_of options.span) options.omit
-options_of (told.Trans options) = Trans options.steps options.semitones
-options_of (told.Semits options) = Semits options
-options_of (told.Mint options) = Mint options
-options_of (told.Recip options) = Recip
-options_of (told.Yank options) = Yank (markers_of options.markers) options.ranges.items
-options_of (told.Cleave options) = Cleave options
 
 -- the words up to the next bar, with their numbers
 abbrev pub words_before_bar : List Item → List Word

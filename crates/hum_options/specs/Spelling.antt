@@ -4,9 +4,10 @@ use Rattle.hum_stage.specs.declared.faults.Command.{Command}
 use Rattle.hum_options.specs.declared.options.ValueKind.{ValueKind}
 use Rattle.hum_options.specs.declared.options.CommandOption.{CommandOption}
 use Rattle.hum_options.specs.declared.reading.Turn.TheVariants.{Free}
-use Rattle.hum_options.specs.Options.{option_of}
+use Rattle.hum_options.specs.Options.{option_of, meant}
 use Rattle.hum_options.specs.Values.{Value, Nothing, value_of, IsSound}
-use Rattle.hum_options.specs.Meant.{Given, Options, meant}
+use Rattle.hum_choices.specs.Options.{Options}
+use Rattle.hum_options.specs.Given.{Given}
 use Rattle.hum_options.specs.Answers.{Word, Answers, is_alone, is_barred}
 
 -- the value of a kind that a text is

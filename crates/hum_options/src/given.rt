@@ -4,9 +4,9 @@ ghost use Rattle.std.specs.List.{list_any};
 ghost use Rattle.std.specs.Option.{option_map, option_and_then};
 ghost use Rattle.hum_path.specs.Spines.{texts};
 ghost use Rattle.hum_options.specs.{Answers.bars, Answers.is_barred, Seen.seen, Seen.given_of};
-ghost use Rattle.hum_options.specs.Meant.{value_at, without, as_fields, as_names, as_name, as_text};
-ghost use Rattle.hum_options.specs.Meant.{as_ranges, as_label, as_pattern, as_count, as_steps};
-ghost use Rattle.hum_options.specs.Meant.{as_semitones, as_duration};
+ghost use Rattle.hum_options.specs.Given.{value_at, without, as_fields, as_names, as_name, as_text};
+ghost use Rattle.hum_options.specs.Given.{as_ranges, as_label, as_pattern, as_count, as_steps};
+ghost use Rattle.hum_options.specs.Given.{as_semitones, as_duration};
 ghost use Rattle.hum_choices.specs.Timebase.{pace_of};
 
 use crate::options::excludes;
@@ -54,7 +54,7 @@ pub(crate) struct GivenOptions {
 
 impl Model for GivenOptions {
     ghost use Rattle.std.specs.Prelude.{List, map};
-    ghost use Rattle.hum_options.specs.{Meant.Given, Seen.given_of};
+    ghost use Rattle.hum_options.specs.{Given.Given, Seen.given_of};
 
     ghost Value = { List Given };
 

@@ -26,7 +26,6 @@ mod options;
 mod passages;
 mod reading;
 mod steps;
-mod together;
 mod values;
 
 pub use faults::{OptionError, OptionFault, OptionRule, PatternRefusal};

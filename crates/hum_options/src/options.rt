@@ -1,9 +1,23 @@
-//! The options of each command.
-ghost use Rattle.std.specs.Prelude.{◌≡◌, ◌||◌};
-ghost use Rattle.hum_options.specs.Options.{table, is_spelled, option_of, excludes, are_in};
+//! The options of each command, and what those that were given are together.
+ghost use Rattle.std.specs.Prelude.{◌≡◌, ◌||◌, IfOk, Some};
+ghost use Rattle.std.specs.Option.{option_map};
+ghost use Rattle.hum_choices.specs.Extract.{choice_of};
+ghost use Rattle.hum_choices.specs.Options.{span_of, markers_of, options_of};
+ghost use Rattle.hum_stage.specs.declared.faults.Command.TheVariants as command;
 ghost use Rattle.hum_options.specs.Answers.{is_alone};
+ghost use Rattle.hum_options.specs.Options.{table, is_spelled, option_of, excludes, are_in};
+ghost use Rattle.hum_options.specs.Options.{choice_meant, phrase_meant, span_meant, meant};
+ghost use Rattle.hum_options.specs.Options.{labels_meant, occurrences_meant, numbers_meant};
+ghost use Rattle.hum_options.specs.Options.{markers_meant, separator_meant};
 
+use crate::given::GivenOptions;
+use crate::values::{Semitones, Separator, Steps};
+use hum_choices::{
+    CleaveOptions, CommandOptions, ContextOptions, DittoOptions, ExtractOptions, Markers,
+    MintOptions, RecipOptions, SemitsOptions, Span, TransOptions, YankOptions,
+};
 use hum_stage::Command;
+use std::alloc::{AllocError, Global};
 
 /// What an option's value is.
 #[derive(Clone, Copy)]
@@ -132,5 +146,198 @@ impl ValueKind {
             ValueKind::Alone => true,
             _ => false,
         }
+    }
+}
+
+fn choice(given: &mut GivenOptions) -> Option<ExtractOptions>
+    ensures { option_map choice_of result ≡ choice_meant given.old }
+{
+    match given.fields(b'f') {
+        Some(ranges) => Some(ExtractOptions::Fields(ranges)),
+        None => match given.names(b'i') {
+            Some(names) => Some(ExtractOptions::Names(names)),
+            None => None,
+        },
+    }
+}
+
+fn extract(given: &mut GivenOptions) -> Option<CommandOptions>
+    ensures { option_map options_of result ≡ meant command.Extract given.old }
+{
+    let choice = choice(given)?;
+    Some(CommandOptions::Extract(choice))
+}
+
+fn ditto(given: &mut GivenOptions) -> CommandOptions
+    ensures { Some (options_of result) ≡ meant command.Ditto given.old }
+{
+    let parentheses = given.has(b'p');
+    CommandOptions::Ditto(DittoOptions {
+        skip: given.pattern(b's'),
+        parentheses,
+    })
+}
+
+fn timebase(given: &mut GivenOptions) -> Option<CommandOptions>
+    ensures { option_map options_of result ≡ meant command.Timebase given.old }
+{
+    let options = given.duration(b't')?;
+    Some(CommandOptions::Timebase(options))
+}
+
+fn phrase(given: &mut GivenOptions) -> Option<Span>
+    ensures { option_map span_of result ≡ phrase_meant given.old }
+{
+    let begin = given.pattern(b'b')?;
+    let end = given.pattern(b'e')?;
+    Some(Span::Phrase(begin, end))
+}
+
+fn span(given: &mut GivenOptions) -> Option<Span>
+    ensures { option_map span_of result ≡ span_meant given.old }
+{
+    match given.count(b'n') {
+        Some(count) => Some(Span::Number(count)),
+        None => phrase(given),
+    }
+}
+
+fn context(given: &mut GivenOptions) -> Option<CommandOptions>
+    ensures { option_map options_of result ≡ meant command.Context given.old }
+{
+    let omit = given.pattern(b'o');
+    let span = span(given)?;
+    Some(CommandOptions::Context(ContextOptions { span, omit }))
+}
+
+fn transposition(steps: Steps, semitones: Semitones) -> TransOptions
+    ensures steps { result.steps ≡ steps.number }
+    ensures semitones { result.semitones ≡ semitones.number }
+{
+    TransOptions {
+        steps: steps.number,
+        semitones: semitones.number,
+    }
+}
+
+fn trans(given: &mut GivenOptions) -> Option<CommandOptions>
+    ensures { option_map options_of result ≡ meant command.Trans given.old }
+{
+    let steps = given.steps(b'd')?;
+    let semitones = given.semitones(b'c')?;
+    Some(CommandOptions::Trans(transposition(steps, semitones)))
+}
+
+fn semits(given: &GivenOptions) -> Option<CommandOptions>
+    ensures { option_map options_of result ≡ meant command.Semits given.now }
+{
+    if given.has(b'x') {
+        let ties_left_out = given.has(b't');
+        Some(CommandOptions::Semits(SemitsOptions { ties_left_out }))
+    } else {
+        None
+    }
+}
+
+fn mint(given: &mut GivenOptions) -> CommandOptions
+    ensures { Some (options_of result) ≡ meant command.Mint given.old }
+{
+    let signless = given.has(b'a');
+    let sizeonly = given.has(b'd');
+    CommandOptions::Mint(MintOptions {
+        signless,
+        sizeonly,
+        breaks: given.pattern(b'b'),
+    })
+}
+
+fn labels(given: &mut GivenOptions) -> Option<Markers>
+    ensures { option_map markers_of result ≡ labels_meant given.old }
+{
+    let label = given.label(b's')?;
+    Some(Markers::Labels(label))
+}
+
+fn occurrences(given: &mut GivenOptions) -> Option<Markers>
+    ensures { option_map markers_of result ≡ occurrences_meant given.old }
+{
+    match given.pattern(b'o') {
+        Some(begins) => {
+            let ends = given.pattern(b'e');
+            Some(Markers::Occurrences(begins, ends))
+        }
+        None => labels(given),
+    }
+}
+
+fn numbers(given: &mut GivenOptions) -> Option<Markers>
+    ensures { option_map markers_of result ≡ numbers_meant given.old }
+{
+    match given.pattern(b'n') {
+        Some(numbered) => Some(Markers::Numbers(numbered)),
+        None => occurrences(given),
+    }
+}
+
+fn markers(given: &mut GivenOptions) -> Option<Markers>
+    ensures { option_map markers_of result ≡ markers_meant given.old }
+{
+    if given.has(b'l') {
+        Some(Markers::Lines)
+    } else {
+        numbers(given)
+    }
+}
+
+fn yank(given: &mut GivenOptions) -> Option<CommandOptions>
+    ensures { option_map options_of result ≡ meant command.Yank given.old }
+{
+    let ranges = given.ranges(b'r')?;
+    let markers = markers(given)?;
+    Some(CommandOptions::Yank(YankOptions { markers, ranges }))
+}
+
+fn separator(alloc: Global, given: &mut GivenOptions) -> Result<Separator, AllocError>
+    ensures { IfOk result (λ separator. separator.text.items ≡ separator_meant given.old) }
+{
+    match given.text(b'd') {
+        Some(separator) => Ok(separator),
+        None => Separator::space(alloc),
+    }
+}
+
+fn cleave(alloc: Global, given: &mut GivenOptions) -> Result<Option<CommandOptions>, AllocError>
+    ensures { IfOk result (λ found. option_map options_of found ≡ meant command.Cleave given.old) }
+{
+    let Some(name) = given.name(b'i') else {
+        return Ok(None);
+    };
+    let Some(new_name) = given.name(b'o') else {
+        return Ok(None);
+    };
+    let separator = separator(alloc, given)?;
+    Ok(Some(CommandOptions::Cleave(CleaveOptions::new(name.text, new_name.text, separator.text))))
+}
+
+/// What the options that were given are together, unless one is missing that the command requires.
+pub(crate) fn put_together(
+    alloc: Global,
+    command: Command,
+    given: &mut GivenOptions,
+) -> Result<Option<CommandOptions>, AllocError>
+    ensures { IfOk result (λ found. option_map options_of found ≡ meant command given.old) }
+{
+    match command {
+        Command::Read | Command::Assemble | Command::Rid => Ok(None),
+        Command::Extract => Ok(extract(given)),
+        Command::Ditto => Ok(Some(ditto(given))),
+        Command::Timebase => Ok(timebase(given)),
+        Command::Context => Ok(context(given)),
+        Command::Trans => Ok(trans(given)),
+        Command::Semits => Ok(semits(given)),
+        Command::Mint => Ok(Some(mint(given))),
+        Command::Recip => Ok(Some(CommandOptions::Recip(RecipOptions))),
+        Command::Yank => Ok(yank(given)),
+        Command::Cleave => cleave(alloc, given),
     }
 }

@@ -4,7 +4,7 @@ use Rattle.std.specs.Prelude.{nat_lt, slice_get}
 use Rattle.std.specs.List.{AllByRecursion}
 use Rattle.std.proofs.lemmas.Bool.Decides.{nat_tests}
 use Rattle.hum_stage.specs.Meaning.{Meaning}
-use Rattle.hum_options.specs.Meant as meant
+use Rattle.hum_choices.specs.Options as meant
 use Rattle.hum_nodes.specs.Trees.{Part, Through, Beside}
 use Rattle.hum_plan.specs.Stages.{Stage, Options, Read, Assemble, Takes, MayHave, IsTree}
 use Rattle.hum_net.specs.Commands.{means}

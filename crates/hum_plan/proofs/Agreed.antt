@@ -11,7 +11,7 @@ use Rattle.hum_words.specs.Pieces as item
 use Rattle.hum_words.specs.Text.{fault_of}
 use Rattle.hum_stage.specs.declared.faults.Command.{Command}
 use Rattle.hum_options.proofs.Agreed.{Fits, answer_fits}
-use Rattle.hum_options.specs.Meant as meant
+use Rattle.hum_choices.specs.Options as meant
 use Rattle.hum_options.specs.Answers.{Word, Answer, IsAnswer}
 use Rattle.hum_plan.specs.declared.faults.PlanFault.{PlanFault}
 use Rattle.hum_plan.specs.declared.faults.PlanRule.TheVariants.{N12}

@@ -13,8 +13,8 @@ use Rattle.hum_stage.specs.declared.faults.Command.{Command}
 use Rattle.hum_options.specs.declared.faults.OptionFault.{OptionFault}
 use Rattle.hum_options.specs.Answers.{Word, IsAnswer, is_rid, has_none, text_of_word, rid_answer, rid_of, rid_fault}
 use Rattle.hum_options.specs.Letters.{is_letter_word, has_letter, drops, dropped}
-use Rattle.hum_options.specs.Options.{letter}
-use Rattle.hum_options.specs.Meant as meant
+use Rattle.hum_options.specs.Given.{letter}
+use Rattle.hum_choices.specs.Options as meant
 use Rattle.hum_options.proofs.Spelled.{read_as_spelled}
 use Rattle.hum_plan.specs.declared.branches.Branch.{Branch}
 use Rattle.hum_plan.specs.Branches.{Branches, branch_of, with_branch, taken}

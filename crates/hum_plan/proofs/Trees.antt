@@ -16,7 +16,9 @@ use Rattle.hum_stage.specs.declared.faults.Command.{Command}
 use Rattle.hum_stage.specs.declared.faults.Command.TheVariants as command
 use Rattle.hum_options.specs.Answers.{Word, is_rid}
 use Rattle.hum_choices.specs.declared.rid.RidOptions.{RidOptions}
-use Rattle.hum_options.specs.Meant as meant
+use Rattle.hum_choices.specs.Options as meant
+use Rattle.hum_options.specs.Given.{Given}
+use Rattle.hum_options.specs.Options.{both, meant as meant_by}
 use Rattle.hum_plan.specs.declared.branches.Branch.{Branch}
 use Rattle.hum_plan.specs.declared.commands.Opening.{Opening}
 use Rattle.hum_plan.specs.declared.commands.Opening.TheVariants as opening
@@ -277,36 +279,25 @@ record IsAdded (is_last : Bool) (old new : List Stage) : Type 0 where
   is : new ≡ old ++ stage ∷ []
   quiet : is_last ≡ false → drops_interpretations stage.options ≡ false
 
-mapped_quiet : {A : Type 0} (f : A → meant.Options) → ((a : A) → drops_interpretations (Takes (f a)) ≡ false) → (x : Option A)
-    (options : meant.Options) → option_map f x ≡ Some options → drops_interpretations (Takes options) ≡ false
-mapped_quiet f quiet None options h = absurd (cc)
-mapped_quiet f quiet (Some a) options h = rw (← same_Some (f a) options h) (quiet a)
+-- what there is drops none
+abbrev IsQuiet : Option meant.Options → Type 0
+IsQuiet None = Unit {0}
+IsQuiet (Some options) = meant.drops_interpretations options ≡ false
 
-both_quiet : {A B : Type 0} (f : A → B → meant.Options) → ((a : A) (b : B) → drops_interpretations (Takes (f a b)) ≡ false)
-    → (x : Option A) (y : Option B) (options : meant.Options) → meant.both f x y ≡ Some options
-    → drops_interpretations (Takes options) ≡ false
-both_quiet f quiet None y options h = absurd (cc)
-both_quiet f quiet (Some a) y options h = mapped_quiet (f a) (quiet a) y options h
+mapped_quiet : {A : Type 0} (f : A → meant.Options) (x : Option A) → ((a : A) → meant.drops_interpretations (f a) ≡ false)
+    → IsQuiet (option_map f x)
+mapped_quiet f None quiet = tt
+mapped_quiet f (Some a) quiet = quiet a
 
-same_quiet : (other options : meant.Options) → drops_interpretations (Takes other) ≡ false → Some other ≡ Some options
-    → drops_interpretations (Takes options) ≡ false
-same_quiet other options quiet h = rw (← same_Some other options h) quiet
+both_quiet : {A B : Type 0} (f : A → B → meant.Options) (x : Option A) (y : Option B)
+    → ((a : A) (b : B) → meant.drops_interpretations (f a b) ≡ false) → IsQuiet (both f x y)
+both_quiet f None y quiet = tt
+both_quiet f (Some a) y quiet = mapped_quiet (f a) y (quiet a)
 
-meant_quiet : (kind : Command) (given : List meant.Given) (options : meant.Options) → is_rid kind ≡ false
-    → meant.meant kind given ≡ Some options → drops_interpretations (Takes options) ≡ false
-meant_quiet command.Read given options other h = cc
-meant_quiet command.Assemble given options other h = cc
-meant_quiet command.Rid given options other h = absurd (cc)
-meant_quiet command.Extract given options other h = mapped_quiet meant.Extract (λ a. refl) _ options h
-meant_quiet command.Ditto given options other h = same_quiet _ options refl h
-meant_quiet command.Timebase given options other h = mapped_quiet meant.Timebase (λ a. refl) _ options h
-meant_quiet command.Context given options other h = mapped_quiet (λ span. meant.Context span _) (λ a. refl) _ options h
-meant_quiet command.Trans given options other h = both_quiet meant.Trans (λ a b. refl) _ _ options h
-meant_quiet command.Semits given options other h = mapped_quiet meant.Semits (λ a. refl) _ options h
-meant_quiet command.Mint given options other h = same_quiet _ options refl h
-meant_quiet command.Recip given options other h = same_quiet _ options refl h
-meant_quiet command.Yank given options other h = both_quiet meant.Yank (λ a b. refl) _ _ options h
-meant_quiet command.Cleave given options other h = mapped_quiet meant.Cleave (λ a. refl) _ options h
+-- Only rid drops some, and its letters are no such options.
+meant_quiet : (kind : Command) (given : List Given) (options : meant.Options) → meant_by kind given ≡ Some options
+    → meant.drops_interpretations options ≡ false
+meant_quiet kind given options h = grind (arith, mapped_quiet, both_quiet)
 
 not_dropped : (b is_last : Bool) → (is_last || not b) ≡ true → is_last ≡ false → b ≡ false
 not_dropped true true h e = absurd (cc)
@@ -322,7 +313,7 @@ spelled_quiet : (is_last : Bool) (kind : Command) (words : List Word) (options :
     → is_last ≡ false → drops_interpretations (Takes options) ≡ false
 spelled_quiet is_last kind words options h e = by_bool (is_rid kind)
     (λ w. let p = rw w at h in rid_quiet is_last words p.0 options p.1 p.2 e)
-    (λ w. let p = rw w at h in meant_quiet kind p.0 options w p.3)
+    (λ w. let p = rw w at h in meant_quiet kind p.0 options p.3)
 
 adds_one : (is_last : Bool) (old : Outline) (kind : Command) (words : List Word) (begins : Opening) (new : Outline)
     → AddsStage is_last old kind words begins new → IsAdded is_last old.stages new.stages

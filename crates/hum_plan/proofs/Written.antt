@@ -26,7 +26,7 @@ use Rattle.hum_stage.specs.Words.{commands, word_of, command_of}
 use Rattle.hum_stage.specs.declared.faults.Command.{Command}
 use Rattle.hum_stage.specs.declared.faults.Command.TheVariants as command
 use Rattle.hum_options.specs.Answers.{Word, Answer}
-use Rattle.hum_options.specs.Meant as meant
+use Rattle.hum_choices.specs.Options as meant
 use Rattle.hum_options.specs.Seen.{words_before_bar}
 use Rattle.hum_plan.specs.declared.branches.Branch.{Branch}
 use Rattle.hum_plan.specs.declared.commands.Opening.{Opening}

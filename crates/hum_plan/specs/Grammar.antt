@@ -17,7 +17,7 @@ use Rattle.hum_stage.specs.declared.faults.Command.TheVariants as command
 use Rattle.hum_choices.specs.declared.rid.RidOptions.{RidOptions}
 use Rattle.hum_options.specs.Answers.{Word, is_rid, has_none, text_of_word}
 use Rattle.hum_options.specs.Letters.{is_letter_word, dropped}
-use Rattle.hum_options.specs.Meant as meant
+use Rattle.hum_choices.specs.Options as meant
 use Rattle.hum_options.specs.Spelling.{IsSpelled}
 use Rattle.hum_plan.specs.declared.branches.Branch.{Branch}
 use Rattle.hum_plan.specs.declared.commands.Opening.{Opening}

@@ -3,7 +3,7 @@ use Rattle.std.specs.Prelude.{◌≡◌, ℕ, ◌+◌, ◌<◌, ◌≤◌, Bool,
 use Rattle.std.specs.Prelude.{List, [], ◌∷◌, ◌++◌, length, Some, slice_get, if◌then◌else◌}
 use Rattle.std.specs.List.{AllByRecursion}
 use Rattle.hum_stage.specs.declared.faults.Command.{Command}
-use Rattle.hum_options.specs.Meant as meant
+use Rattle.hum_choices.specs.Options as meant
 
 -- What a stage does: it reads the score of a name, puts scores side by side, or is a command.
 pub data Options : Type 0 where
@@ -35,7 +35,7 @@ MayHave (Takes options) n = n ≡ 1
 
 -- whether a stage drops all interpretations, and so gives no score
 abbrev pub drops_interpretations : Options → Bool
-drops_interpretations (Takes (meant.Rid options)) = options.interpretations
+drops_interpretations (Takes options) = meant.drops_interpretations options
 drops_interpretations _ = false
 
 -- Stage k + 1 of some stages.

@@ -18,8 +18,8 @@ use Rattle.hum_tones.specs.Commands.{trans, semits, mint, recip}
 use Rattle.hum_yank.specs.Options as yank
 use Rattle.hum_yank.specs.Yank.{yank as yanked}
 use Rattle.hum_commands.specs.Meaning.{meaning}
-use Rattle.hum_choices.specs.declared.commands.CommandOptions.{CommandOptions}
-use Rattle.hum_choices.specs.declared.commands.CommandOptions.TheVariants as told
+use Rattle.hum_choices.specs.declared.CommandOptions.{CommandOptions}
+use Rattle.hum_choices.specs.declared.CommandOptions.TheVariants as told
 use Rattle.hum_valid.specs.Records.{KeepsRecords}
 use Rattle.hum_valid.proofs.Stages.{at_once, looking}
 use Rattle.hum_valid.proofs.Single.{rid_records, yank_records}

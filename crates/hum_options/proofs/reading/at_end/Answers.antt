@@ -1,5 +1,5 @@
 use Rattle.std.proofs.Common.{None, Some}
-use Rattle.hum_options.specs.Seen.{options_of}
+use Rattle.hum_choices.specs.Options.{options_of}
 use Rattle.hum_options.proofs.Turns.{ended, value_lacks}
 use Rattle.hum_options.proofs.reading.at_end.Goals as goal
 

@@ -1,4 +1,4 @@
-use Rattle.hum_choices.specs.declared.commands.CommandOptions.TheVariants as told
+use Rattle.hum_choices.specs.declared.CommandOptions.TheVariants as told
 use Rattle.hum_valid.proofs.Commands.{keeps}
 use Rattle.hum_valid.proofs.records.commands_keep_records.Goals as goal
 

@@ -1,5 +1,5 @@
 use Rattle.hum_options.proofs.Meanings.{context_taken}
-use Rattle.hum_options.proofs.together.context.Goals as goal
+use Rattle.hum_options.proofs.options.context.Goals as goal
 
 pub returns-in_err-span : goal.returns-in_err-span
 returns-in_err-span c = rw c.from_residual.ensures

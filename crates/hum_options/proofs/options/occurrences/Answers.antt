@@ -1,5 +1,5 @@
 use Rattle.hum_options.proofs.Meanings.{occurrences_taken, labels_taken}
-use Rattle.hum_options.proofs.together.occurrences.Goals as goal
+use Rattle.hum_options.proofs.options.occurrences.Goals as goal
 
 pub returns-in-Some : goal.returns-in-Some
 returns-in-Some c =

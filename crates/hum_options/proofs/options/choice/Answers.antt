@@ -1,5 +1,5 @@
 use Rattle.hum_options.proofs.Meanings.{names_chosen}
-use Rattle.hum_options.proofs.together.choice.Goals as goal
+use Rattle.hum_options.proofs.options.choice.Goals as goal
 
 pub returns-in-Some-names : goal.returns-in-Some-names
 returns-in-Some-names c =

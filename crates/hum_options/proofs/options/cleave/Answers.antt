@@ -1,5 +1,5 @@
 use Rattle.hum_options.proofs.Meanings.{cleave_lacking, cleave_taken}
-use Rattle.hum_options.proofs.together.cleave.Goals as goal
+use Rattle.hum_options.proofs.options.cleave.Goals as goal
 
 pub returns-in_default-name : goal.returns-in_default-name
 returns-in_default-name c =

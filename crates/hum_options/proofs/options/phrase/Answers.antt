@@ -1,6 +1,6 @@
 use Rattle.std.proofs.Common.{refl}
 use Rattle.hum_options.proofs.Meanings.{phrase_taken}
-use Rattle.hum_options.proofs.together.phrase.Goals as goal
+use Rattle.hum_options.proofs.options.phrase.Goals as goal
 
 pub returns-in_err-end : goal.returns-in_err-end
 returns-in_err-end c = rw c.from_residual-in_err-end.ensures

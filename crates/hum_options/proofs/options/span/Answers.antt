@@ -1,5 +1,5 @@
 use Rattle.hum_options.proofs.Meanings.{span_taken}
-use Rattle.hum_options.proofs.together.span.Goals as goal
+use Rattle.hum_options.proofs.options.span.Goals as goal
 
 pub returns-in-None : goal.returns-in-None
 returns-in-None c =

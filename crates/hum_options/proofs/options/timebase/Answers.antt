@@ -1,7 +1,7 @@
 use Rattle.std.proofs.Common.{ap}
 use Rattle.std.specs.Option.{option_map}
-use Rattle.hum_options.specs.Meant.{Timebase}
-use Rattle.hum_options.proofs.together.timebase.Goals as goal
+use Rattle.hum_choices.specs.Options.{Timebase}
+use Rattle.hum_options.proofs.options.timebase.Goals as goal
 
 pub returns-in_err-options : goal.returns-in_err-options
 returns-in_err-options c =

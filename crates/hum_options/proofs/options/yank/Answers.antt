@@ -1,6 +1,6 @@
-use Rattle.hum_options.specs.Meant.{markers_meant}
+use Rattle.hum_options.specs.Options.{markers_meant}
 use Rattle.hum_options.proofs.Meanings.{none_there, yank_taken}
-use Rattle.hum_options.proofs.together.yank.Goals as goal
+use Rattle.hum_options.proofs.options.yank.Goals as goal
 
 pub returns-in_err-markers : goal.returns-in_err-markers
 returns-in_err-markers c = rw c.from_residual-in_err-markers.ensures

@@ -1,5 +1,5 @@
 use Rattle.hum_options.proofs.Meanings.{numbers_taken}
-use Rattle.hum_options.proofs.together.numbers.Goals as goal
+use Rattle.hum_options.proofs.options.numbers.Goals as goal
 
 pub returns-in-None : goal.returns-in-None
 returns-in-None c =

@@ -1,5 +1,5 @@
 use Rattle.hum_options.proofs.Meanings.{trans_taken}
-use Rattle.hum_options.proofs.together.trans.Goals as goal
+use Rattle.hum_options.proofs.options.trans.Goals as goal
 
 pub returns-in_err-semitones : goal.returns-in_err-semitones
 returns-in_err-semitones c = rw c.from_residual-in_err-semitones.ensures
