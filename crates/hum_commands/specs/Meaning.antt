@@ -2,55 +2,71 @@
 use Rattle.std.specs.Prelude.{◌≡◌, ℕ, false}
 use Rattle.hum_stage.specs.declared.faults.Command.{Command}
 use Rattle.hum_stage.specs.declared.faults.Command.TheVariants as name
+use Rattle.hum_stage.specs.declared.TheConstants.{MOST_WAITING}
 use Rattle.hum_stage.specs.Meaning.{Meaning}
+use Rattle.hum_stage.specs.Decided.{at_once}
+use Rattle.hum_stage.specs.Look.{looking}
+use Rattle.hum_pattern.specs.Meaning.{matched, matched_by, first_end}
 use Rattle.hum_rid.specs.Rid as rid
-use Rattle.hum_extract.specs.Extract as extract
+use Rattle.hum_extract.specs.Extract.{extract}
 use Rattle.hum_ditto.specs.Ditto as ditto
 use Rattle.hum_timebase.specs.Timebase as timebase
-use Rattle.hum_choices.specs.Timebase.{pace_of}
-use Rattle.hum_context.specs.Options as context
+use Rattle.hum_context.specs.Context.{Extent, First, Between, context}
+use Rattle.hum_cells.specs.Rewriting as cells
 use Rattle.hum_tones.specs.Commands as tones
-use Rattle.hum_yank.specs.Options as yank
+use Rattle.hum_yank.specs.Passages as passages
+use Rattle.hum_yank.specs.Yank.{yank}
 use Rattle.hum_cleave.specs.Cleave as cleave
 use Rattle.hum_choices.specs.declared.CommandOptions.{CommandOptions}
 use Rattle.hum_choices.specs.declared.CommandOptions.TheVariants as told
-use Rattle.hum_stage.specs.declared.TheConstants.{MOST_WAITING}
+use Rattle.hum_choices.specs.Options.{Span, Number, Phrase, Markers, Lines, Numbers, Occurrences}
+use Rattle.hum_choices.specs.Options.{Labels, Options, Rid, Extract, Ditto, Timebase, Context, Trans}
+use Rattle.hum_choices.specs.Options.{Semits, Mint, Recip, Yank, Cleave}
+use Rattle.hum_choices.specs.Options.{options_of, drops_interpretations}
 
--- what the stage of this number means, by what it is told to do
+-- so many tokens, or those from a match through the next
+abbrev pub extent_of : Span → Extent
+extent_of (Number n) = First n
+extent_of (Phrase begin end) = Between (matched begin) (matched end)
+
+-- what begins passages
+abbrev pub form_of : Markers → passages.Form
+form_of Lines = passages.Lines
+form_of (Numbers pattern) = passages.Numbers (first_end pattern)
+form_of (Occurrences begins ends) = passages.Occurrences (matched begins) (matched_by ends)
+form_of (Labels label) = passages.Labels label
+
+-- what the command of the stage of this number means, by its options
+abbrev pub means : ℕ → Options → Meaning
+means n (Rid options) = rid.meaning n options
+means n (Extract choice) = at_once n name.Extract (extract choice)
+means n (Ditto options) = ditto.meaning n options
+means n (Timebase pace) = timebase.meaning n pace
+means n (Context span omit) =
+    looking MOST_WAITING n name.Context
+    (context (record { extent = extent_of span; omits = matched_by omit }))
+means n (Trans steps semitones) = cells.meaning n name.Trans (tones.trans steps semitones)
+means n (Semits options) = tones.meaning_of_semits n options
+means n (Mint options) = tones.meaning_of_mint n options
+means n Recip = tones.meaning_of_recip n (record {})
+means n (Yank markers ranges) =
+    looking MOST_WAITING n name.Yank (yank (record { form = form_of markers; ranges = ranges }))
+means n (Cleave options) = cleave.meaning n options
+
+-- the same, by what it is told to do
 abbrev pub meaning : ℕ → CommandOptions → Meaning
-meaning stage (told.Rid options) = rid.meaning stage options
-meaning stage (told.Extract choice) = extract.meaning stage choice
-meaning stage (told.Ditto options) = ditto.meaning stage options
-meaning stage (told.Timebase options) = timebase.meaning stage (pace_of options)
-meaning stage (told.Context options) = context.meaning stage options
-meaning stage (told.Trans options) = tones.meaning_of_trans stage options
-meaning stage (told.Semits options) = tones.meaning_of_semits stage options
-meaning stage (told.Mint options) = tones.meaning_of_mint stage options
-meaning stage (told.Recip options) = tones.meaning_of_recip stage options
-meaning stage (told.Yank options) = yank.meaning stage options
-meaning stage (told.Cleave options) = cleave.meaning stage options
+meaning n options = means n (options_of options)
+
+-- which command it is
+abbrev pub command_of : CommandOptions → Command
+command_of options = (meaning 1 options).command
 
 -- Of scores it makes scores: all commands do, but rid where it drops all interpretations.
 abbrev pub MakesScores : CommandOptions → Type 0
-MakesScores (told.Rid options) = options.interpretations ≡ false
-MakesScores _ = Unit {0}
+MakesScores options = drops_interpretations (options_of options) ≡ false
 
 -- how many records behind it a record may wait for
 abbrev pub most_lag : CommandOptions → ℕ
 most_lag (told.Context options) = MOST_WAITING
 most_lag (told.Yank options) = MOST_WAITING
 most_lag _ = 0
-
--- which command it is
-abbrev pub command_of : CommandOptions → Command
-command_of (told.Rid options) = name.Rid
-command_of (told.Extract options) = name.Extract
-command_of (told.Ditto options) = name.Ditto
-command_of (told.Timebase options) = name.Timebase
-command_of (told.Context options) = name.Context
-command_of (told.Trans options) = name.Trans
-command_of (told.Semits options) = name.Semits
-command_of (told.Mint options) = name.Mint
-command_of (told.Recip options) = name.Recip
-command_of (told.Yank options) = name.Yank
-command_of (told.Cleave options) = name.Cleave

@@ -11,7 +11,7 @@ use Rattle.hum_stage.specs.Decided.{at_once}
 use Rattle.hum_cells.specs.Rewriting.{Renamed, Rewriting, is_kern, rewrite}
 use Rattle.hum_tones.specs.Commands.{trans, semits, mint, recip}
 use Rattle.hum_choices.specs.declared.CommandOptions.{CommandOptions}
-use Rattle.hum_choices.specs.declared.CommandOptions.TheVariants.{Rid, Extract, Ditto, Timebase, Context, Trans, Semits, Mint, Recip, Yank, Cleave}
+use Rattle.hum_choices.specs.declared.CommandOptions.TheVariants.{Trans, Semits, Mint, Recip}
 use Rattle.hum_commands.specs.Meaning.{meaning, MakesScores}
 use Rattle.hum_laws.specs.declared.given.Given.{Given}
 use Rattle.hum_laws.specs.Piped.{IsAlone, IsPiped}
@@ -32,28 +32,14 @@ naming : (stage : ℕ) (options : CommandOptions) → NamesColumns options → N
 naming stage (Semits options) h = record { command = name.Semits; other = codes "**semits"; becomes = (semits options).becomes; is = refl; apart = refl }
 naming stage (Mint options) h = record { command = name.Mint; other = codes "**mint"; becomes = (mint options).becomes; is = refl; apart = refl }
 naming stage (Recip options) h = record { command = name.Recip; other = codes "**recip"; becomes = (recip options).becomes; is = refl; apart = refl }
-naming stage (Rid options) h = absurd h
-naming stage (Extract options) h = absurd h
-naming stage (Ditto options) h = absurd h
-naming stage (Timebase options) h = absurd h
-naming stage (Context options) h = absurd h
-naming stage (Trans options) h = absurd h
-naming stage (Yank options) h = absurd h
-naming stage (Cleave options) h = absurd h
+naming stage _ h = absurd h
 
 -- it makes scores of scores
 pub makes_scores : (options : CommandOptions) → NamesColumns options → MakesScores options
-makes_scores (Semits options) h = tt
-makes_scores (Mint options) h = tt
-makes_scores (Recip options) h = tt
-makes_scores (Rid options) h = absurd h
-makes_scores (Extract options) h = absurd h
-makes_scores (Ditto options) h = absurd h
-makes_scores (Timebase options) h = absurd h
-makes_scores (Context options) h = absurd h
-makes_scores (Trans options) h = absurd h
-makes_scores (Yank options) h = absurd h
-makes_scores (Cleave options) h = absurd h
+makes_scores (Semits options) h = refl
+makes_scores (Mint options) h = refl
+makes_scores (Recip options) h = refl
+makes_scores _ h = absurd h
 
 record Telling (stage : ℕ) (options : CommandOptions) : Type 0 where
   command : Command
@@ -65,13 +51,7 @@ telling stage (Trans options) h = record { command = name.Trans; rewriting = tra
 telling stage (Semits options) h = record { command = name.Semits; rewriting = semits options; is = refl }
 telling stage (Mint options) h = record { command = name.Mint; rewriting = mint options; is = refl }
 telling stage (Recip options) h = record { command = name.Recip; rewriting = recip options; is = refl }
-telling stage (Rid options) h = absurd h
-telling stage (Extract options) h = absurd h
-telling stage (Ditto options) h = absurd h
-telling stage (Timebase options) h = absurd h
-telling stage (Context options) h = absurd h
-telling stage (Yank options) h = absurd h
-telling stage (Cleave options) h = absurd h
+telling stage _ h = absurd h
 
 pub told_once : (first second : CommandOptions) (p : List Row) (once twice : Given) → NamesColumns first → IsOnNotes second
     → IsAlone (meaning 1 first) p once → IsPiped (meaning 1 first) (meaning 2 second) p twice → KeepsScore (meaning 1 first).outcomes → IsScore p

@@ -36,7 +36,7 @@ use Rattle.hum_ditto.specs.Ditto.{new_tokens, ditto}
 use Rattle.hum_stage.specs.Limits.{if_fits}
 use Rattle.hum_tones.specs.Commands.{trans, semits, mint, recip}
 use Rattle.hum_choices.specs.declared.CommandOptions.{CommandOptions}
-use Rattle.hum_choices.specs.declared.CommandOptions.TheVariants.{Rid, Extract, Ditto, Timebase, Context, Trans, Semits, Mint, Recip, Yank, Cleave}
+use Rattle.hum_choices.specs.declared.CommandOptions.TheVariants.{Extract, Ditto, Cleave, Trans, Semits, Mint, Recip}
 use Rattle.hum_commands.specs.Meaning.{meaning, MakesScores}
 use Rattle.hum_laws.specs.declared.given.Given.{Given}
 use Rattle.hum_laws.specs.Piped.{IsPiped}
@@ -271,23 +271,17 @@ telling (Semits options) h = record {
 }
 telling (Mint options) h = record { command = name.Mint; decide = rewrite (mint options); is = λ stage. refl; by_tokens = notes_by_tokens (mint options) }
 telling (Recip options) h = record { command = name.Recip; decide = rewrite (recip options); is = λ stage. refl; by_tokens = notes_by_tokens (recip options) }
-telling (Rid options) h = absurd h
-telling (Timebase options) h = absurd h
-telling (Context options) h = absurd h
-telling (Yank options) h = absurd h
+telling _ h = absurd h
 
 pub tells_scores : (options : CommandOptions) → TellsByTokens options → MakesScores options
-tells_scores (Extract choice) h = tt
-tells_scores (Ditto options) h = tt
-tells_scores (Cleave options) h = tt
-tells_scores (Trans options) h = tt
-tells_scores (Semits options) h = tt
-tells_scores (Mint options) h = tt
-tells_scores (Recip options) h = tt
-tells_scores (Rid options) h = absurd h
-tells_scores (Timebase options) h = absurd h
-tells_scores (Context options) h = absurd h
-tells_scores (Yank options) h = absurd h
+tells_scores (Extract choice) h = refl
+tells_scores (Ditto options) h = refl
+tells_scores (Cleave options) h = refl
+tells_scores (Trans options) h = refl
+tells_scores (Semits options) h = refl
+tells_scores (Mint options) h = refl
+tells_scores (Recip options) h = refl
+tells_scores _ h = absurd h
 
 -- In front of such a command or behind it, it is the same.
 pub dropped_either_side : (options : CommandOptions) → TellsByTokens options → (p : List Row) (one other : Given)

@@ -18,7 +18,7 @@ use Rattle.hum_plan.specs.Stages as plan
 use Rattle.hum_plan.specs.Seen.{stages_of, stage_of, options_of}
 use Rattle.hum_nodes.specs.Trees.{part_at, kind_of, kind_at, sources_of, IsPart, IsRead, IsReadAt, IsTree}
 use Rattle.hum_net.specs.Nodes.{AreNarrow}
-use Rattle.hum_net.specs.Commands.{means}
+use Rattle.hum_commands.specs.Meaning.{means}
 use Rattle.hum_net.specs.Parts.{part_by, part_of, parts_from, parts_of, first_of, IsSoundBy, AreSoundFrom, AllGiveScores}
 
 -- How often a number is among others.

@@ -1,27 +1,16 @@
 -- What a plan means is valid Humdrum.
-use Rattle.std.proofs.Common.{subst, ℕ, suc, ◌+◌, List, [], ◌∷◌}
+use Rattle.std.proofs.Common.{ℕ, suc, ◌+◌, List, [], ◌∷◌}
 use Rattle.hum_record.specs.Row.{Row}
-use Rattle.hum_stage.specs.Meaning.{Meaning}
-use Rattle.hum_commands.specs.Meaning.{meaning as meaning_told}
-use Rattle.hum_choices.specs.declared.CommandOptions.{CommandOptions}
 use Rattle.hum_turns.specs.Flow.{Flow}
-use Rattle.hum_choices.specs.Options.{options_of}
 use Rattle.hum_nodes.specs.Fine.{IsFine}
 use Rattle.hum_nodes.specs.Trees.{meaning_of, IsTree}
-use Rattle.hum_valid.specs.Records.{AreRecords, KeepsRecords}
+use Rattle.hum_valid.specs.Records.{AreRecords}
 use Rattle.hum_valid.specs.Trees.{Keeps, AllKeep}
 use Rattle.hum_valid.proofs.Again.{read_again}
 use Rattle.hum_valid.proofs.Trees.{tree_records}
 use Rattle.hum_plan.specs.Stages as plan
 use Rattle.hum_net.specs.Parts.{part_by, parts_from, parts_of, KeepsRecordsBy, AllKeepRecords}
 use Rattle.hum_net.specs.Runs.{IsValid}
-use Rattle.hum_net.proofs.Meaning.{means_is}
-
--- a command keeps to them by what a plan's text tells it, as by what it is told
-pub command_keeps : (options : CommandOptions) → ((number : ℕ) → KeepsRecords (meaning_told number options).outcomes)
-    → KeepsRecordsBy (plan.Takes (options_of options))
-command_keeps options h =
-    λ number. subst (λ (m : Meaning). KeepsRecords m.outcomes) (means_is number options) (h number)
 
 -- the stages of a plan
 

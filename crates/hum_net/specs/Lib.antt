@@ -1,5 +1,4 @@
 -- What is said of plans as nets, and of their runs.
-pub mod Commands
 pub mod Parts
 pub mod Nodes
 pub mod Runs

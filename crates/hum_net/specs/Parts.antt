@@ -2,11 +2,11 @@
 use Rattle.std.specs.Prelude.{◌≡◌, ℕ, suc, pred, ◌+◌, false, List, [], ◌∷◌, map}
 use Rattle.std.specs.List.{AllByRecursion}
 use Rattle.hum_stage.specs.Meaning.{IsLawful, KeepsScore}
+use Rattle.hum_commands.specs.Meaning.{means}
 use Rattle.hum_plan.specs.Stages.{Stage, Options, Read, Assemble, Takes}
 use Rattle.hum_plan.specs.Stages.{IsStage, drops_interpretations}
 use Rattle.hum_nodes.specs.Trees.{Part, Reads, Through, Beside}
 use Rattle.hum_valid.specs.Records.{KeepsRecords}
-use Rattle.hum_net.specs.Commands.{means}
 
 -- the first of some numbers, which count from 1, counted from 0
 abbrev pub first_of : List ℕ → ℕ

@@ -7,7 +7,7 @@ use Rattle.hum_stage.specs.Meaning.{Meaning}
 use Rattle.hum_choices.specs.Options as meant
 use Rattle.hum_nodes.specs.Trees.{Part, Through, Beside}
 use Rattle.hum_plan.specs.Stages.{Stage, Options, Read, Assemble, Takes, MayHave, IsTree}
-use Rattle.hum_net.specs.Commands.{means}
+use Rattle.hum_commands.specs.Meaning.{means}
 use Rattle.hum_net.specs.Parts.{part_by, part_of, parts_from, parts_of, first_of}
 use Rattle.hum_net.proofs.Treeing.{parts_length}
 use Rattle.hum_pipes.specs.Piped.{moved_part}
@@ -21,16 +21,7 @@ moved_meaning n m = record m { stage = m.stage + n }
 means_moved : (k n : ℕ) (options : meant.Options) → means (k + n) options ≡ moved_meaning n (means k options)
 unfolding moved_meaning
 means_moved k n (meant.Rid options) = refl
-means_moved k n (meant.Extract choice) = refl
-means_moved k n (meant.Ditto options) = refl
-means_moved k n (meant.Timebase pace) = refl
-means_moved k n (meant.Context span omit) = refl
-means_moved k n (meant.Trans steps semitones) = refl
-means_moved k n (meant.Semits options) = refl
-means_moved k n (meant.Mint options) = refl
-means_moved k n meant.Recip = refl
-means_moved k n (meant.Yank markers ranges) = refl
-means_moved k n (meant.Cleave options) = refl
+means_moved k n _ = refl
 
 -- Its sources count from 1.
 

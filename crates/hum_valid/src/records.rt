@@ -30,17 +30,7 @@ fn cleave_is_lawful(told: &CleaveOptions)
 pub fn commands_keep_records(options: &CommandOptions)
     ensures { (number : ℕ) → KeepsRecords (meaning number options.now).outcomes }
 {
-    match options {
-        CommandOptions::Cleave(told) => cleave_is_lawful(told),
-        CommandOptions::Rid(_) => (),
-        CommandOptions::Extract(_) => (),
-        CommandOptions::Ditto(_) => (),
-        CommandOptions::Timebase(_) => (),
-        CommandOptions::Context(_) => (),
-        CommandOptions::Trans(_) => (),
-        CommandOptions::Semits(_) => (),
-        CommandOptions::Mint(_) => (),
-        CommandOptions::Recip(_) => (),
-        CommandOptions::Yank(_) => (),
+    if let CommandOptions::Cleave(told) = options {
+        cleave_is_lawful(told)
     }
 }

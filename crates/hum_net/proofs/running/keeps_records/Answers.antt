@@ -1,5 +1,4 @@
-use Rattle.hum_net.proofs.Valid.{command_keeps}
 use Rattle.hum_net.proofs.running.keeps_records.Goals as goal
 
 pub returns-in-Command : goal.returns-in-Command
-returns-in-Command c = rw c.in-Command.is (command_keeps c.in-Command.options c.commands_keep_records.ensures)
+returns-in-Command c = rw c.in-Command.is c.commands_keep_records.ensures
