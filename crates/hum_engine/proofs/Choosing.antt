@@ -267,12 +267,16 @@ module _ {S R W O : Type 0} (stands : Node S R → List ℕ → At → Type 0)
           }
 
       -- and the run is over
-      pub stepped_over : is_over ≡ true
-          → HasStepped stands remaining contents flushed order p q look look net behind is_over
-      stepped_over is =
-          stepped_by look behind refl refl
+      pub stepped_out : is_over ≡ true → (after : Option Search)
+          → HasStepped stands remaining contents flushed order p q look after net behind is_over
+      stepped_out is after =
+          stepped_by after behind refl refl
           (λ start s now n none sees goes.
           absurd (false≢true (sym (n.goes.tells ∙ ap is_some goes) ∙ is)))
+
+      pub stepped_over : is_over ≡ true
+          → HasStepped stands remaining contents flushed order p q look look net behind is_over
+      stepped_over is = stepped_out is look
 
       -- a moment of it, while the run goes on
       next_now : is_over ≡ false → (start : Option (List ℕ)) × (s : Scene) × (now : Now Row)

@@ -1,6 +1,9 @@
 pub mod Moving
 pub mod Polling
 pub mod Feeding
+pub mod Handing
+pub mod HandingOn
+pub mod HandingTo
 pub mod Taking
 pub mod Acting
 pub mod Turning

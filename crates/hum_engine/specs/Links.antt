@@ -1,5 +1,5 @@
 -- How a link stands for what has passed over it.
-use Rattle.std.specs.Prelude.{◌≡◌, ℕ, Bool, nat_lt, List, [], ◌∷◌, length, Option, Some, None}
+use Rattle.std.specs.Prelude.{◌≡◌, ℕ, Bool, nat_lt, List, [], ◌∷◌, ◌++◌, length, Option, Some, None}
 use Rattle.hum_record.specs.Row.{Row}
 use Rattle.hum_engine.specs.Traffic.{Traffic}
 use Rattle.hum_engine.specs.declared.link.Link.{Link}
@@ -11,6 +11,15 @@ pub record IsLink (size : ℕ) (link : Link) (l : Traffic) : Type 0 where
   pub capacity : link.waiting.capacity ≡ size
   pub mark : link.mark ≡ l.mark
   pub heard : link.heard ≡ l.heard
+
+-- No record waits on it, and its end isn't set.
+pub record IsIdle (link : Link) : Type 0 where
+  pub empty : link.waiting.items ≡ []
+  pub unset : link.mark ≡ None
+
+-- the link with a record more
+abbrev pub loaded : Row → Link → Link
+loaded row link = record link { waiting = record link.waiting { items = link.waiting.items ++ row ∷ [] } }
 
 -- whether a record more has room
 abbrev pub room : Link → Bool

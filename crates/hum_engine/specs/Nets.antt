@@ -29,9 +29,11 @@ use Rattle.hum_nodes.specs.Nodes.{is_source, remaining_of}
 use Rattle.hum_engine.specs.declared.web.Web.{Web}
 use Rattle.hum_engine.specs.declared.net.Net.{Net}
 use Rattle.hum_engine.specs.declared.net.Turned.{Turned}
+use Rattle.hum_engine.specs.declared.net.Handed.{Handed}
+use Rattle.hum_engine.specs.declared.net.Handed.TheVariants as handed
 use Rattle.hum_engine.specs.Readers.{ended_at, remaining_at, calls_at, failed_at, is_read_of, is_write, ShowsSame}
 use Rattle.hum_engine.specs.Scene.{Scene, plan_of, moved, before_all, Stands, IsAt, IsNetPlan, IsBegun, Done}
-use Rattle.hum_engine.specs.Scene.{MayTurn, IsActor, AreTakers, TakesFrom, IsFull, HasRoom}
+use Rattle.hum_engine.specs.Scene.{MayTurn, IsActor, AreTakers, TakesFrom, IsFull, HasRoom, HasIdleLink}
 use Rattle.hum_engine.specs.declared.search.Search.{Search}
 use Rattle.hum_engine.specs.Search.{IsNearer, left_to_ask}
 
@@ -226,21 +228,48 @@ pub record HasGone {S R W : Type 0} (stands : Node S R → List ℕ → At → T
   pub full : answer.is_full ≡ true → IsFull k new.web
   pub room : answer.has_taken ≡ true → (answer.link < k) × HasRoom answer.link new.web
 
--- Stage k was ready and has had its turn, in which it has changed its own link.
-pub record HasGivenOn {S R W : Type 0} (stands : Node S R → List ℕ → At → Type 0)
-    (remaining : R → Option (List ℕ)) (contents : W → Option (List ℕ)) (flushed : W → Bool) (k : ℕ)
-    (old new : Net S R W) : Type 0 where
+-- Actor k was ready and has had its turn, in which it has changed this link.
+pub record HasMoved {S R W : Type 0} (stands : Node S R → List ℕ → At → Type 0)
+    (remaining : R → Option (List ℕ)) (contents : W → Option (List ℕ)) (flushed : W → Bool)
+    (k link : ℕ) (old new : Net S R W) (is_over : Bool) : Type 0 where
   pub ready : AtEach stands contents flushed old (λ start s now. result (plan_of s) now ≡ None
-      → (k < s.count) × (is_ready (plan_of s) s.size now k ≡ true))
-  pub turned : HasTurned stands remaining contents flushed k old new false
-  pub link : (s : Scene) → IsActor stands k old.web s → IsChanged k s new.failure k
+      → is_ready (plan_of s) s.size now k ≡ true)
+  pub turned : HasTurned stands remaining contents flushed k old new is_over
+  pub changes : (s : Scene) → IsActor stands k old.web s → IsChanged k s new.failure link
   pub turns : new.turns ≡ old.turns + 1
 
--- That, or nothing has moved. Nothing has failed, and nothing was written.
+-- Stage k has given a record onto its link, and actor t has taken it from there: the net between the two.
+pub record HasHandedOn {S R W : Type 0} (stands : Node S R → List ℕ → At → Type 0)
+    (remaining : R → Option (List ℕ)) (contents : W → Option (List ℕ)) (flushed : W → Bool) (k t : ℕ)
+    (old new : Net S R W) (is_over : Bool) : Type 0 where
+  pub between : Net S R W
+  pub given : HasMoved stands remaining contents flushed k k old between false
+  pub taken : HasMoved stands remaining contents flushed t k between new is_over
+  pub takers : between.takers ≡ old.takers
+
+-- A failed read or write has ended the run exactly where a call has failed; who takes from whom is as it was.
+pub record MarksFailures {S R W : Type 0} (failed : R → Bool) (broken : W → Bool) (old new : Net S R W)
+    : Type 0 where
+  pub reads : (i : ℕ) → failed_at failed i new.web.nodes.items
+      ≡ (failed_at failed i old.web.nodes.items || is_read_of i new.failure)
+  pub writes : broken new.sink ≡ (broken old.sink || is_write new.failure)
+  pub takers : new.takers ≡ old.takers
+
+-- What has come of a record that was to be handed on from stage k to actor t: both have had their turns; or
+-- there was none, and stage k alone has had its turn.
+abbrev pub HasHanded : {S R W : Type 0} → (Node S R → List ℕ → At → Type 0) → (R → Option (List ℕ))
+    → (W → Option (List ℕ)) → (W → Bool) → ℕ → ℕ → Net S R W → Net S R W → Handed → Type 0
+HasHanded stands remaining contents flushed k t old new (handed.On is_over) =
+    HasHandedOn stands remaining contents flushed k t old new is_over
+HasHanded stands remaining contents flushed k t old new (handed.Alone is_over) =
+    HasMoved stands remaining contents flushed k k old new is_over
+
+-- A stage has had a turn in which it has changed its own link, or nothing has moved. Nothing has failed, and
+-- nothing was written.
 pub record HasRefilled {S R W : Type 0} (stands : Node S R → List ℕ → At → Type 0)
     (remaining : R → Option (List ℕ)) (failed : R → Bool) (contents : W → Option (List ℕ))
     (flushed broken : W → Bool) (k : ℕ) (old new : Net S R W) : Type 0 where
-  pub given : HasGivenOn stands remaining contents flushed k old new ⊎ (new ≡ old)
+  pub given : HasMoved stands remaining contents flushed k k old new false ⊎ (new ≡ old)
   pub reads : (i : ℕ) → failed_at failed i new.web.nodes.items ≡ failed_at failed i old.web.nodes.items
   pub sink : new.sink ≡ old.sink
   pub failure : new.failure ≡ old.failure
@@ -391,6 +420,14 @@ pub record MayStep {S R W : Type 0} (stands : Node S R → List ℕ → At → T
       → result (plan_of (scene rests over)) (now rests over) ≡ None
   pub sees : (rests : ℕ → List ℕ) (over : AreOver net.web.nodes.items rests)
       → Sees look (scene rests over) (now rests over) net
+
+-- The run goes on however the bytes do, and this is a stage on whose link nothing lies.
+pub record MayHand {S R W : Type 0} (stands : Node S R → List ℕ → At → Type 0)
+    (contents : W → Option (List ℕ)) (flushed : W → Bool) (k : ℕ) (net : Net S R W) : Type 0 where
+  pub look : Option Search
+  pub step : MayStep stands contents flushed look net
+  pub less : k < length net.web.nodes.items
+  pub idle : HasIdleLink k net.web
 
 -- Nodes that were asked nothing yet, of a plan by what is still to come of the bytes.
 pub record AreBegun {S R : Type 0} (stands : Node S R → List ℕ → At → Type 0) (size : ℕ)

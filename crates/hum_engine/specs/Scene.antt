@@ -1,7 +1,8 @@
 -- What nodes and links stand for.
 use Rattle.std.specs.Prelude.{◌≡◌, ◌≢◌, ◌⊎◌, ℕ, ◌+◌, ◌<◌, ◌≤◌, Bool, true, false}
 use Rattle.std.specs.Prelude.{if◌then◌else◌, nat_eq, nat_lt, List, [], ◌++◌}
-use Rattle.std.specs.Prelude.{length, map, Option, Some, slice_get}
+use Rattle.std.specs.Prelude.{length, map, Option, Some, slice_get, slice_index}
+use Rattle.std.specs.Vec.{with_item}
 use Rattle.std.specs.Io.KnownBytes.{Consumes, IsAtEnd}
 use Rattle.hum_record.specs.Row.{Row}
 use Rattle.hum_stage.specs.Lag.{LagsAtMost}
@@ -11,16 +12,17 @@ use Rattle.hum_turns.specs.Near.{IsOneOf}
 use Rattle.hum_turns.specs.Links.{Moment, given, view, IsOpening}
 use Rattle.hum_turns.specs.Turns.{State, state, can, ready, Does, Step, Run}
 use Rattle.hum_nodes.specs.Fine.{fine}
-use Rattle.hum_nodes.specs.At.{Kind, At, HoldsOneEach, IsLimited, doing_of, readiness_of, holds_of}
+use Rattle.hum_nodes.specs.At.{Kind, At, HoldsOneEach, IsLimited, doing_of, readiness_of, holds_of, sources_of}
 use Rattle.hum_nodes.specs.At.{fresh as fresh_at}
 use Rattle.hum_nodes.specs.Single.{single}
 use Rattle.hum_nodes.specs.Doing.{Doing}
+use Rattle.hum_nodes.specs.Doing as does
 use Rattle.hum_nodes.specs.declared.node.Readiness.{Readiness}
 use Rattle.hum_nodes.specs.declared.node.Readiness.TheVariants as kinds
 use Rattle.hum_nodes.specs.declared.node.Node.{Node}
 use Rattle.hum_nodes.specs.Nodes.{is_source, remaining_of, ended_of}
 use Rattle.hum_engine.specs.declared.link.Link.{Link}
-use Rattle.hum_engine.specs.Links.{IsLink, room}
+use Rattle.hum_engine.specs.Links.{IsLink, IsIdle, loaded, room}
 use Rattle.hum_engine.specs.declared.web.Web.{Web}
 
 -- A moment of a plan, with the bytes that each source has still to read: how many stages, what each
@@ -218,6 +220,37 @@ pub record IsFull {S R : Type 0} (k : ℕ) (web : Web S R) : Type 0 where
   pub its : slice_get web.links.items k ≡ Some link
   pub full : room link ≡ false
 
+-- The web with this record more on the link of stage k, which is this one.
+abbrev pub laid : {S R : Type 0} → ℕ → Row → Link → Web S R → Web S R
+laid k row link web = record web { links = with_item web.links k (loaded row link) }
+
+-- Nothing lies on the link of stage k, no end either.
+pub record HasIdleLink {S R : Type 0} (k : ℕ) (web : Web S R) : Type 0 where
+  pub link : Link
+  pub its : slice_get web.links.items k ≡ Some link
+  pub idle : IsIdle link
+
+-- Stage k takes from the link of this stage next, at this place.
+pub record WantsFrom {S R : Type 0} (stands : Node S R → List ℕ → At → Type 0) (k place source : ℕ)
+    (web : Web S R) : Type 0 where
+  pub node : Node S R
+  pub is : slice_get web.nodes.items k ≡ Some node
+  pub kind : is_source node ≡ false
+  pub wants : (rest : List ℕ) (t : At) → stands node rest t → doing_of t ≡ does.Wants place
+  pub from : (rest : List ℕ) (t : At) → stands node rest t → slice_index (sources_of t) place ≡ source
+
+-- Stage k takes this record next, which would be alone on the link that it takes from.
+pub record IsOffered {S R : Type 0} (stands : Node S R → List ℕ → At → Type 0) (k place : ℕ) (row : Row)
+    (web : Web S R) : Type 0 where
+  pub source : ℕ
+  pub link : Link
+  pub its : slice_get web.links.items source ≡ Some link
+  pub empty : link.waiting.items ≡ []
+  pub wants : WantsFrom stands k place source web
+  pub scene : Scene
+  pub at : IsAt stands (laid source row link web) scene
+  pub less : k < scene.count
+
 -- Only the node of stage k may have changed.
 abbrev pub KeepsOthers : {S R : Type 0} → ℕ → Web S R → Web S R → Type 0
 KeepsOthers k old new =
@@ -287,3 +320,16 @@ pub record Fed {S R : Type 0} (stands : Node S R → List ℕ → At → Type 0)
   pub still : ended_of node ≡ true → (read ≡ []) × (ended_of after ≡ true)
   pub turns : (s : Scene) → (ended_of after ≡ true → s.rests k ≡ [])
       → MayTurn stands k old (before read k s) → Stepped stands k new s
+
+-- Stage k has had its turn and has given this record, but that the record doesn't lie on its link.
+abbrev pub HandsOut : {S R : Type 0} → (Node S R → List ℕ → At → Type 0) → (R → Option (List ℕ)) → ℕ → Row
+    → Web S R → Web S R → Type 0
+HandsOut stands remaining k row old new =
+    (link : Link) → slice_get new.links.items k ≡ Some link → Fed stands remaining k old (laid k row link new)
+
+-- Stage k has had its turn, in which it has taken this record from a link on which it would have been alone.
+abbrev pub HasAccepted : {S R : Type 0} → (Node S R → List ℕ → At → Type 0) → (R → Option (List ℕ)) → ℕ → ℕ
+    → Row → Web S R → Web S R → Type 0
+HasAccepted stands remaining k place row old new =
+    (source : ℕ) (link : Link) → slice_get old.links.items source ≡ Some link → link.waiting.items ≡ []
+    → WantsFrom stands k place source old → Fed stands remaining k (laid source row link old) new

@@ -52,6 +52,10 @@ changed look end =
     if nat_eq end look.from then record look { behind = kept_behind look.side look }
     else record look { from = end; behind = look.from }
 
+-- The actor that was asked has given a record to this one, which is asked next.
+abbrev pub handed : Search → ℕ → Search
+handed look taker = record look { from = taker; behind = away look.side taker }
+
 -- The same where the actor can't go on until a record is taken from its own link: it isn't asked again.
 abbrev pub skipped_left : Search → ℕ → Search
 skipped_left look link = if nat_eq link look.from then passed look else record look { from = link }

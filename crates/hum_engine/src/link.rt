@@ -4,7 +4,7 @@ ghost use Rattle.std.specs.Prelude.{nat_lt, length};
 ghost use Rattle.hum_turns.specs.Links.{fresh, linked, has_room, has_some};
 ghost use Rattle.hum_turns.specs.Turns.{pushed, popped};
 ghost use Rattle.hum_engine.specs.Traffic.{Traffic, ended};
-ghost use Rattle.hum_engine.specs.Links.{IsLink, Tells, Goes, room, next_of};
+ghost use Rattle.hum_engine.specs.Links.{IsLink, IsIdle, Tells, Goes, room, next_of};
 
 use circular_buffer::HeapCircularBuffer;
 use hum_record::Record;
@@ -45,6 +45,14 @@ impl Link {
         ensures pushed { Goes self.old self.new (λ l. pushed l row) }
     {
         let _refused = self.waiting.try_push_back(row);
+    }
+
+    /// Whether no record waits and no end is set.
+    #[inline(always)]
+    pub fn is_idle(&self) -> bool
+        ensures { result ≡ true → IsIdle self.now }
+    {
+        self.waiting.is_empty() && self.mark.is_none()
     }
 
     /// Takes the record that has waited longest. Where none waits the end is heard, if it was set.

@@ -1,7 +1,7 @@
 //! A web whose last stage is written.
 ghost use Rattle.std.specs.Prelude.{◌≡◌, ◌≢◌, ◌≤◌, ◌<◌, ◌+◌, ◌-◌, ◌||◌, ℕ, List, [], Option, None, Some};
 ghost use Rattle.std.specs.Prelude.{IfSome, IfOk, IfErr, length, is_some, true, false};
-ghost use Rattle.std.specs.Prelude.{slice_set};
+ghost use Rattle.std.specs.Prelude.{slice_get, slice_set};
 ghost use Rattle.hum_record.specs.Row.{Row, text_of};
 ghost use Rattle.hum_turns.specs.Links.{linked};
 ghost use Rattle.hum_turns.specs.declared.result.RunResult.TheVariants as ends;
@@ -13,6 +13,7 @@ ghost use Rattle.hum_engine.specs.Readers.{ShowsSame, remaining_at, ended_at, ca
 ghost use Rattle.hum_engine.specs.Readers.{is_read_of, is_write};
 ghost use Rattle.hum_engine.specs.Scene.{Scene, plan_of, Somewhere, IsActor, IsAt, IsNetPlan, IsBegun, MayTurn};
 ghost use Rattle.hum_engine.specs.Scene.{KeepsOthers, Fed, held_of, HoldsFew, DoesNext, IsFull, HasRoom};
+ghost use Rattle.hum_engine.specs.Scene.{IsKind, IsOffered, HasAccepted, WantsFrom};
 ghost use Rattle.hum_turns.specs.Plan.{last};
 ghost use Rattle.hum_engine.specs.Search.{is_left};
 ghost use Rattle.hum_engine.specs.Nets.{MayWrite, CallsSink, SinkWent, MayTurnFew, MayGo, IsRunning};
@@ -21,7 +22,7 @@ ghost use Rattle.hum_turns.specs.Holds.{SomeReady};
 ghost use Rattle.hum_engine.specs.Nets.{WroteFront, IsGoing, IsChanged};
 ghost use Rattle.hum_engine.specs.Nets.{IsAmong, NetAt, AreBegun, RunsBy, IsNet};
 ghost use Rattle.hum_engine.specs.Nets.{Sees, MayPick, HasPicked, MayAsk, HasGone, HasRefilled, MayStep, HasStepped};
-ghost use Rattle.hum_engine.specs.Nets.{IsCloser, AsksLittle, AtEach};
+ghost use Rattle.hum_engine.specs.Nets.{IsCloser, AsksLittle, AtEach, MayHand, HasHanded, HasHandedOn, MarksFailures};
 
 use crate::search::Search;
 use crate::takers::takers_of;
@@ -29,6 +30,7 @@ use crate::web::Web;
 use crate::writing::write_record;
 use hum_nodes::{Node, Readiness};
 use hum_read::ReadError;
+use hum_record::Record;
 use hum_stage::Stage;
 use hum_text::calls::{Sink, Source};
 use hum_turns::{Order, RunResult, choose};
@@ -67,6 +69,15 @@ struct Stepped {
     is_over: bool,
     /// Whether a record was taken from a link.
     has_taken: bool,
+}
+
+/// What has come of a stage's record that was to be handed on, and whether the run is over.
+#[derive(Clone, Copy)]
+enum Handed {
+    /// It was taken.
+    On(bool),
+    /// There was none, and the stage alone has had its turn.
+    Alone(bool),
 }
 
 impl<S: Stage + Drop, R: Source + Drop, W: Sink> Net<S, R, W> {
@@ -364,6 +375,159 @@ impl<S: Stage + Drop, R: Source + Drop, W: Sink> Net<S, R, W> {
         }
     }
 
+    // A stage takes a record that was handed to it, and tells whether the run is over.
+    #[inline(always)]
+    fn accept(&mut self, k: usize, place: usize, row: Record) -> bool
+        requires none { self.old.failure ≡ None }
+        requires offered { IsOffered (StandsAs S.stands) k place row self.old.web }
+        ensures ok { result ≡ false → (self.new ≡ record self.old { web = self.new.web })
+            × HasAccepted (StandsAs S.stands) R.remaining k place row self.old.web self.new.web }
+        ensures err { result ≡ true → self.new ≡ record self.old { web = self.new.web; failure = Some ends.Memory } }
+        ensures others { KeepsOthers k self.old.web self.new.web }
+        ensures links { self.new.web.links ≡ self.old.web.links }
+        ensures marks { failed_at R.failed k self.new.web.nodes.items
+            ≡ failed_at R.failed k self.old.web.nodes.items }
+        ensures stays { HasStayed (ended_at k self.old.web.nodes.items) (ended_at k self.new.web.nodes.items)
+            (remaining_at R.remaining k self.old.web.nodes.items)
+            (remaining_at R.remaining k self.new.web.nodes.items) }
+    {
+        match self.web.accept(k, place, row) {
+            Ok(()) => false,
+            Err(_) => {
+                self.fail_for_memory();
+                true
+            }
+        }
+    }
+
+    // The turn of a stage that has its next record at hand, and behind it that of the stage that takes from it
+    // next; or nothing.
+    #[inline(always)]
+    fn hand_to_stage(&mut self, k: usize, taker: usize, place: usize) -> Option<bool>
+        requires may { MayHand (StandsAs S.stands) W.contents W.flushed k self.old }
+        requires wants { WantsFrom (StandsAs S.stands) taker place k self.old.web }
+        ensures handed { IfSome result (HasHandedOn (StandsAs S.stands) R.remaining
+            W.contents W.flushed k taker self.old self.new) }
+        ensures marks { IfSome result (λ is_over. MarksFailures R.failed W.failed self.old self.new) }
+        ensures turns { IfSome result (λ is_over. self.new.turns ≡ self.old.turns + 2) }
+        ensures same { result ≡ None → self.new ≡ self.old }
+    {
+        let row = self.web.hand_out(k)?;
+        self.turns += 2;
+        Some(self.accept(taker, place, row))
+    }
+
+    // The same of a source, which reads where it has no record at hand.
+    #[inline(always)]
+    fn read_to_stage(&mut self, k: usize, taker: usize, place: usize) -> Handed
+        requires may { MayHand (StandsAs S.stands) W.contents W.flushed k self.old }
+        requires source { IsKind true k self.old.web }
+        requires wants { WantsFrom (StandsAs S.stands) taker place k self.old.web }
+        ensures handed { HasHanded (StandsAs S.stands) R.remaining W.contents W.flushed k taker
+            self.old self.new result }
+        ensures marks { MarksFailures R.failed W.failed self.old self.new }
+        ensures turns { self.old.turns < self.new.turns }
+    {
+        match self.web.fetch(k) {
+            Ok(Some(row)) => {
+                self.turns += 2;
+                Handed::On(self.accept(taker, place, row))
+            }
+            Ok(None) => {
+                self.turns += 1;
+                Handed::Alone(false)
+            }
+            Err(ReadError::Read) => {
+                self.turns += 1;
+                self.fail_to_read(k);
+                Handed::Alone(true)
+            }
+            Err(ReadError::Memory) => {
+                self.turns += 1;
+                self.fail_for_memory();
+                Handed::Alone(true)
+            }
+        }
+    }
+
+    // The same where it is the sink that takes from the stage. It isn't ready then.
+    #[inline(always)]
+    fn hand_to_sink(&mut self, k: usize, sink: usize) -> Option<bool>
+        requires may { MayHand (StandsAs S.stands) W.contents W.flushed k self.old }
+        requires sink { sink ≡ length self.old.web.nodes.items }
+        requires last { k + 1 ≡ sink }
+        ensures handed { IfSome result (HasHandedOn (StandsAs S.stands) R.remaining
+            W.contents W.flushed k sink self.old self.new) }
+        ensures marks { IfSome result (λ is_over. MarksFailures R.failed W.failed self.old self.new) }
+        ensures turns { IfSome result (λ is_over. self.new.turns ≡ self.old.turns + 2) }
+        ensures idle { IfSome result (λ is_over. AtEach (StandsAs S.stands) W.contents W.flushed self.new
+            (λ start s now. ended (plan_of s) now ≡ None
+            → is_ready (plan_of s) s.size now sink ≡ false)) }
+        ensures same { result ≡ None → self.new ≡ self.old }
+    {
+        let row = self.web.hand_out(k)?;
+        self.turns += 2;
+        match write_record(&mut self.sink, &row) {
+            Ok(()) => {
+                self.web.keep(row);
+                Some(false)
+            }
+            Err(_) => {
+                self.fail_to_write();
+                Some(true)
+            }
+        }
+    }
+
+    // From the right, the turn of a stage whose link is idle and, behind it, that of who takes from it and waits
+    // for a record: they were to be asked next in any case. Tells whether the run is over, or nothing has moved.
+    #[inline(always)]
+    fn hand_on<O: Order>(&mut self, order: &O, search: &mut Option<Search>) -> Option<bool>
+        requires may { MayStep (StandsAs S.stands) W.contents W.flushed search.old self.old }
+        requires leans { IfSome search.old
+            (λ search. LeansTo search.side O.picks O.after order.now) }
+        ensures stepped { IfSome result (HasStepped (StandsAs S.stands) R.remaining W.contents W.flushed
+            (record { pick = O.picks; next = O.after }) order.now order.now search.old
+            search.new self.old self.new) }
+        ensures leans { IfSome search.new
+            (λ search. LeansTo search.side O.picks O.after order.now) }
+        ensures turns { IfSome result (λ is_over. self.old.turns < self.new.turns) }
+        ensures marks { IfSome result (λ is_over. MarksFailures R.failed W.failed self.old self.new) }
+        ensures same { result ≡ None → (self.new ≡ self.old) × (search.new ≡ search.old) }
+    {
+        let Some(look) = search else {
+            return None;
+        };
+        let k = look.from();
+        let sink = self.web.count();
+        if look.is_left() || k == sink || !self.web.is_idle(k) {
+            return None;
+        }
+        if k + 1 == sink {
+            let is_over = self.hand_to_sink(k, sink)?;
+            look.hand(sink);
+            look.pass();
+            return Some(is_over);
+        }
+        let taker = self.takers[k];
+        let place = self.web.wants_from(taker, k)?;
+        if self.web.is_source(k) {
+            return Some(match self.read_to_stage(k, taker, place) {
+                Handed::On(is_over) => {
+                    look.hand(taker);
+                    is_over
+                }
+                Handed::Alone(is_over) => {
+                    look.change(k, &self.takers);
+                    is_over
+                }
+            });
+        }
+        let is_over = self.hand_to_stage(k, taker, place)?;
+        look.hand(taker);
+        Some(is_over)
+    }
+
     // Where a search from the left stands at a stage whose link has room, and that stage has taken its next
     // record ahead, it has its turn: it was to be asked next in any case.
     #[inline(always)]
@@ -392,7 +556,7 @@ impl<S: Stage + Drop, R: Source + Drop, W: Sink> Net<S, R, W> {
     // A step and, on the left, the turn of the stage onto whose link room has come by it, if that one has the
     // next record already. Tells whether the run is over.
     #[inline(always)]
-    fn advance<O: Order>(&mut self, order: &mut O, search: &mut Option<Search>) -> bool
+    fn step_on<O: Order>(&mut self, order: &mut O, search: &mut Option<Search>) -> bool
         requires may { MayStep (StandsAs S.stands) W.contents W.flushed search.old self.old }
         requires leans { IfSome search.old
             (λ search. LeansTo search.side O.picks O.after order.old) }
@@ -415,6 +579,29 @@ impl<S: Stage + Drop, R: Source + Drop, W: Sink> Net<S, R, W> {
             self.go_on(order, search);
         }
         false
+    }
+
+    // From the right a record that is handed on, or else a step. Tells whether the run is over.
+    #[inline(always)]
+    fn advance<O: Order>(&mut self, order: &mut O, search: &mut Option<Search>) -> bool
+        requires may { MayStep (StandsAs S.stands) W.contents W.flushed search.old self.old }
+        requires leans { IfSome search.old
+            (λ search. LeansTo search.side O.picks O.after order.old) }
+        ensures stepped { HasStepped (StandsAs S.stands) R.remaining W.contents W.flushed
+            (record { pick = O.picks; next = O.after }) order.old order.new search.old
+            search.new self.old self.new result }
+        ensures leans { IfSome search.new
+            (λ search. LeansTo search.side O.picks O.after order.new) }
+        ensures closer { IsCloser search.old search.new self.old self.new result }
+        ensures reads { (i : ℕ) → failed_at R.failed i self.new.web.nodes.items
+            ≡ (failed_at R.failed i self.old.web.nodes.items || is_read_of i self.new.failure) }
+        ensures writes { W.failed self.new.sink
+            ≡ (W.failed self.old.sink || is_write self.new.failure) }
+    {
+        match self.hand_on(order, search) {
+            Some(is_over) => is_over,
+            None => self.step_on(order, search),
+        }
     }
 
     /// Makes the turns that the order picks, to the end of the run.

@@ -1,7 +1,7 @@
 //! Where a run by an order that leans to a side looks for an actor that is ready.
 ghost use Rattle.std.specs.Prelude.{◌≡◌, ◌<◌, ◌-◌, ◌^◌, ℕ, Some, length, slice_get};
 ghost use Rattle.hum_engine.specs.Search.{beginning, away, outer, passed, changed, skipped, kept_behind};
-ghost use Rattle.hum_engine.specs.Search.{skipped_left, is_left};
+ghost use Rattle.hum_engine.specs.Search.{skipped_left, handed, is_left};
 
 use hum_turns::Side;
 
@@ -94,6 +94,16 @@ impl Search {
             self.behind = self.from;
             self.from = outer;
         }
+    }
+
+    /// It has given a record to this actor, which has taken it: two turns.
+    #[inline(always)]
+    pub fn hand(&mut self, taker: usize)
+        requires { taker < 2 ^ 64 - 1 }
+        ensures { self.new ≡ handed self.old taker }
+    {
+        self.from = taker;
+        self.behind = away(self.side, taker);
     }
 
     // The actor that is asked behind one that is asked again.

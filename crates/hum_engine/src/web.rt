@@ -1,7 +1,7 @@
 //! Nodes and their links.
-ghost use Rattle.std.specs.Prelude.{◌≡◌, ◌≢◌, ◌≤◌, ◌<◌, ◌⊎◌, ℕ, true, false, slice_index, length};
-ghost use Rattle.std.specs.Prelude.{IfSome, is_some, ◌-◌};
-ghost use Rattle.std.specs.Prelude.{IfOk, OnOk, OnErr, Err, Some, ◌||◌};
+ghost use Rattle.std.specs.Prelude.{◌≡◌, ◌≢◌, ◌≤◌, ◌<◌, ◌⊎◌, ℕ, [], true, false, slice_index, slice_get, length};
+ghost use Rattle.std.specs.Prelude.{IfSome, MatchOption, is_some, ◌-◌};
+ghost use Rattle.std.specs.Prelude.{IfOk, OnOk, OnErr, Err, Some, None, ◌||◌};
 ghost use Rattle.hum_turns.specs.Turns.{Gives, Takes, Ends, state, can, ready};
 ghost use Rattle.hum_turns.specs.Plan.{last};
 ghost use Rattle.hum_turns.specs.Near.{touched};
@@ -15,6 +15,7 @@ ghost use Rattle.hum_engine.specs.Scene.{Scene, plan_of, Somewhere, IsAt, IsActo
 ghost use Rattle.hum_engine.specs.Scene.{IsKind, Keeps, KeepsOthers, Fed, Done, IsAbout};
 ghost use Rattle.hum_engine.specs.Scene.{IsAboutKind, IsDoing, DoesNext, HasActor};
 ghost use Rattle.hum_engine.specs.Scene.{IsBegun, Stands, HasStage, held_of, HasFullLink, IsFull, HasRoom};
+ghost use Rattle.hum_engine.specs.Scene.{HasIdleLink, HandsOut, WantsFrom, IsOffered, HasAccepted};
 ghost use Rattle.hum_engine.specs.Readers.{ShowsSame, remaining_at, ended_at, calls_at, failed_at};
 ghost use Rattle.hum_nodes.specs.Polls.{AsksAtMostOnce, HasStayed, is_failed_read};
 
@@ -93,6 +94,43 @@ impl<S: Stage + Drop, R: Source + Drop> Web<S, R> {
         ensures full { result ≡ true → HasFullLink k self.now }
     {
         gives && !self.links[k].has_room()
+    }
+
+    /// A turn of a source, which changes its own link, but that the record which it gives, if it gives one,
+    /// doesn't come to lie there.
+    ///
+    /// # Errors
+    /// A failed read, and running out of memory.
+    #[inline(always)]
+    pub fn fetch(&mut self, k: usize) -> Result<Option<Record>, ReadError>
+        requires turn { Somewhere (MayTurn (StandsAs S.stands) k self.old) }
+        requires source { IsKind true k self.old }
+        ensures fetched { IfOk result (λ given. MatchOption given
+            (Fed (StandsAs S.stands) R.remaining k self.old self.new)
+            (λ row. HandsOut (StandsAs S.stands) R.remaining k row self.old self.new)) }
+        ensures links { IfOk result (λ given. IfSome given (λ row. self.new.links ≡ self.old.links)) }
+        ensures others { KeepsOthers k self.old self.new }
+        ensures marks { failed_at R.failed k self.new.nodes.items
+            ≡ (failed_at R.failed k self.old.nodes.items || is_failed_read result) }
+        ensures calls { AsksAtMostOnce (calls_at R.calls k self.old.nodes.items)
+            (failed_at R.failed k self.old.nodes.items) (calls_at R.calls k self.new.nodes.items)
+            (failed_at R.failed k self.new.nodes.items) }
+        ensures stays { OnErr result (HasStayed (ended_at k self.old.nodes.items)
+            (ended_at k self.new.nodes.items)
+            (remaining_at R.remaining k self.old.nodes.items)
+            (remaining_at R.remaining k self.new.nodes.items)) }
+    {
+        match self.nodes[k].next(&mut self.pool) {
+            Some(row) => Ok(Some(row)),
+            None => match self.nodes[k].stopped() {
+                Some(Ok(end)) => {
+                    self.links[k].end(end);
+                    Ok(None)
+                }
+                Some(Err(error)) => Err(error),
+                None => Ok(None),
+            },
+        }
     }
 
     // A turn of a source, which changes its own link.
@@ -400,6 +438,89 @@ impl<S: Stage + Drop, R: Source + Drop> Web<S, R> {
         let row = self.nodes[k].take_ahead();
         self.links[k].push(row);
         true
+    }
+
+    /// Whether nothing lies on the link of a stage, no end either.
+    #[inline(always)]
+    pub fn is_idle(&self, k: usize) -> bool
+        requires { k < length self.now.links.items }
+        ensures { result ≡ true → HasIdleLink k self.now }
+    {
+        self.links[k].is_idle()
+    }
+
+    /// Whether a stage reads bytes.
+    #[inline(always)]
+    pub fn is_source(&self, k: usize) -> bool
+        requires { k < length self.now.nodes.items }
+        ensures { IsKind result k self.now }
+    {
+        self.nodes[k].is_source()
+    }
+
+    /// The record that a stage gives next, if it has taken that ahead. It is the turn of that stage, but that
+    /// the record doesn't come to lie on its link, which is idle. Where there is none nothing changes.
+    #[inline(always)]
+    pub fn hand_out(&mut self, k: usize) -> Option<Record>
+        requires at { Somewhere (HasActor (StandsAs S.stands) k self.old) }
+        requires idle { HasIdleLink k self.old }
+        ensures ready { IfSome result (λ row. (s : Scene) → IsAt (StandsAs S.stands) self.old s
+            → MayTurn (StandsAs S.stands) k self.old s) }
+        ensures given { IfSome result (λ row.
+            HandsOut (StandsAs S.stands) R.remaining k row self.old self.new) }
+        ensures touches { IfSome result (λ row. (s : Scene) → IsActor (StandsAs S.stands) k self.old s
+            → k ≡ touched k (state (plan_of s) s.links k)) }
+        ensures links { self.new.links ≡ self.old.links }
+        ensures others { KeepsOthers k self.old self.new }
+        ensures marks { failed_at R.failed k self.new.nodes.items
+            ≡ failed_at R.failed k self.old.nodes.items }
+        ensures same { result ≡ None → self.new ≡ self.old }
+    {
+        if !self.nodes[k].gives_ahead() {
+            return None;
+        }
+        Some(self.nodes[k].take_ahead())
+    }
+
+    /// The place at which a stage takes from another next, if it does.
+    #[inline(always)]
+    pub fn wants_from(&self, k: usize, source: usize) -> Option<usize>
+        requires { Somewhere (IsAt (StandsAs S.stands) self.now) }
+        ensures { IfSome result (λ place. WantsFrom (StandsAs S.stands) k place source self.now) }
+    {
+        if k >= self.nodes.len() {
+            return None;
+        }
+        match self.nodes[k].readiness() {
+            Readiness::Wants(place) => {
+                if self.nodes[k].source() == source {
+                    return Some(place);
+                }
+                None
+            }
+            Readiness::Gives | Readiness::Reads | Readiness::Done => None,
+        }
+    }
+
+    /// The turn of a stage that takes this record, which is alone on a link, though it never came to lie there.
+    ///
+    /// # Errors
+    /// Out of memory.
+    #[inline(always)]
+    pub fn accept(&mut self, k: usize, place: usize, row: Record) -> Result<(), AllocError>
+        requires { IsOffered (StandsAs S.stands) k place row self.old }
+        ensures accepted { OnOk result
+            (HasAccepted (StandsAs S.stands) R.remaining k place row self.old self.new) }
+        ensures others { KeepsOthers k self.old self.new }
+        ensures links { self.new.links ≡ self.old.links }
+        ensures marks { failed_at R.failed k self.new.nodes.items
+            ≡ failed_at R.failed k self.old.nodes.items }
+        ensures stays { HasStayed (ended_at k self.old.nodes.items) (ended_at k self.new.nodes.items)
+            (remaining_at R.remaining k self.old.nodes.items)
+            (remaining_at R.remaining k self.new.nodes.items) }
+    {
+        self.nodes[k].put(place, row, &mut self.pool)?;
+        Ok(())
     }
 
     /// Whether an actor is ready.

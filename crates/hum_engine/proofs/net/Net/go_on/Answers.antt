@@ -36,7 +36,7 @@ returns-then-is_left-clause-stepped g c =
     (λ given. subst (λ l. HasStepped stands remaining contents flushed order o o look l net new false) (sym c.in-Some.is)
     (stepped_on stands remaining contents flushed order look by.from o o net c.requires.may who
     (λ isnt. absurd (none-some by (sym isnt ∙ c.in-Some.is))) by.from false new
-    (λ start s now h none within. (given.ready start s now h none).1) given.link given.turned refl by by c.in-Some.is
+    (λ start s now h none within. given.ready start s now h none) given.changes given.turned refl by by c.in-Some.is
     (λ taker at. stays_there by by.from taker (sym c.is_left.ensures ∙ c.if-is_left.true) refl)))
     (λ same. stepped_none stands remaining contents flushed order look o net new same)
     refilled.given

@@ -46,14 +46,11 @@ returns g c =
           ready = λ start s now h none.
               let stand = h.going (unfailed_now stands contents flushed start s net now k h none) in
               let less = within net.web.links.items k s.count its.link stand.as_many its.its in
-              let near : k ≤ s.count = omega (arith, less) in (
-                less,
-                sym (ready_by stands contents flushed start s net now k h true none near
-                    (λ t at. sym (e.ready refl t at.at).ready)),
-              );
+              sym (ready_by stands contents flushed start s net now k h true none (omega (arith, less))
+                  (λ t at. sym (e.ready refl t at.at).ready));
           turned = stage_turned stands g.R.Source.remaining contents flushed k net _ false None refl
               (λ here. omega (arith, less, count, here)) (λ is. e.fed refl) tt tt c.refill.ensures.others refl unfailed refl refl refl;
-          link = λ s actor. inl (e.link refl s actor);
+          changes = λ s actor. inl (e.link refl s actor);
           turns = refl;
         });
         reads = λ i. marks_by g.R.Source.failed k net.web.nodes.items c.refill.new.self.nodes.items None c.refill.ensures.others

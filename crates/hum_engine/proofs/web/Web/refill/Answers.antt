@@ -21,49 +21,8 @@ use Rattle.hum_engine.proofs.Polling.{state_gives}
 use Rattle.hum_engine.proofs.Stepping.{about_by, has_done}
 use Rattle.hum_engine.proofs.Turning.{stage_fed, stage_ready, act_marks}
 use Rattle.hum_engine.proofs.Netting.{or_false}
+use Rattle.hum_engine.proofs.Handing.{doing, may_give, may_turn}
 use Rattle.hum_engine.proofs.web.Web.refill.Goals as goal
-
--- A link that has room has room in the plan.
-room_in : {S R : Type 0} (stands : Node S R → List ℕ → At → Type 0) (k : ℕ) (web : Web S R) (s : Scene) (link : port.Link)
-    → Stands stands web s → slice_get web.links.items k ≡ Some link → room link ≡ true
-    → has_room s.size (s.links k) ≡ true
-room_in stands k web s link st at h =
-    let p = st.links k link at in
-    sym (ap (λ n. nat_lt n link.waiting.capacity) (ap length p.waiting)
-    ∙ ap (nat_lt (length (s.links k).waiting)) p.capacity) ∙ h
-
--- A node that has taken a record ahead is a stage that gives next, and can where its link has room.
-module _ {S R : Type 0} (stage : S → Moment → Type 0) (k : ℕ) (web : Web S R) (node : Node S R) (link : port.Link)
-    (is : is_source node ≡ false)
-    (gives : (rest : List ℕ) (t : At) → StandsAs stage node rest t → doing_of t ≡ does.Gives)
-    (there : slice_get web.nodes.items k ≡ Some node)
-    (its : slice_get web.links.items k ≡ Some link) (has : room link ≡ true)
-    (s : Scene) (at : IsAt (StandsAs stage) web s) (less : k < s.count) where
-  doing : IsDoing (StandsAs stage) k web kinds.Gives
-  doing = doing_is stage k web node kinds.Gives
-      (λ rest t stands. sym (ap (λ b. readiness_at b (doing_of t)) is ∙ ap (readiness_at false) (gives rest t stands)))
-      there s at less gives_not_reads
-
-  can_give : can s.size s.links k (state (plan_of s) s.links k) ≡ true
-  can_give =
-      let about = about_by (StandsAs stage) k web kinds.Gives s (doing.1 s at less) does.Gives (λ h. gives_of _ h) in
-      ap (can s.size s.links k) (state_gives s s.links k less about.does)
-      ∙ room_in (StandsAs stage) k web s link at.stand its has
-
-  may_give : MayAct (StandsAs stage) k does.Gives web s
-  may_give =
-      let about = about_by (StandsAs stage) k web kinds.Gives s (doing.1 s at less) does.Gives (λ h. gives_of _ h) in
-      record { at = at; less = less; bytes = about.bytes; does = about.does; can = can_give }
-
-  may_turn : MayTurn (StandsAs stage) k web s
-  may_turn =
-      let a = doing.1 s at less in
-      record {
-        at = at;
-        less = less;
-        ready = stage_ready (StandsAs stage) k web (doing_of (at_of s.kinds s.links k)) s (about_it (StandsAs stage) k kinds.Gives web s a)
-            ∙ can_give;
-      }
 
 pub returns-clause-ready : goal.returns-clause-ready
 returns-clause-ready g c has s at =

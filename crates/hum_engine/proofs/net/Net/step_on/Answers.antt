@@ -4,7 +4,7 @@ use Rattle.hum_nodes.specs.Nodes.{StandsAs}
 use Rattle.hum_engine.specs.Readers.{failed_at, is_read_of, is_write}
 use Rattle.hum_engine.specs.Nets.{HasStepped}
 use Rattle.hum_engine.proofs.Advancing.{stepped_twice, may_on}
-use Rattle.hum_engine.proofs.net.Net.advance.Goals as goal
+use Rattle.hum_engine.proofs.net.Net.step_on.Goals as goal
 
 pub go_on-requires-clause-may : goal.go_on-requires-clause-may
 go_on-requires-clause-may g c =
