@@ -5,9 +5,9 @@ use Rattle.std.proofs.lemmas.Option.{none-some, same_Some, slice_get_within, sli
 use Rattle.hum_record.specs.Row.{Row}
 use Rattle.hum_stage.specs.Meaning.{Moment}
 use Rattle.hum_turns.specs.Links.{has_room, view}
-use Rattle.hum_turns.specs.Turns.{Gives, Takes, can, state, pushed, popped}
+use Rattle.hum_turns.specs.Turns.{Takes, can, state, pushed, popped}
 use Rattle.hum_turns.specs.Near.{touched}
-use Rattle.hum_nodes.specs.At.{At, doing_of, sources_of, after_change, with_record, MayChange}
+use Rattle.hum_nodes.specs.At.{At, doing_of, after_change, with_record, MayChange}
 use Rattle.hum_nodes.specs.Doing as does
 use Rattle.hum_nodes.specs.Nodes.{StandsAs, is_source, readiness_at}
 use Rattle.hum_nodes.specs.declared.node.Node.{Node}
@@ -18,7 +18,7 @@ use Rattle.hum_engine.specs.declared.web.Web.{Web}
 use Rattle.hum_engine.specs.Links.{IsLink, IsIdle, Goes, Tells, next_of, loaded, room}
 use Rattle.hum_engine.specs.Traffic.{Traffic}
 use Rattle.hum_engine.specs.Scene.{Scene, plan_of, at_of, IsAt, IsKind, IsDoing, IsAbout, MayAct, MayTurn, Stands, Done, Fed, KeepsOthers, laid, WantsFrom, IsOffered}
-use Rattle.hum_engine.proofs.Acting.{keeps, gave, passing, Passing, may_take, passed}
+use Rattle.hum_engine.proofs.Acting.{keeps, passing, Passing, may_take, passed}
 use Rattle.hum_engine.proofs.Doings.{about_it, doing_is, gives_not_reads, gives_of}
 use Rattle.hum_engine.proofs.Moving.{set_here}
 use Rattle.hum_engine.proofs.Polling.{state_gives, state_takes}

@@ -10,8 +10,8 @@ use Rattle.hum_turns.specs.declared.result.RunResult.{RunResult}
 use Rattle.hum_turns.specs.declared.result.RunResult.TheVariants as ends
 use Rattle.hum_turns.specs.Failures.{Now, MayFail, ended_by, is_ready, result}
 use Rattle.hum_turns.specs.Plan.{last}
-use Rattle.hum_turns.specs.Links.{Link, has_some, has_room}
-use Rattle.hum_turns.specs.Turns.{Takes, state, ready}
+use Rattle.hum_turns.specs.Links.{has_some, has_room}
+use Rattle.hum_turns.specs.Turns.{Takes, state}
 use Rattle.hum_turns.specs.Near.{touched}
 use Rattle.hum_turns.proofs.Near.{ready_sink, source_touches}
 use Rattle.hum_turns.proofs.States.{source_is}
@@ -26,10 +26,10 @@ use Rattle.hum_engine.specs.declared.link.Link as port
 use Rattle.hum_engine.specs.declared.net.Net.{Net}
 use Rattle.hum_engine.specs.declared.search.Search.{Search}
 use Rattle.hum_engine.specs.declared.web.Web.{Web}
-use Rattle.hum_engine.specs.Links.{IsIdle, next_of, loaded}
+use Rattle.hum_engine.specs.Links.{next_of, loaded}
 use Rattle.hum_engine.specs.Readers.{ShowsSame, remaining_at, ended_at, failed_at, is_read_of, is_write}
 use Rattle.hum_engine.specs.Scene.{Scene, plan_of, moved, before_all, laid, Somewhere, IsAt, IsActor, HasActor, MayTurn, KeepsOthers, Fed, WantsFrom, IsOffered, HasAccepted, Done, IsKind, HasIdleLink, at_of}
-use Rattle.hum_engine.specs.Nets.{NetAt, AreOver, MayStep, MayHand, HasMoved, HasHandedOn, MarksFailures, Failed, AtEach}
+use Rattle.hum_engine.specs.Nets.{NetAt, AreOver, MayStep, MayHand, HasMoved, HasHandedOn, MarksFailures, AtEach}
 use Rattle.hum_engine.specs.Writing.{WroteFront}
 use Rattle.hum_engine.proofs.Acting.{done_by}
 use Rattle.hum_engine.proofs.Bounds.{turns_few}
@@ -202,7 +202,7 @@ module _ {S R W : Type 0} (stage : S → Moment → Type 0) (remaining : R → O
         let count = (actor_now (StandsAs stage) contents flushed start s old now 0 h none (omega arith)).at.stand.count in
         let near : k ≤ s.count = omega (arith, less, count) in
         sym (ready_by (StandsAs stage) contents flushed start s old now k h true none near
-            (λ t at. sym (turns t at.at (below t at.at.stand.count)).ready));
+        (λ t at. sym (turns t at.at (below t at.at.stand.count)).ready));
     turned = stage_turned (StandsAs stage) remaining contents flushed k old (between k row link web old) false None refl
         (λ here. omega (arith, less, here)) (λ is. fed) tt tt others refl
         (unfailed (StandsAs stage) contents flushed look old may) refl refl refl;
@@ -252,7 +252,7 @@ module _ {S R W : Type 0} (stage : S → Moment → Type 0) (remaining : R → O
           let count = (actor_now (StandsAs stage) contents flushed start s (between k row link web old) now 0 h none (omega arith)).at.stand.count in
           let below = takes_in s count in
           sym (ready_by (StandsAs stage) contents flushed start s (between k row link web old) now taker h true none (omega (arith, below))
-              (λ t at. sym (accept_turn stage taker place k row web link its empty w t at.at (takes_in t at.at.stand.count)).ready))
+          (λ t at. sym (accept_turn stage taker place k row web link its empty w t at.at (takes_in t at.at.stand.count)).ready))
 
       isnt_sink : taker ≡ length web.nodes.items → ⊥
       isnt_sink here = let same = many in omega (arith, takes, here, same)
@@ -361,7 +361,7 @@ module _ {S R W : Type 0} (stage : S → Moment → Type 0) (remaining : R → O
           ap (λ o. is_none o && (nat_lt 0 (length l.waiting) || is_some l.mark)) (heard_none now.failure l.heard none)
           ∙ ap (λ (ws : List Row). nat_lt 0 (length ws) || is_some l.mark) (waits (moved s now.links) at) in
           sym (ready_going (StandsAs stage) contents flushed start s (between k row link web old) now sink h None true (sym none) refl
-              (sym (ready_sink (plan_of s) s.size sink now.links (omega (arith, own, count)) ∙ some)))
+          (sym (ready_sink (plan_of s) s.size sink now.links (omega (arith, own, count)) ∙ some)))
 
       touches_last : (s : Scene) → IsActor (StandsAs stage) sink (laid k row link web) s
           → k ≡ touched sink (state (plan_of s) s.links sink)
@@ -413,8 +413,8 @@ module _ {S R W : Type 0} (stage : S → Moment → Type 0) (remaining : R → O
             ap (λ (ws : List Row). is_none l.heard && (nat_lt 0 (length ws) || is_some l.mark)) (sym p.waiting ∙ empty)
             ∙ ap (λ m. is_none l.heard && is_some m) (sym p.mark ∙ unset) ∙ and_false (is_none l.heard) in
             sym (ready_going (StandsAs stage) contents flushed start s new now sink h None false (sym none) refl
-                (sym (ready_sink (plan_of s) s.size sink now.links (omega (arith, own, count))
-                ∙ subst (λ i. has_some (now.links i) ≡ false) (last_is s count) quiet)))
+            (sym (ready_sink (plan_of s) s.size sink now.links (omega (arith, own, count))
+            ∙ subst (λ i. has_some (now.links i) ≡ false) (last_is s count) quiet)))
 
 -- A source on whose link nothing lies is ready.
 module _ {S R : Type 0} (stage : S → Moment → Type 0) (k : ℕ) (web : Web S R) (source : IsKind true k web) where
@@ -457,7 +457,7 @@ module _ {S R W : Type 0} (stage : S → Moment → Type 0) (remaining : R → O
       let count = (actor_now (StandsAs stage) contents flushed start s old now 0 h none (omega arith)).at.stand.count in
       let less = in_scene s count in
       sym (ready_by (StandsAs stage) contents flushed start s old now k h true none (omega (arith, less))
-          (λ t at. sym (source_reads stage k old.web source t at.at (in_scene t at.at.stand.count) m.idle).ready))
+      (λ t at. sym (source_reads stage k old.web source t at.at (in_scene t at.at.stand.count) m.idle).ready))
 
   pub read_on : new.failure ≡ old.failure → Fed (StandsAs stage) remaining k old.web new.web
       → HasMoved (StandsAs stage) remaining contents flushed k k old new false

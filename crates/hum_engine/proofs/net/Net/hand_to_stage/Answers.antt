@@ -1,5 +1,4 @@
-use Rattle.std.proofs.Common.{◌≡◌, ◌∙◌, ◌||◌, ◌+◌, Bool, true, false, None, Some, refl, sym, ap, slice_get, arith}
-use Rattle.hum_turns.specs.declared.result.RunResult.TheVariants as ends
+use Rattle.std.proofs.Common.{◌∙◌, ap, slice_get, arith}
 use Rattle.hum_nodes.proofs.Standing.{reads_few}
 use Rattle.hum_nodes.specs.Nodes.{StandsAs}
 use Rattle.hum_engine.proofs.Handing.{wants_within, wants_above, wants_still}

@@ -1,4 +1,4 @@
-use Rattle.std.proofs.Common.{◌≡◌, ◌∙◌, ◌||◌, ◌+◌, ◌<◌, Bool, true, false, None, Some, Ok, Err, refl, sym, ap, subst, slice_get, arith}
+use Rattle.std.proofs.Common.{◌∙◌, ◌||◌, ◌+◌, Err, refl, sym, ap, slice_get, arith}
 use Rattle.std.proofs.lemmas.Bool.{eq-eqb, ne_eqb}
 use Rattle.hum_turns.specs.declared.result.RunResult.TheVariants as ends
 use Rattle.hum_nodes.proofs.Standing.{reads_few}

@@ -1,4 +1,4 @@
-use Rattle.std.proofs.Common.{◌∙◌, ◌≤◌, false, true, None, refl, sym, arith, inl}
+use Rattle.std.proofs.Common.{◌∙◌, false, true, None, refl, sym, arith, inl}
 use Rattle.hum_nodes.proofs.Standing.{reads_few}
 use Rattle.hum_nodes.specs.Nodes.{StandsAs}
 use Rattle.hum_engine.specs.Scene.{moved}
@@ -47,7 +47,7 @@ returns g c =
               let stand = h.going (unfailed_now stands contents flushed start s net now k h none) in
               let less = within net.web.links.items k s.count its.link stand.as_many its.its in
               sym (ready_by stands contents flushed start s net now k h true none (omega (arith, less))
-                  (λ t at. sym (e.ready refl t at.at).ready));
+              (λ t at. sym (e.ready refl t at.at).ready));
           turned = stage_turned stands g.R.Source.remaining contents flushed k net _ false None refl
               (λ here. omega (arith, less, count, here)) (λ is. e.fed refl) tt tt c.refill.ensures.others refl unfailed refl refl refl;
           changes = λ s actor. inl (e.link refl s actor);

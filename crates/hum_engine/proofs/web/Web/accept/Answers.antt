@@ -1,7 +1,7 @@
 use Rattle.std.proofs.Common.{◌∙◌, ℕ, List, [], refl, sym, subst}
 use Rattle.std.specs.Vec.{with_item}
 use Rattle.std.proofs.lemmas.Option.{same_Some}
-use Rattle.hum_nodes.specs.At.{At, HasPut}
+use Rattle.hum_nodes.specs.At.{HasPut}
 use Rattle.hum_nodes.specs.Nodes.{StandsAs}
 use Rattle.hum_nodes.proofs.Standing.{any_rest}
 use Rattle.hum_engine.specs.Scene.{at_of}

@@ -1,11 +1,10 @@
-use Rattle.std.proofs.Common.{◌∙◌, Some, arith, inl, refl, sym, ap}
+use Rattle.std.proofs.Common.{◌∙◌, Some, arith, refl, sym, ap}
 use Rattle.hum_read.specs.Reading.{Gave, ReadOn, Ended}
 use Rattle.hum_nodes.specs.Nodes.{StandsAs, is_source, stopped_of}
-use Rattle.hum_nodes.proofs.Standing.{source_bytes}
 use Rattle.hum_engine.specs.Scene.{at_of}
-use Rattle.hum_engine.proofs.Moving.{set_here, set_other}
+use Rattle.hum_engine.proofs.Moving.{set_other}
 use Rattle.hum_engine.proofs.Feeding.{still_here, polled_marks, polled_calls, polled_stays}
-use Rattle.hum_engine.proofs.Feeding.{fed, node_at, link_at, source_room, link_of}
+use Rattle.hum_engine.proofs.Feeding.{fed, node_at, link_at, link_of}
 use Rattle.hum_engine.specs.Links.{loaded}
 use Rattle.hum_engine.proofs.Handing.{goes_loaded}
 use Rattle.hum_engine.proofs.web.Web.fetch.Goals as goal

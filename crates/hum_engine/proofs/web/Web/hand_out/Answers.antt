@@ -5,7 +5,6 @@ use Rattle.hum_turns.specs.Turns.{Gives}
 use Rattle.hum_turns.specs.Near.{touched}
 use Rattle.hum_nodes.specs.Nodes.{StandsAs}
 use Rattle.hum_engine.specs.Links.{IsIdle, loaded}
-use Rattle.hum_engine.specs.Scene.{laid}
 use Rattle.hum_engine.proofs.Acting.{keeps, gave}
 use Rattle.hum_engine.proofs.Feeding.{node_at, within}
 use Rattle.hum_engine.proofs.Handing.{room_idle, doing, may_give, may_turn, goes_loaded}

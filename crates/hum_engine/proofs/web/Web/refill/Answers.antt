@@ -1,25 +1,13 @@
-use Rattle.std.proofs.Common.{◌≡◌, ◌∙◌, ◌<◌, ℕ, length, true, false, List, Some, slice_get, refl, sym, ap}
-use Rattle.std.specs.Prelude.{nat_lt}
+use Rattle.std.proofs.Common.{◌∙◌, Some, refl, sym, ap}
 use Rattle.std.specs.Vec.{with_item}
-use Rattle.hum_stage.specs.Meaning.{Moment}
-use Rattle.hum_turns.specs.Links.{has_room}
-use Rattle.hum_turns.specs.Turns.{Gives, can, state}
+use Rattle.hum_turns.specs.Turns.{Gives}
 use Rattle.hum_turns.specs.Near.{touched}
-use Rattle.hum_nodes.specs.At.{At, doing_of}
-use Rattle.hum_nodes.specs.Doing as does
-use Rattle.hum_nodes.specs.Nodes.{StandsAs, is_source, readiness_at}
-use Rattle.hum_nodes.specs.declared.node.Node.{Node}
-use Rattle.hum_nodes.specs.declared.node.Readiness.TheVariants as kinds
-use Rattle.hum_engine.specs.declared.link.Link as port
-use Rattle.hum_engine.specs.declared.web.Web.{Web}
-use Rattle.hum_engine.specs.Links.{room}
-use Rattle.hum_engine.specs.Scene.{Scene, plan_of, at_of, IsAt, IsDoing, MayAct, MayTurn, Stands}
+use Rattle.hum_nodes.specs.Nodes.{StandsAs}
 use Rattle.hum_engine.proofs.Acting.{keeps, gave}
-use Rattle.hum_engine.proofs.Doings.{about_it, doing_is, gives_not_reads, gives_of}
 use Rattle.hum_engine.proofs.Feeding.{node_at, link_at, within}
 use Rattle.hum_engine.proofs.Polling.{state_gives}
-use Rattle.hum_engine.proofs.Stepping.{about_by, has_done}
-use Rattle.hum_engine.proofs.Turning.{stage_fed, stage_ready, act_marks}
+use Rattle.hum_engine.proofs.Stepping.{has_done}
+use Rattle.hum_engine.proofs.Turning.{stage_fed, act_marks}
 use Rattle.hum_engine.proofs.Netting.{or_false}
 use Rattle.hum_engine.proofs.Handing.{doing, may_give, may_turn}
 use Rattle.hum_engine.proofs.web.Web.refill.Goals as goal

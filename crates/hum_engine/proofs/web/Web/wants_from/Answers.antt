@@ -37,6 +37,6 @@ returns-then-source g c =
       wants = wants;
       from = λ rest t h.
           sym (c.source.ensures (ap is_source (sym same) ∙ kind) rest t c.in-Wants.place
-              (subst (λ n. StandsAs g.S.Stage.stands n rest t) same h) (wants rest t h))
+          (subst (λ n. StandsAs g.S.Stage.stands n rest t) same h) (wants rest t h))
           ∙ c.if-source.true;
     }
