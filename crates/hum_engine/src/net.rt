@@ -81,8 +81,7 @@ enum Handed {
 }
 
 impl<S: Stage + Drop, R: Source + Drop, W: Sink> Net<S, R, W> {
-    // Both tell in place how they failed: an answer would be taken to pieces as small as a fault's
-    // fields, at each turn.
+    // Both tell in place how they failed: an answer would be copied at each turn, field by field.
 
     // The sink's turn, and whether the run is over.
     #[inline(always)]
@@ -122,8 +121,7 @@ impl<S: Stage + Drop, R: Source + Drop, W: Sink> Net<S, R, W> {
         true
     }
 
-    // A read of a stage has failed, or memory is wanting: that ends the run. It happens once, so no turn has
-    // a place for how it ended.
+    // A failed read, or running out of memory, ends the run. It happens once, so no turn has a place for it.
     #[inline(never)]
     fn fail_to_read(&mut self, k: usize)
         requires { k < 255 }
@@ -400,8 +398,7 @@ impl<S: Stage + Drop, R: Source + Drop, W: Sink> Net<S, R, W> {
         }
     }
 
-    // The turn of a stage that has its next record at hand, and behind it that of the stage that takes from it
-    // next; or nothing.
+    // The turn of a stage that has its next record at hand and, behind it, that of the stage which takes it; or nothing.
     #[inline(always)]
     fn hand_to_stage(&mut self, k: usize, taker: usize, place: usize) -> Option<bool>
         requires may { MayHand (StandsAs S.stands) W.contents W.flushed k self.old }
@@ -528,8 +525,7 @@ impl<S: Stage + Drop, R: Source + Drop, W: Sink> Net<S, R, W> {
         Some(is_over)
     }
 
-    // Where a search from the left stands at a stage whose link has room, and that stage has taken its next
-    // record ahead, it has its turn: it was to be asked next in any case.
+    // From the left a stage whose link has room, and which has its next record, has its turn: it was to be asked next.
     #[inline(always)]
     fn go_on<O: Order>(&mut self, order: &O, search: &Option<Search>)
         requires may { MayStep (StandsAs S.stands) W.contents W.flushed search.now self.old }
@@ -553,8 +549,7 @@ impl<S: Stage + Drop, R: Source + Drop, W: Sink> Net<S, R, W> {
         }
     }
 
-    // A step and, on the left, the turn of the stage onto whose link room has come by it, if that one has the
-    // next record already. Tells whether the run is over.
+    // A step and, on the left, the turn of the stage onto whose link room has come. Tells whether the run is over.
     #[inline(always)]
     fn step_on<O: Order>(&mut self, order: &mut O, search: &mut Option<Search>) -> bool
         requires may { MayStep (StandsAs S.stands) W.contents W.flushed search.old self.old }
@@ -654,8 +649,7 @@ impl<S: Stage + Drop, R: Source + Drop, W: Sink> Net<S, R, W> {
         self.turns += 1;
     }
 
-    /// One turn of an actor that is ready: a stage by its number, from 0, or the sink by the number of
-    /// stages.
+    /// One turn of an actor that is ready: a stage by its number, from 0, or the sink by the number of stages.
     pub fn turn(&mut self, k: usize) -> Turned
         requires { MayGo (StandsAs S.stands) W.contents W.flushed k self.old }
         ensures gone { HasGone (StandsAs S.stands) R.remaining R.failed
@@ -711,8 +705,7 @@ impl<S: Stage + Drop, R: Source + Drop, W: Sink> Net<S, R, W> {
         }
     }
 
-    /// Whether an actor is ready: a stage, or the sink by the number of stages. Once the run has
-    /// ended none is.
+    /// Whether an actor is ready: a stage, or the sink by the number of stages. Once the run has ended none is.
     pub fn ready(&self, k: usize) -> bool
         requires { IsAmong (StandsAs S.stands) W.contents W.flushed k self.now }
         ensures { AtEach (StandsAs S.stands) W.contents W.flushed self.now
@@ -742,8 +735,7 @@ impl<S: Stage + Drop, R: Source + Drop, W: Sink> Net<S, R, W> {
         sink
     }
 
-    /// How many turns were made: until a failure no more than the bytes, the records and the ends
-    /// that were moved allow.
+    /// How many turns were made: until a failure no more than the bytes, records and ends that were moved allow.
     pub fn turns(&self) -> u64
         ensures count { result ≡ self.now.turns }
         ensures turns { (start : Option (List ℕ)) (s : Scene) (now : Now Row)
