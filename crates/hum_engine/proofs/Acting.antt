@@ -1,10 +1,10 @@
 -- What a web stands for after an actor has done something.
 use Rattle.std.proofs.Common.{◌≡◌, ◌∙◌, ℕ, zero, suc, pred, ◌-◌, ◌<◌, Bool, true, false}
-use Rattle.std.proofs.Common.{if◌then◌else◌, nat_lt, List, length, Option, Some, None, refl, sym, ap, subst}
+use Rattle.std.proofs.Common.{if◌then◌else◌, nat_lt, List, length, Option, Some, refl, sym, ap, subst}
 use Rattle.std.proofs.Common.{arith, get_or, slice_get, slice_set, slice_index, length-set, ⊎_elim, ltb-true}
 use Rattle.std.specs.Prelude.{MatchOption}
 use Rattle.std.proofs.lemmas.Bool.{cases_eq}
-use Rattle.std.proofs.lemmas.Option.{slice_get_cases, none-some}
+use Rattle.std.proofs.lemmas.Option.{slice_get_cases}
 use Rattle.hum_record.specs.Row.{Row}
 use Rattle.hum_stage.specs.declared.faults.End.{End}
 use Rattle.hum_turns.specs.Flow.{Flow}
@@ -13,11 +13,12 @@ use Rattle.hum_turns.specs.Links.{Link, Moment, given, view, has_some}
 use Rattle.hum_turns.specs.Turns.{State, Gives, Takes, Ends, marked, popped, pushed, can}
 use Rattle.hum_nodes.specs.Doing as does
 use Rattle.hum_nodes.specs.At.{At, doing_of, doing_by, output_of, after_change, HasTaken, MayChange}
-use Rattle.hum_nodes.specs.At.{with_record, with_end}
+use Rattle.hum_nodes.specs.At.{with_record}
 use Rattle.hum_nodes.specs.declared.node.Node.{Node}
 use Rattle.hum_nodes.specs.Nodes.{is_source}
 use Rattle.hum_engine.specs.declared.link.Link as port
-use Rattle.hum_engine.specs.Links.{IsLink, Goes, Tells, next_of, room}
+use Rattle.hum_engine.specs.declared.link.Taken.{Taken}
+use Rattle.hum_engine.specs.Links.{IsLink, Goes, Tells, next_of, room, taken_of}
 use Rattle.hum_engine.specs.Traffic.{ended}
 use Rattle.hum_engine.specs.declared.web.Web.{Web}
 use Rattle.hum_engine.specs.Scene.{Scene, plan_of, moved, at_of, NodesStand, LinksStand, Stands, Done}
@@ -26,8 +27,7 @@ use Rattle.hum_engine.proofs.Moving.{Did, put_at, put_becomes, at_same, ins_same
 use Rattle.hum_engine.proofs.Moving.{did_give, set_cases, set_other}
 use Rattle.hum_engine.proofs.Polling.{done_end, state_gives, state_takes}
 use Rattle.hum_engine.proofs.Feeding.{room_at}
-use Rattle.hum_engine.proofs.Taking.{did_sink, did_take, left, may_change, wants_at, next_record, next_end}
-use Rattle.hum_engine.proofs.Taking.{hears, some_mark}
+use Rattle.hum_engine.proofs.Taking.{did_sink, did_take, left, may_change, wants_at, next_record}
 
 module _ {S R : Type 0} (stands : Node S R → List ℕ → At → Type 0) (k : ℕ) (doing : State)
     (old new : Web S R) (s : Scene) where
@@ -78,10 +78,10 @@ module _ {S R : Type 0} (stands : Node S R → List ℕ → At → Type 0) (old 
       last_there goes at.reached.ok is_last)
       en el)
 
-  pub told : (answer : Option Row) → Tells link answer (λ size l. next_of l.waiting)
-      → answer ≡ next_of (s.links (last (plan_of s))).waiting
-  told answer tells =
-      subst (λ i. answer ≡ next_of (s.links i).waiting) is_last
+  pub told_taken : (answer : Taken) → Tells link answer (λ size l. taken_of l.waiting l.mark)
+      → answer ≡ taken_of (s.links (last (plan_of s))).waiting (s.links (last (plan_of s))).mark
+  told_taken answer tells =
+      subst (λ i. answer ≡ taken_of (s.links i).waiting (s.links i).mark) is_last
       (tells s.size (s.links (n - 1)) (at.stand.links (n - 1) link last_there))
 
 module _ {S R : Type 0} (stands : Node S R → List ℕ → At → Type 0) (web : Web S R) (s : Scene)
@@ -254,24 +254,6 @@ module _ {S R : Type 0} (stands : Node S R → List ℕ → At → Type 0) (k pl
 
     pub record_next : (x : Row) → answer ≡ Some x → view (left s i) ≡ with_record x (view (s.links i))
     record_next x e = next_record (s.links i) (s.links i).waiting x (sym e ∙ tells s.size (s.links i) here)
-
-    -- where no record waits, the end is heard
-    module _ (is : answer ≡ None) (after : port.Link) (goes : Goes link after (λ l. popped l l.waiting))
-        (heard : Option End) (told : Tells after heard (λ size l. l.heard)) where
-      no_record : None ≡ next_of (s.links i).waiting
-      no_record = sym is ∙ tells s.size (s.links i) here
-
-      heard_is : heard ≡ (s.links i).mark
-      heard_is = told s.size (popped (s.links i) (s.links i).waiting) (goes s.size (s.links i) here)
-          ∙ hears (s.links i) (s.links i).waiting no_record
-
-      pub end_next : (e : End) → heard ≡ Some e → view (left s i) ≡ with_end e (view (s.links i))
-      end_next e some = next_end (s.links i) (s.links i).waiting e no_record (sym heard_is ∙ some)
-
-      pub nothing_next : heard ≡ None → ⊥
-      nothing_next none =
-          let e = some_mark (s.links i) (s.links i).waiting refl no_record w.some in
-          none-some e.0 (sym none ∙ heard_is ∙ e.1)
 
   pub passed : (new : Web S R) (node after : Node S R) (i : ℕ) (link put : port.Link)
       (change : Flow Row → Flow Row) → MayAct stands k (does.Wants place) old s → Passing i link

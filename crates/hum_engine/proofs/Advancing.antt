@@ -1,5 +1,5 @@
 -- One step behind another.
-use Rattle.std.proofs.Common.{◌≡◌, ◌∙◌, ℕ, ◌<◌, Bool, true, false, List, [], ◌++◌, Option, nat_eq, refl, sym, ap, subst, append_assoc, arith}
+use Rattle.std.proofs.Common.{◌≡◌, ◌∙◌, ◌||◌, ℕ, ◌<◌, Bool, true, false, List, [], ◌++◌, Option, None, refl, sym, ap, subst, append_assoc, arith}
 use Rattle.std.proofs.lemmas.Bool.{false≢true, cond-true, cond-false, eq-eqb, ne_eqb}
 use Rattle.std.proofs.Math.Path.{fun_ext}
 use Rattle.std.specs.Prelude.{is_some}
@@ -10,12 +10,13 @@ use Rattle.hum_nodes.specs.declared.node.Node.{Node}
 use Rattle.hum_nodes.proofs.Followed.{read_none, read_more}
 use Rattle.hum_engine.specs.declared.net.Net.{Net}
 use Rattle.hum_engine.specs.declared.search.Search.{Search}
-use Rattle.hum_engine.specs.Search.{outer, changed, skipped, skipped_to, kept_behind, is_left}
+use Rattle.hum_engine.specs.Search.{outer, changed, passed, reached, skipped, skipped_to, kept_behind, is_left}
 use Rattle.hum_turns.specs.declared.order.Side.{Side}
 use Rattle.hum_turns.specs.declared.order.Side.TheVariants as side
 use Rattle.hum_engine.specs.Scene.{Scene, before_all}
-use Rattle.hum_engine.specs.Nets.{NetAt, AreOver, HasStepped, MayStep, Leads, Watches}
-use Rattle.hum_engine.proofs.Netting.{not_over}
+use Rattle.hum_engine.specs.Readers.{failed_at, is_read_of, is_write}
+use Rattle.hum_engine.specs.Nets.{NetAt, AreOver, HasStepped, MarksFailures, MayStep, Leads, Watches}
+use Rattle.hum_engine.proofs.Netting.{not_over, or_false}
 use Rattle.hum_engine.proofs.Running.{driven_on, seen}
 
 -- What a search from the left does behind a turn that has changed a link to the left of its actor.
@@ -26,19 +27,28 @@ left_is side.Right h = absurd (false≢true h)
 apart : (link from : ℕ) → link < from → link ≡ from → ⊥
 apart link from less e = omega (arith, less, e)
 
-pub from_changed : (look : Search) (link taker : ℕ) → is_left look.side ≡ true → link < look.from
-    → (changed look (outer look.side link taker)).from ≡ link
-from_changed look link taker left less =
-    let own : outer look.side link taker ≡ link = ap (λ s. outer s link taker) (left_is look.side left) in
-    let other : nat_eq (outer look.side link taker) look.from ≡ false =
-    ne_eqb _ look.from (λ e. apart link look.from less (sym own ∙ e)) in
-    ap (λ (to : Search). to.from) (cond-false _ _ _ other) ∙ own
+pub either : {P : Type 0} (b : Bool) → (b ≡ true → P) → (b ≡ false → P) → P
+either true f g = f refl
+either false f g = g refl
 
-pub from_skipped : (look : Search) (link taker : ℕ) → is_left look.side ≡ true → link < look.from
-    → (skipped look link taker).from ≡ link
-from_skipped look link taker left less =
-    ap (λ s. (skipped_to s look link taker).from) (left_is look.side left)
-    ∙ ap (λ (to : Search). to.from) (cond-false _ _ _ (ne_eqb link look.from (apart link look.from less)))
+-- Where it has taken a record and is held up, or isn't.
+pub reached_over : (look : Search) (link taker : ℕ) → is_left look.side ≡ true → link < look.from
+    → reached look link true ≡ skipped look link taker
+reached_over look link taker left less =
+    sym (ap (λ s. skipped_to s look link taker) (left_is look.side left)
+    ∙ cond-false _ _ _ (ne_eqb link look.from (apart link look.from less)))
+
+pub reached_on : (look : Search) (link taker : ℕ) → is_left look.side ≡ true → link < look.from
+    → reached look link false ≡ changed look (outer look.side link taker)
+reached_on look link taker left less =
+    let own : outer look.side link taker ≡ link = ap (λ s. outer s link taker) (left_is look.side left) in
+    sym (ap (changed look) own ∙ cond-false _ _ _ (ne_eqb link look.from (apart link look.from less)))
+
+-- Where it has changed the own link of its actor, which is held up.
+pub passes_own : (look : Search) (link taker : ℕ) → is_left look.side ≡ true → link ≡ look.from
+    → passed look ≡ skipped look link taker
+passes_own look link taker left own =
+    sym (ap (λ s. skipped_to s look link taker) (left_is look.side left) ∙ cond-true _ _ _ (eq-eqb link look.from own))
 
 -- Behind a turn that has changed the own link of its actor it stands where it stood.
 pub stays_there : (look : Search) (link taker : ℕ) → is_left look.side ≡ true → link ≡ look.from
@@ -63,6 +73,15 @@ module _ {S R W O : Type 0} (stands : Node S R → List ℕ → At → Type 0)
           record { turns = []; to = now; driven = (still now, refl); at = h },
           record { tells = ap is_some (sym none); sees = λ going. sees },
         );
+      })
+
+  pub marks_none : (failed : R → Bool) (broken : W → Bool) (old new : Net S R W) → new ≡ old → old.failure ≡ None
+      → MarksFailures failed broken old new
+  marks_none failed broken old new same none =
+      subst (MarksFailures failed broken old) (sym same) (record {
+        reads = λ i. or_false _ ∙ ap (λ f. failed_at failed i old.web.nodes.items || is_read_of i f) (sym none);
+        writes = or_false _ ∙ ap (λ f. broken old.sink || is_write f) (sym none);
+        takers = refl;
       })
 
   -- Two steps are one.

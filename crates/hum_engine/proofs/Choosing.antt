@@ -6,6 +6,7 @@ use Rattle.std.specs.Prelude.{is_some, IfSome}
 use Rattle.std.proofs.lemmas.Bool.{false≢true, cases_lt}
 use Rattle.hum_record.specs.Row.{Row}
 use Rattle.hum_turns.specs.Plan.{last}
+use Rattle.hum_turns.specs.declared.order.Side.TheVariants as side
 use Rattle.hum_turns.specs.Turns.{state}
 use Rattle.hum_turns.specs.Near.{touched}
 use Rattle.hum_turns.specs.Failures.{Now, is_ready, result}
@@ -27,7 +28,7 @@ use Rattle.hum_engine.proofs.Flags.{touched_below, two_set}
 use Rattle.hum_engine.proofs.Leaning.{leaning_choice}
 use Rattle.hum_engine.proofs.Netting.{is_at, unfailed_now, not_over}
 use Rattle.hum_engine.proofs.Running.{relisted, picked, some_actor_ready, no_rests, seen}
-use Rattle.hum_engine.proofs.Searching.{front_passed, passed_fewer, front_changed, front_skipped, others_as_ready}
+use Rattle.hum_engine.proofs.Searching.{front_passed, passed_fewer, front_changed, front_skipped, moves_past, stays_past, others_as_ready}
 
 -- a search, or none
 searches : (look : Option Search) → ((by : Search) × (look ≡ Some by)) ⊎ (look ≡ None)
@@ -322,6 +323,40 @@ module _ {S R W O : Type 0} (stands : Node S R → List ℕ → At → Type 0)
           (changed_is start s now n goes) n.within
           (λ j takes. takers.alone link taker j taker_is takes)
           by (here by is).0 at.0 at.1 (front_of look by s now net is sees)))
+
+      -- From the right it looks on from who takes from the actor's own link, and not at the actor, which isn't ready;
+      pub stepped_past_it : (by : Search) → look ≡ Some by → by.side ≡ side.Right → k ≡ link → 0 < k
+          → (taker : ℕ) → slice_get behind.takers.items link ≡ Some taker
+          → ((start : Option (List ℕ)) (s : Scene) (now : Now Row) → NetAt stands contents flushed start s behind now
+          → result (plan_of s) now ≡ None → is_ready (plan_of s) s.size now k ≡ false)
+          → HasStepped stands remaining contents flushed order p q look (Some (record by { from = taker })) net behind is_over
+      stepped_past_it by is right own some taker taker_is idle =
+          stepped_by (Some (record by { from = taker })) behind refl refl
+          (λ start s now n none sees goes.
+          let takers = n.goes.at.takers in
+          let at = takers.behind link taker taker_is in
+          moves_past s n.goes.at.plan k link taker now n.goes.to n.goes.turn goes none
+          (changed_is start s now n goes) n.within
+          (λ j takes. takers.alone link taker j taker_is takes)
+          by (here by is).0 at.0 at.1 (front_of look by s now net is sees) right own some
+          (idle start s n.goes.to n.goes.at goes))
+
+      -- or stays where it is, behind the turn of who takes from the link.
+      pub stepped_there : (by : Search) → look ≡ Some by → by.side ≡ side.Right
+          → (taker : ℕ) → slice_get behind.takers.items link ≡ Some taker → k ≡ taker
+          → ((start : Option (List ℕ)) (s : Scene) (now : Now Row) → NetAt stands contents flushed start s behind now
+          → result (plan_of s) now ≡ None → by.behind < link → is_ready (plan_of s) s.size now link ≡ false)
+          → HasStepped stands remaining contents flushed order p q look (Some by) net behind is_over
+      stepped_there by is right taker taker_is own idle =
+          stepped_by (Some by) behind refl refl
+          (λ start s now n none sees goes.
+          let takers = n.goes.at.takers in
+          let at = takers.behind link taker taker_is in
+          stays_past s n.goes.at.plan k link taker now n.goes.to n.goes.turn goes none
+          (changed_is start s now n goes) n.within
+          (λ j takes. takers.alone link taker j taker_is takes)
+          by (here by is).0 at.0 at.1 (front_of look by s now net is sees) right own
+          (idle start s n.goes.to n.goes.at goes))
 
       -- and passes over the actor, where it is held up
       pub stepped_over_it : is_over ≡ false → (by after : Search) → look ≡ Some by

@@ -13,7 +13,7 @@ use Rattle.hum_nodes.specs.Nodes.{is_source, readiness_at, StandsAs}
 use Rattle.hum_nodes.proofs.Standing.{stage_bytes}
 use Rattle.hum_stage.specs.Meaning.{Moment}
 use Rattle.hum_turns.proofs.States.{reads_bytes}
-use Rattle.hum_engine.specs.Scene.{Scene, plan_of, at_of, IsAt, IsAbout, IsAboutKind, IsDoing, IsKind, DoesNext}
+use Rattle.hum_engine.specs.Scene.{Scene, plan_of, at_of, IsAt, IsAbout, IsAboutKind, IsDoing, IsKind}
 use Rattle.hum_engine.proofs.Polling.{state_reads}
 use Rattle.hum_engine.proofs.Turning.{one_kind}
 
@@ -69,21 +69,6 @@ done_of does.Gives h = absurd (false≢true (ap is_done h))
 done_of does.Reads h = absurd (false≢true (ap is_done h))
 done_of (does.Wants p) h = absurd (false≢true (ap is_done h))
 done_of (does.Done e) h = (e, refl)
-
--- What a stage does next, by whether it is a source.
-module _ {S R : Type 0} (stands : Node S R → List ℕ → At → Type 0) (k : ℕ) (web : Web S R) where
-  pub reads_is : (r : Readiness) → r ≡ kind.Reads → DoesNext stands k web r → IsKind true k web
-  unfolding is_reads
-  reads_is kind.Reads is does = does
-  reads_is kind.Gives is does = absurd (false≢true (ap is_reads is))
-  reads_is (kind.Wants p) is does = absurd (false≢true (ap is_reads is))
-  reads_is kind.Done is does = absurd (false≢true (ap is_reads is))
-
-  pub does_is : (r : Readiness) → (r ≡ kind.Reads → ⊥) → DoesNext stands k web r → IsDoing stands k web r
-  does_is kind.Reads other does = absurd (other refl)
-  does_is kind.Gives other does = does
-  does_is (kind.Wants p) other does = does
-  does_is kind.Done other does = does
 
 pub gives_not_reads : kind.Gives ≡ kind.Reads → ⊥
 unfolding is_reads

@@ -5,7 +5,7 @@ use Rattle.std.proofs.lemmas.Option.{none-some, same_Some, slice_get_within, sli
 use Rattle.hum_record.specs.Row.{Row}
 use Rattle.hum_stage.specs.Meaning.{Moment}
 use Rattle.hum_turns.specs.Links.{has_room, view}
-use Rattle.hum_turns.specs.Turns.{Takes, can, state, pushed, popped}
+use Rattle.hum_turns.specs.Turns.{Takes, can, ready, state, pushed, popped}
 use Rattle.hum_turns.specs.Near.{touched}
 use Rattle.hum_nodes.specs.At.{At, doing_of, after_change, with_record, MayChange}
 use Rattle.hum_nodes.specs.Doing as does
@@ -17,9 +17,9 @@ use Rattle.hum_engine.specs.declared.link.Link as port
 use Rattle.hum_engine.specs.declared.web.Web.{Web}
 use Rattle.hum_engine.specs.Links.{IsLink, IsIdle, Goes, Tells, next_of, loaded, room}
 use Rattle.hum_engine.specs.Traffic.{Traffic}
-use Rattle.hum_engine.specs.Scene.{Scene, plan_of, at_of, IsAt, IsKind, IsDoing, IsAbout, MayAct, MayTurn, Stands, Done, Fed, KeepsOthers, laid, WantsFrom, IsOffered}
+use Rattle.hum_engine.specs.Scene.{Scene, plan_of, at_of, IsAt, IsKind, IsDoing, IsAbout, MayAct, MayTurn, Stands, Done, Fed, KeepsOthers, laid, WantsFrom, IsOffered, IsWaiting}
 use Rattle.hum_engine.proofs.Acting.{keeps, passing, Passing, may_take, passed}
-use Rattle.hum_engine.proofs.Doings.{about_it, doing_is, gives_not_reads, gives_of}
+use Rattle.hum_engine.proofs.Doings.{about_it, doing_is, gives_not_reads, gives_of, wants_of}
 use Rattle.hum_engine.proofs.Moving.{set_here}
 use Rattle.hum_engine.proofs.Polling.{state_gives, state_takes}
 use Rattle.hum_engine.proofs.Readying.{some_takes, touched_takes}
@@ -242,3 +242,52 @@ module _ {S R : Type 0} (stage : S → Moment → Type 0) (k place : ℕ) (row :
       let same : o.link ≡ link = same_Some _ _ (sym o.its ∙ ap (slice_get web.links.items) source_is ∙ its) in
       subst (λ l. IsAt (StandsAs stage) (laid source row l web) o.scene) same
       (subst (λ i. IsAt (StandsAs stage) (laid i row o.link web) o.scene) source_is o.at)
+
+-- A stage that wants knows from whom, which is a stage before it.
+module _ {S R : Type 0} (stage : S → Moment → Type 0) (k place : ℕ) (web : Web S R) (node : Node S R)
+    (there : slice_get web.nodes.items k ≡ Some node) (kind : is_source node ≡ false)
+    (wants : node.readiness ≡ kinds.Wants place)
+    (s : Scene) (at : IsAt (StandsAs stage) web s) (less : k < s.count) where
+  wanting_here : StandsAs stage node (s.rests k) (at_of s.kinds s.links k)
+  wanting_here = at.stand.nodes k node there
+
+  pub wanting_does : doing_of (at_of s.kinds s.links k) ≡ does.Wants place
+  wanting_does =
+      let t = at_of s.kinds s.links k in
+      wants_of (doing_of t) place
+      (ap (λ b. readiness_at b (doing_of t)) (sym kind) ∙ sym wanting_here.knows ∙ wants)
+
+  pub wanting_about : IsAbout (StandsAs stage) k (does.Wants place) web s
+  wanting_about = record {
+    at = at;
+    less = less;
+    bytes = stage_bytes stage node (s.rests k) (at_of s.kinds s.links k) kind wanting_here;
+    does = wanting_does;
+  }
+
+  pub wanting_from : node.from ≡ slice_index (s.kinds k).stage.sources place
+  wanting_from = wanting_here.takes kind place wanting_does
+
+  pub wanting_less : node.from < k
+  wanting_less =
+      subst (λ i. i < k) (sym wanting_from) (wants_at s k place at.reached.ok less wanting_does).lower
+
+-- One that waits isn't ready.
+module _ {S R : Type 0} (stage : S → Moment → Type 0) (k : ℕ) (web : Web S R) (w : IsWaiting k web) where
+  waiting_value : w.link ≡ get_or web.links.items w.node.from w.link
+  waiting_value =
+      same_Some _ _ (sym w.its ∙ slice_get-get_or web.links.items w.node.from w.link
+      (slice_get_within web.links.items w.node.from w.link w.its))
+
+  waiting_tells : Tells w.link false (λ size l. nat_lt 0 (length l.waiting) || is_some l.mark)
+  waiting_tells size l h =
+      sym (ap (λ (ws : List Row). nat_lt 0 (length ws) || is_some l.mark) (sym h.waiting ∙ w.idle.empty)
+      ∙ ap is_some (sym h.mark ∙ w.idle.unset))
+
+  pub waiting_unready : (s : Scene) → IsAt (StandsAs stage) web s → k < s.count
+      → ready (plan_of s) s.size s.links k ≡ false
+  waiting_unready s at less =
+      let about = wanting_about stage k w.place web w.node w.is w.kind w.wants s at less in
+      stage_ready (StandsAs stage) k web (does.Wants w.place) s about
+      ∙ sym (some_takes (StandsAs stage) k web (does.Wants w.place) s about w.place w.node.from w.link false refl
+      (wanting_from stage k w.place web w.node w.is w.kind w.wants s at less) waiting_value waiting_tells)

@@ -28,14 +28,14 @@ use Rattle.hum_engine.specs.declared.search.Search.{Search}
 use Rattle.hum_engine.specs.declared.web.Web.{Web}
 use Rattle.hum_engine.specs.Links.{next_of, loaded}
 use Rattle.hum_engine.specs.Readers.{ShowsSame, remaining_at, ended_at, failed_at, is_read_of, is_write}
-use Rattle.hum_engine.specs.Scene.{Scene, plan_of, moved, before_all, laid, Somewhere, IsAt, IsActor, HasActor, MayTurn, KeepsOthers, Fed, WantsFrom, IsOffered, HasAccepted, Done, IsKind, HasIdleLink, at_of}
+use Rattle.hum_engine.specs.Scene.{Scene, plan_of, moved, before_all, laid, Somewhere, IsAt, IsActor, HasActor, MayTurn, KeepsOthers, Fed, WantsFrom, IsOffered, HasAccepted, Done, IsKind, HasIdleLink, IsWaiting, at_of}
 use Rattle.hum_engine.specs.Nets.{NetAt, AreOver, MayStep, MayHand, HasMoved, HasHandedOn, MarksFailures, AtEach}
 use Rattle.hum_engine.specs.Writing.{WroteFront}
 use Rattle.hum_engine.proofs.Acting.{done_by}
 use Rattle.hum_engine.proofs.Bounds.{turns_few}
 use Rattle.hum_engine.proofs.Choosing.{may_pick, unfailed}
 use Rattle.hum_engine.proofs.Handing.{accept_turn, accept_touches, alone, goes_unloaded, set_back}
-use Rattle.hum_engine.proofs.Moving.{set_here}
+use Rattle.hum_engine.proofs.Moving.{set_here, set_other}
 use Rattle.hum_engine.proofs.Netting.{actor_now, ready_by, stage_turned, sink_turned, ready_going, not_over, marks_by, or_false, unfailed_now}
 use Rattle.hum_engine.proofs.Running.{no_rests}
 use Rattle.hum_engine.proofs.Sending.{sent_record, not_heard, writes_front}
@@ -182,6 +182,24 @@ and_false false = refl
 abbrev pub between : {S R W : Type 0} → ℕ → Row → port.Link → Web S R → Net S R W → Net S R W
 between k row link web old = record old { web = laid k row link web; turns = old.turns + 1 }
 
+-- A stage that waits once its record was taken waits before that too.
+pub waits_then : {S R : Type 0} (k : ℕ) (row : Row) (link : port.Link) (web new : Web S R)
+    → slice_get new.nodes.items k ≡ slice_get web.nodes.items k → new.links ≡ web.links
+    → IsWaiting k new → IsWaiting k (laid k row link web)
+waits_then k row link web new same links w = record {
+  node = w.node;
+  is = sym same ∙ w.is;
+  kind = w.kind;
+  place = w.place;
+  wants = w.wants;
+  less = w.less;
+  link = w.link;
+  its = let less = w.less in
+      set_other web.links.items k (loaded row link) w.node.from (λ e. absurd (omega (arith, less, e)))
+      ∙ ap (λ v. slice_get v.items w.node.from) (sym links) ∙ w.its;
+  idle = w.idle;
+}
+
 pub two_more : (n old : ℕ) → n ≡ old + 2 → n ≡ (old + 1) + 1
 two_more n old e = omega (arith, e)
 
@@ -295,12 +313,14 @@ module _ {S R W : Type 0} (stage : S → Moment → Type 0) (remaining : R → O
           → KeepsOthers taker web new.web
           → HasStayed (ended_at taker web.nodes.items) (ended_at taker new.web.nodes.items)
           (remaining_at remaining taker web.nodes.items) (remaining_at remaining taker new.web.nodes.items)
+          → k < taker → new.web.links ≡ web.links
           → HasHandedOn (StandsAs stage) remaining contents flushed k taker old new b
-      handed_to new b ok err keeps stays = record {
+      handed_to new b ok err keeps stays above links = record {
         between = between k row link web old;
         given = given;
         taken = by b ok err;
         takers = refl;
+        waits = waits_then k row link web new.web (keeps k (λ e. absurd (omega (arith, above, e)))) links;
       }
         where
           by : (b : Bool) → (b ≡ false → (new ≡ record old { web = new.web; turns = old.turns + 2 })

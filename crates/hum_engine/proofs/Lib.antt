@@ -12,6 +12,7 @@ pub mod Doings
 pub mod Readying
 pub mod Stepping
 pub mod Sending
+pub mod Settling
 pub mod Showing
 pub mod Netting
 pub mod Bounds
@@ -28,3 +29,5 @@ pub mod Beginning
 mod Examples
 pub mod Appending
 pub mod Lasting
+pub mod Tried
+pub mod Answered

@@ -101,6 +101,9 @@ module _ {S R W : Type 0} (stands : Node S R → List ℕ → At → Type 0)
   pub unheard : (now.links (last (plan_of s))).heard ≡ None
   unheard = (unfailed now.failure (now.links (last (plan_of s))).heard (and_parts _ _ r).0).1
 
+  pub ready_result : result (plan_of s) now ≡ None
+  ready_result = ap (λ f. ended_by f (now.links (last (plan_of s))).heard) no_failure ∙ ap (ended_by None) unheard
+
   pub now_ready : ready (plan_of s) s.size now.links k ≡ true
   now_ready = (and_parts _ _ r).1
 
@@ -462,6 +465,11 @@ module _ {S R W : Type 0} (stands : Node S R → List ℕ → At → Type 0)
   pub ends_alike : result (plan_of s) now ≡ result (plan_of t) one
   ends_alike = by_failure net.failure refl
 
+none_heard : (f : Option RunResult) (o : Option End) → ended_by f o ≡ None → o ≡ None
+none_heard None None e = refl
+none_heard None (Some x) e = absurd (none-some _ (sym e))
+none_heard (Some x) o e = absurd (none-some x (sym e))
+
 none_failed : (f : Option RunResult) (o : Option End) → ended_by f o ≡ None → f ≡ None
 none_failed None o e = refl
 none_failed (Some x) o e = absurd (none-some x (sym e))
@@ -477,6 +485,9 @@ module _ {S R W : Type 0} (stands : Node S R → List ℕ → At → Type 0)
 
   pub unfailed_now : result (plan_of s) now ≡ None → now.failure ≡ None
   unfailed_now e = none_failed now.failure (now.links (last (plan_of s))).heard e
+
+  pub unheard_now : result (plan_of s) now ≡ None → (now.links (last (plan_of s))).heard ≡ None
+  unheard_now e = none_heard now.failure (now.links (last (plan_of s))).heard e
 
   pub ready_going : (o : Option RunResult) (b : Bool) → o ≡ result (plan_of s) now → o ≡ None
       → b ≡ ready (plan_of s) s.size now.links k → b ≡ is_ready (plan_of s) s.size now k

@@ -43,10 +43,6 @@ module _ {S R : Type 0} (stands : Node S R → List ℕ → At → Type 0) (k : 
       tells s.size (s.links k) (a.at.stand.links k link (about_link link e))
       ∙ sym (ap (can s.size s.links k) (state_ends s s.links k end a.less (a.does ∙ is)))
 
-  pub within_place : (place : ℕ) → doing ≡ does.Wants place
-      → place < length (s.kinds k).stage.sources
-  within_place place is = (wants_at s k place a.at.reached.ok a.less (a.does ∙ is)).within
-
   pub within_links : (place i : ℕ) → doing ≡ does.Wants place
       → i ≡ slice_index (s.kinds k).stage.sources place → i < length web.links.items
   within_links place i is e =

@@ -30,10 +30,6 @@ nearer_or side.Right a b = ⊎_elim inl
     (λ (more : a ≤ b). ⊎_elim (λ e. inr (inl e)) (λ other. inr (inr (omega (arith, more, other)))) (cases_eq a b))
     (cases_lt b a)
 
-nearer_other : (to : Side) (a b : ℕ) → IsNearer to a b → a ≢ b
-nearer_other side.Left a b near e = absurd (omega (arith, near, e))
-nearer_other side.Right a b near e = absurd (omega (arith, near, e))
-
 nearer_all : (to : Side) (a b c : ℕ) → IsNearer to a b → IsNearer to b c → IsNearer to a c
 nearer_all side.Left a b c ab bc = omega (arith, ab, bc)
 nearer_all side.Right a b c ab bc = omega (arith, ab, bc)
@@ -410,3 +406,65 @@ module _ (s : Scene) (plan : IsNetPlan s.count s.kinds s.size) (k link taker : �
     pub front_skipped : IsHeldUp s new.links k → (some : ℕ) → some ≤ s.count
         → is_ready (plan_of s) s.size new some ≡ true → IsFront (skipped look link taker) s new
     front_skipped = skipped_by look.side refl
+
+    -- From the right.
+    module _ (right : look.side ≡ side.Right) where
+      from_right : (a b : ℕ) → IsNearer look.side a b → b < a
+      from_right a b near = subst (λ t. IsNearer t a b) right near
+
+      as_right : (a b : ℕ) → b < a → IsNearer look.side a b
+      as_right a b less = subst (λ t. IsNearer t a b) (sym right) less
+
+      none_waits : (j : ℕ) → look.side ≡ side.Left → ⊥
+      none_waits j left = right_left (sym right ∙ left)
+
+      -- It gave onto its own link and isn't ready any more: whoever was to be asked behind it is still.
+      pub moves_past : k ≡ link → 0 < k → is_ready (plan_of s) s.size new k ≡ false
+          → IsFront (record look { from = taker }) s new
+      moves_past own some isnt =
+          let low : look.behind < look.from =
+          from_right look.from look.behind (front.beyond 0 (omega arith) (as_right look.from 0 (omega (arith, some, here)))) in
+          record {
+            within = most;
+            nearer = λ j less near.
+                let high = from_right j taker near in
+                before j less (λ e. absurd (omega (arith, high, behind, e)), λ e. absurd (omega (arith, high, e)))
+                (front.nearer j less (as_right j look.from (omega (arith, high, behind, own, here))));
+            between = λ j less past near.
+                let under = from_right taker j past in
+                ⊎_elim
+                (λ nearer. let over = from_right j look.from nearer in
+                before j less (λ e. absurd (omega (arith, over, own, here, e)), λ e. absurd (omega (arith, under, e)))
+                (front.nearer j less nearer))
+                (λ rest. ⊎_elim
+                (λ (is : j ≡ look.from). subst (λ i. is_ready (plan_of s) s.size new i ≡ false) (here ∙ sym is) isnt)
+                (λ far. let over = from_right look.from j far in
+                before j less (λ e. absurd (omega (arith, over, own, here, e)), λ e. absurd (omega (arith, under, e)))
+                (front.between j less far near))
+                rest)
+                (nearer_or look.side j look.from);
+            beyond = λ j less past. as_right taker look.behind (omega (arith, low, behind, own, here));
+            last = front.last;
+            waits = λ j left past near. absurd (none_waits j left);
+          }
+
+      -- It took from the link, whose stage isn't ready, if that stands before whoever is to be asked behind it.
+      pub stays_past : k ≡ taker → (look.behind < link → is_ready (plan_of s) s.size new link ≡ false)
+          → IsFront look s new
+      stays_past own isnt = record {
+        within = front.within;
+        nearer = λ j less near.
+            let high = from_right j look.from near in
+            before j less (λ e. absurd (omega (arith, high, own, here, behind, e)), λ e. absurd (omega (arith, high, own, here, e)))
+            (front.nearer j less near);
+        between = λ j less past near.
+            let under = from_right look.from j past in
+            let over = from_right j look.behind near in
+            ⊎_elim
+            (λ (is : j ≡ link). subst (λ i. is_ready (plan_of s) s.size new i ≡ false) (sym is) (isnt (omega (arith, over, is))))
+            (λ other. before j less (other, λ e. absurd (omega (arith, under, own, here, e))) (front.between j less past near))
+            (cases_eq j link);
+        beyond = front.beyond;
+        last = front.last;
+        waits = λ j left past near. absurd (none_waits j left);
+      }

@@ -1,5 +1,5 @@
 -- What is taken from a link, by a stage or by the sink.
-use Rattle.std.proofs.Common.{◌≡◌, ◌≢◌, ◌∙◌, ℕ, zero, suc, ◌+◌, ◌<◌, ◌≤◌, Bool, true, false}
+use Rattle.std.proofs.Common.{◌≡◌, ◌≢◌, ◌∙◌, ℕ, zero, suc, ◌+◌, ◌<◌, Bool, true, false}
 use Rattle.std.proofs.Common.{◌||◌, if◌then◌else◌, nat_lt, List, [], ◌∷◌, ◌++◌, map, length, Option, Some, None}
 use Rattle.std.proofs.Common.{is_some, slice_get, slice_set, slice_index, refl, sym, ap, subst}
 use Rattle.std.proofs.Common.{⊎_elim, arith, append_assoc}
@@ -26,8 +26,6 @@ use Rattle.hum_nodes.specs.At.{At, doing_by, doing_of, change_at, after_change, 
 use Rattle.hum_nodes.specs.At.{with_record, with_end}
 use Rattle.hum_engine.specs.declared.link.Link as port
 use Rattle.hum_engine.specs.Links.{Goes, next_of}
-use Rattle.hum_text.specs.Calls.{counted}
-use Rattle.hum_engine.specs.Nets.{CallsSink}
 use Rattle.hum_engine.specs.Writing.{IsFront}
 use Rattle.hum_engine.specs.Scene.{Scene, plan_of, at_of, NodesStand, LinksStand, IsTree}
 use Rattle.hum_engine.specs.Scene.{IsReached}
@@ -62,23 +60,7 @@ next_front [] x h bytes front = absurd (none-some x (sym h))
 next_front (y ∷ ws) x h bytes front =
     subst (λ r. Begins bytes (text_of r ++ 10 ∷ [])) (same_Some x y h) front
 
--- the calls of a turn that takes it
-pub calls_record : (ws : List Row) (x : Row) (old new : ℕ) → Some x ≡ next_of ws
-    → new ≤ old + length (text_of x ++ 10 ∷ []) → CallsSink old new ws
-calls_record [] x old new h few = absurd (none-some x (sym h))
-calls_record (y ∷ ws) x old new h few =
-    subst (λ r. new ≤ old + length (text_of r ++ 10 ∷ [])) (same_Some x y h) few
-
--- and of one that hears the end
-pub calls_end : (ws : List Row) (old new : ℕ) → None ≡ next_of ws → new ≡ counted old → CallsSink old new ws
-calls_end (y ∷ ws) old new h once = absurd (none-some y h)
-calls_end [] old new h once = once
-
 -- where no record waits the end is heard
-pub hears : (l : Link Row) (ws : List Row) → None ≡ next_of ws → (popped l ws).heard ≡ l.mark
-hears l (y ∷ ws) h = absurd (none-some y h)
-hears l [] h = refl
-
 pub next_end : (l : Link Row) (ws : List Row) (e : End) → None ≡ next_of ws → l.mark ≡ Some e
     → view (popped l ws) ≡ with_end e (view l)
 next_end l (y ∷ ws) e h is = absurd (none-some y h)

@@ -1,6 +1,7 @@
 pub mod Readers
 pub mod Search
 pub mod Scene
+pub mod Told
 pub mod Nets
 pub mod Traffic
 pub mod Links

@@ -1,7 +1,7 @@
 -- What a net stands for: its web, what was written, and how it failed.
 use Rattle.std.specs.Prelude.{◌≡◌, ◌≢◌, ◌⊎◌, ℕ, ◌+◌, ◌<◌, ◌≤◌}
 use Rattle.std.specs.Prelude.{Bool, true, false, ◌||◌, List, [], ◌∷◌, ◌++◌, length}
-use Rattle.std.specs.Prelude.{Option, Some, None, is_some, slice_get}
+use Rattle.std.specs.Prelude.{Option, Some, None, is_some, slice_get, Result, Ok, Err}
 use Rattle.std.specs.Io.KnownBytes.{Appends}
 use Rattle.hum_text.specs.Calls.{counted}
 use Rattle.hum_record.specs.Row.{Row, text_of}
@@ -26,14 +26,19 @@ use Rattle.hum_nodes.specs.Fine.{fine, IsFine}
 use Rattle.hum_nodes.specs.Polls.{HasRead, AsksAtMostOnce}
 use Rattle.hum_nodes.specs.declared.node.Node.{Node}
 use Rattle.hum_nodes.specs.Nodes.{is_source, remaining_of}
+use Rattle.hum_read.specs.declared.ReadError.{ReadError}
+use Rattle.hum_read.specs.declared.ReadError.TheVariants as error
 use Rattle.hum_engine.specs.declared.web.Web.{Web}
+use Rattle.hum_engine.specs.declared.web.Moved.{Moved}
 use Rattle.hum_engine.specs.declared.net.Net.{Net}
 use Rattle.hum_engine.specs.declared.net.Turned.{Turned}
+use Rattle.hum_engine.specs.declared.net.Stepped.{Stepped as Step}
+use Rattle.hum_engine.specs.declared.net.Stepped.TheVariants as steps
 use Rattle.hum_engine.specs.declared.net.Handed.{Handed}
 use Rattle.hum_engine.specs.declared.net.Handed.TheVariants as handed
 use Rattle.hum_engine.specs.Readers.{ended_at, remaining_at, calls_at, failed_at, is_read_of, is_write, ShowsSame}
 use Rattle.hum_engine.specs.Scene.{Scene, plan_of, moved, before_all, Stands, IsAt, IsNetPlan, IsBegun, Done}
-use Rattle.hum_engine.specs.Scene.{MayTurn, IsActor, AreTakers, TakesFrom, IsFull, HasRoom, HasIdleLink}
+use Rattle.hum_engine.specs.Scene.{IsActor, AreTakers, TakesFrom, IsFull, HasRoom, HasIdleLink, IsWaiting}
 use Rattle.hum_engine.specs.declared.search.Search.{Search}
 use Rattle.hum_engine.specs.Search.{IsNearer, left_to_ask}
 
@@ -72,12 +77,6 @@ pub record MayWrite {S R : Type 0} (stands : Node S R → List ℕ → At → Ty
     (s : Scene) : Type 0 where
   pub at : IsAt stands web s
   pub some : has_some (s.links (last (plan_of s))) ≡ true
-
--- a stage is ready, and a byte can hold its number
-pub record MayTurnFew {S R : Type 0} (stands : Node S R → List ℕ → At → Type 0) (k : ℕ)
-    (web : Web S R) (s : Scene) : Type 0 where
-  pub turn : MayTurn stands k web s
-  pub few : s.count < 256
 
 -- What a net stands for: a moment that turns have led to, written behind what the sink held at
 -- first, and flushed once the end was heard.
@@ -207,6 +206,24 @@ pub record HasPicked {O : Type 0} (order : Order O) (plan : Plan Row) (size : �
   pub choice : actor ≡ choice order plan size o now
   pub next : p ≡ order.next o (ready_list plan size now)
 
+-- how a net has failed whose stage k has told this of its turn; as before, where that didn't fail
+abbrev pub failed_by : ℕ → Result Moved ReadError → Option RunResult → Option RunResult
+failed_by k (Ok moved) failure = failure
+failed_by k (Err error.Read) failure = Some (ends.Read (k + 1))
+failed_by k (Err error.Memory) failure = Some ends.Memory
+
+-- what that turn is to the net
+abbrev pub turned_by : ℕ → Result Moved ReadError → Turned
+turned_by k (Ok moved) =
+    record { link = moved.link; is_over = false; is_full = moved.is_full; has_taken = moved.has_taken }
+turned_by k (Err error) = record { link = k; is_over = true; is_full = false; has_taken = false }
+
+-- whether a run is over behind a step
+abbrev pub is_over : Step → Bool
+is_over steps.On = false
+is_over steps.Room = false
+is_over steps.Over = true
+
 -- The link that a turn of actor k has changed; where it has failed, its own may stand for it.
 abbrev pub IsChanged : ℕ → Scene → Option RunResult → ℕ → Type 0
 IsChanged k s failure link =
@@ -246,6 +263,7 @@ pub record HasHandedOn {S R W : Type 0} (stands : Node S R → List ℕ → At �
   pub given : HasMoved stands remaining contents flushed k k old between false
   pub taken : HasMoved stands remaining contents flushed t k between new is_over
   pub takers : between.takers ≡ old.takers
+  pub waits : IsWaiting k new.web → IsWaiting k between.web
 
 -- A failed read or write has ended the run exactly where a call has failed; who takes from whom is as it was.
 pub record MarksFailures {S R W : Type 0} (failed : R → Bool) (broken : W → Bool) (old new : Net S R W)
@@ -263,17 +281,6 @@ HasHanded stands remaining contents flushed k t old new (handed.On is_over) =
     HasHandedOn stands remaining contents flushed k t old new is_over
 HasHanded stands remaining contents flushed k t old new (handed.Alone is_over) =
     HasMoved stands remaining contents flushed k k old new is_over
-
--- A stage has had a turn in which it has changed its own link, or nothing has moved. Nothing has failed, and
--- nothing was written.
-pub record HasRefilled {S R W : Type 0} (stands : Node S R → List ℕ → At → Type 0)
-    (remaining : R → Option (List ℕ)) (failed : R → Bool) (contents : W → Option (List ℕ))
-    (flushed broken : W → Bool) (k : ℕ) (old new : Net S R W) : Type 0 where
-  pub given : HasMoved stands remaining contents flushed k k old new false ⊎ (new ≡ old)
-  pub reads : (i : ℕ) → failed_at failed i new.web.nodes.items ≡ failed_at failed i old.web.nodes.items
-  pub sink : new.sink ≡ old.sink
-  pub failure : new.failure ≡ old.failure
-  pub takers : new.takers ≡ old.takers
 
 -- In a turn of an actor its reader is called once at most, and no other. The sink is asked for no write
 -- but those of the record that it takes, or for one flush at the end; by a stage for nothing.

@@ -230,6 +230,18 @@ pub record HasIdleLink {S R : Type 0} (k : ℕ) (web : Web S R) : Type 0 where
   pub its : slice_get web.links.items k ≡ Some link
   pub idle : IsIdle link
 
+-- Stage k waits: it takes next from the link of a stage before it, on which nothing lies.
+pub record IsWaiting {S R : Type 0} (k : ℕ) (web : Web S R) : Type 0 where
+  pub node : Node S R
+  pub is : slice_get web.nodes.items k ≡ Some node
+  pub kind : is_source node ≡ false
+  pub place : ℕ
+  pub wants : node.readiness ≡ kinds.Wants place
+  pub less : node.from < k
+  pub link : Link
+  pub its : slice_get web.links.items node.from ≡ Some link
+  pub idle : IsIdle link
+
 -- Stage k takes from the link of this stage next, at this place.
 pub record WantsFrom {S R : Type 0} (stands : Node S R → List ℕ → At → Type 0) (k place source : ℕ)
     (web : Web S R) : Type 0 where
@@ -295,14 +307,6 @@ abbrev pub IsDoing : {S R : Type 0} → (Node S R → List ℕ → At → Type 0
 IsDoing stands k web kind =
     IsKind false k web
     × ((s : Scene) → IsAt stands web s → k < s.count → IsAboutKind stands k kind web s)
-
--- This is what stage k does next, a source or another.
-abbrev pub DoesNext : {S R : Type 0} → (Node S R → List ℕ → At → Type 0) → ℕ → Web S R → Readiness
-    → Type 0
-DoesNext stands k web kinds.Reads = IsKind true k web
-DoesNext stands k web kinds.Gives = IsDoing stands k web kinds.Gives
-DoesNext stands k web (kinds.Wants place) = IsDoing stands k web (kinds.Wants place)
-DoesNext stands k web kinds.Done = IsDoing stands k web kinds.Done
 
 -- Stage k has read these bytes, and the turn is what follows from them however they go on. A stage
 -- that isn't a source reads none.

@@ -52,9 +52,15 @@ changed look end =
     if nat_eq end look.from then record look { behind = kept_behind look.side look }
     else record look { from = end; behind = look.from }
 
--- The actor that was asked has given a record to this one, which is asked next.
-abbrev pub handed : Search → ℕ → Search
-handed look taker = record look { from = taker; behind = away look.side taker }
+-- The actor that was asked has given a record to this one, which is asked next; and behind it the actor itself
+-- or, where that waits for a record, whoever was to be asked behind it.
+abbrev pub handed : Search → ℕ → Bool → Search
+handed look taker waits = record look { from = taker; behind = if waits then look.behind else look.from }
+
+-- On the left the actor that was asked has taken a record from this link, whose stage is asked next; and behind it
+-- the actor itself, unless its own link is full.
+abbrev pub reached : Search → ℕ → Bool → Search
+reached look link is_full = record look { from = link; behind = if is_full then look.behind else look.from }
 
 -- The same where the actor can't go on until a record is taken from its own link: it isn't asked again.
 abbrev pub skipped_left : Search → ℕ → Search

@@ -14,7 +14,7 @@ mod takers;
 mod web;
 mod writing;
 
-pub use link::Link;
+pub use link::{Link, Taken};
 pub use net::{Net, Turned};
 pub use web::Web;
 pub use writing::{WriteFailed, write_record};

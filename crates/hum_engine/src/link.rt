@@ -1,10 +1,12 @@
 //! The link of a stage.
-ghost use Rattle.std.specs.Prelude.{◌≡◌, ◌≤◌, ℕ, true, is_none, is_some, IfOk, IfSome, ◌||◌};
+ghost use Rattle.std.specs.Prelude.{◌≡◌, ◌≤◌, ℕ, true, is_none, is_some, IfOk, ◌||◌};
 ghost use Rattle.std.specs.Prelude.{nat_lt, length};
 ghost use Rattle.hum_turns.specs.Links.{fresh, linked, has_room, has_some};
 ghost use Rattle.hum_turns.specs.Turns.{pushed, popped};
 ghost use Rattle.hum_engine.specs.Traffic.{Traffic, ended};
-ghost use Rattle.hum_engine.specs.Links.{IsLink, IsIdle, Tells, Goes, room, next_of};
+ghost use Rattle.hum_record.specs.Row.{Row};
+ghost use Rattle.hum_engine.specs.Links.{IsLink, IsIdle, Tells, Goes, room, taken_of, is_some_of};
+ghost use Rattle.hum_engine.specs.declared.link.Taken.TheVariants as kinds;
 
 use circular_buffer::HeapCircularBuffer;
 use hum_record::Record;
@@ -20,6 +22,17 @@ pub struct Link {
     waiting: HeapCircularBuffer<Record>,
     mark: Option<End>,
     heard: Option<End>,
+}
+
+/// What is taken from a link.
+#[derive(Drop)]
+pub enum Taken {
+    /// The record that has waited longest.
+    Record(Record),
+    /// The end, which comes behind all records.
+    End(End),
+    /// Nothing: no record waits, and the end isn't set.
+    Nothing,
 }
 
 impl Link {
@@ -56,18 +69,25 @@ impl Link {
     }
 
     /// Takes the record that has waited longest. Where none waits the end is heard, if it was set.
-    pub fn next(&mut self) -> Option<Record>
-        ensures popped { Goes self.old self.new (λ l. popped l l.waiting) }
-        ensures next { Tells self.old result (λ size l. next_of l.waiting) }
-        ensures room { IfSome result (λ row. room self.new ≡ true) }
+    #[inline(always)]
+    pub fn take(&mut self) -> Taken
+        ensures taken { Tells self.old result (λ size l. taken_of l.waiting l.mark) }
+        ensures popped { is_some_of result ≡ true → Goes self.old self.new (λ l. popped l l.waiting) }
+        ensures same { result ≡ kinds.Nothing → self.new ≡ self.old }
+        ensures room { (row : Row) → result ≡ kinds.Record row → room self.new ≡ true }
     {
         // its clause says that no more wait than have room
         let _capacity = self.waiting.capacity();
         if let Some(row) = self.waiting.pop_front() {
-            return Some(row);
+            return Taken::Record(row);
         }
-        self.heard = self.mark;
-        None
+        match self.mark {
+            Some(end) => {
+                self.heard = self.mark;
+                Taken::End(end)
+            }
+            None => Taken::Nothing,
+        }
     }
 
     /// Sets the end. The records that wait come before it.

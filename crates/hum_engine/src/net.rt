@@ -1,39 +1,41 @@
 //! A web whose last stage is written.
-ghost use Rattle.std.specs.Prelude.{◌≡◌, ◌≢◌, ◌≤◌, ◌<◌, ◌+◌, ◌-◌, ◌||◌, ℕ, List, [], Option, None, Some};
-ghost use Rattle.std.specs.Prelude.{IfSome, IfOk, IfErr, length, is_some, true, false};
-ghost use Rattle.std.specs.Prelude.{slice_get, slice_set};
-ghost use Rattle.hum_record.specs.Row.{Row, text_of};
-ghost use Rattle.hum_turns.specs.Links.{linked};
+ghost use Rattle.std.specs.Prelude.{◌≡◌, ◌≢◌, ◌≤◌, ◌<◌, ◌+◌, ◌-◌, ◌||◌, ℕ, List, Option, None, Some};
+ghost use Rattle.std.specs.Prelude.{IfSome, IfOk, IfErr, length, is_some, true, false, ◌^◌};
+ghost use Rattle.std.specs.Prelude.{slice_set};
+ghost use Rattle.hum_record.specs.Row.{Row};
+ghost use Rattle.hum_turns.specs.Links.{linked, has_some};
 ghost use Rattle.hum_turns.specs.declared.result.RunResult.TheVariants as ends;
-ghost use Rattle.hum_turns.specs.Failures.{Now, IsFirst, MayFail, is_ready, result as ended};
+ghost use Rattle.hum_turns.specs.Failures.{Now, IsFirst, is_ready, result as ended};
 ghost use Rattle.hum_turns.specs.Orders.{ready_list, LeansTo};
 ghost use Rattle.hum_nodes.specs.Nodes.{StandsAs};
-ghost use Rattle.hum_nodes.specs.Polls.{AsksAtMostOnce, HasStayed};
-ghost use Rattle.hum_engine.specs.Readers.{ShowsSame, remaining_at, ended_at, calls_at, failed_at};
+ghost use Rattle.hum_nodes.specs.Polls.{HasStayed};
+ghost use Rattle.hum_engine.specs.Readers.{ShowsSame, remaining_at, ended_at, failed_at};
 ghost use Rattle.hum_engine.specs.Readers.{is_read_of, is_write};
-ghost use Rattle.hum_engine.specs.Scene.{Scene, plan_of, Somewhere, IsActor, IsAt, IsNetPlan, IsBegun, MayTurn};
-ghost use Rattle.hum_engine.specs.Scene.{KeepsOthers, Fed, held_of, HoldsFew, DoesNext, IsFull, HasRoom};
-ghost use Rattle.hum_engine.specs.Scene.{IsKind, IsOffered, HasAccepted, WantsFrom};
+ghost use Rattle.hum_engine.specs.Scene.{Scene, plan_of, Somewhere, IsAt, IsNetPlan, IsBegun};
+ghost use Rattle.hum_engine.specs.Scene.{KeepsOthers, held_of, HoldsFew, HasRoom};
+ghost use Rattle.hum_engine.specs.Scene.{IsKind, IsOffered, HasAccepted, WantsFrom, HasActor, IsWaiting};
 ghost use Rattle.hum_turns.specs.Plan.{last};
 ghost use Rattle.hum_engine.specs.Search.{is_left};
-ghost use Rattle.hum_engine.specs.Nets.{MayWrite, CallsSink, SinkWent, MayTurnFew, MayGo, IsRunning};
+ghost use Rattle.hum_engine.specs.Nets.{MayWrite, CallsSink, SinkWent, MayGo, IsRunning};
+ghost use Rattle.hum_engine.specs.declared.net.Stepped.TheVariants as steps;
 ghost use Rattle.hum_turns.specs.Counts.{turns_of, most, most_in_all};
 ghost use Rattle.hum_turns.specs.Holds.{SomeReady};
-ghost use Rattle.hum_engine.specs.Nets.{WroteFront, IsGoing, IsChanged};
+ghost use Rattle.hum_engine.specs.Nets.{WroteFront, IsGoing};
 ghost use Rattle.hum_engine.specs.Nets.{IsAmong, NetAt, AreBegun, RunsBy, IsNet};
-ghost use Rattle.hum_engine.specs.Nets.{Sees, MayPick, HasPicked, MayAsk, HasGone, HasRefilled, MayStep, HasStepped};
+ghost use Rattle.hum_engine.specs.Nets.{Sees, MayPick, HasPicked, MayAsk, HasGone, turned_by, failed_by, is_over, MayStep, HasStepped};
 ghost use Rattle.hum_engine.specs.Nets.{IsCloser, AsksLittle, AtEach, MayHand, HasHanded, HasHandedOn, MarksFailures};
 
+use crate::link::Taken;
 use crate::search::Search;
 use crate::takers::takers_of;
-use crate::web::Web;
+use crate::web::{Moved, Web};
 use crate::writing::write_record;
-use hum_nodes::{Node, Readiness};
+use hum_nodes::Node;
 use hum_read::ReadError;
 use hum_record::Record;
 use hum_stage::Stage;
 use hum_text::calls::{Sink, Source};
-use hum_turns::{Order, RunResult, choose};
+use hum_turns::{Order, RunResult, Side, choose};
 use std::alloc::Global;
 
 /// Nodes and links, what the last stage is written to, and the failure that has ended the run.
@@ -64,11 +66,13 @@ pub struct Turned {
 
 /// What a step of a run has come to.
 #[derive(Clone, Copy)]
-struct Stepped {
-    /// Whether the run is over.
-    is_over: bool,
-    /// Whether a record was taken from a link.
-    has_taken: bool,
+enum Stepped {
+    /// The run goes on.
+    On,
+    /// So it does, and from the left room has come on the link of the stage that is asked next.
+    Room,
+    /// The run is over.
+    Over,
 }
 
 /// What has come of a stage's record that was to be handed on, and whether the run is over.
@@ -81,44 +85,47 @@ enum Handed {
 }
 
 impl<S: Stage + Drop, R: Source + Drop, W: Sink> Net<S, R, W> {
-    // Both tell in place how they failed: an answer would be copied at each turn, field by field.
-
-    // The sink's turn, and whether the run is over.
+    // The sink's turn, if it is ready, and whether the run is over.
     #[inline(always)]
-    fn sink_turn(&mut self) -> bool
+    fn sink_turn(&mut self) -> Option<bool>
         requires none { self.old.failure ≡ None }
         requires may { Somewhere (IsAt (StandsAs S.stands) self.old.web) }
-        ensures went { (s : Scene) → MayWrite (StandsAs S.stands) self.old.web s
+        ensures ready { (s : Scene) → IsAt (StandsAs S.stands) self.old.web s
+            → (s.links (last (plan_of s))).heard ≡ None
+            → is_some result ≡ has_some (s.links (last (plan_of s))) }
+        ensures went { IfSome result (λ is_over. (s : Scene) → MayWrite (StandsAs S.stands) self.old.web s
             → SinkWent (StandsAs S.stands) self.new.failure (W.contents self.old.sink)
-            (W.contents self.new.sink) (W.flushed self.new.sink) result self.new.web s }
-        ensures asked { (s : Scene) → MayWrite (StandsAs S.stands) self.old.web s
+            (W.contents self.new.sink) (W.flushed self.new.sink) is_over self.new.web s) }
+        ensures asked { IfSome result (λ is_over. (s : Scene) → MayWrite (StandsAs S.stands) self.old.web s
             → CallsSink (W.calls self.old.sink) (W.calls self.new.sink)
-            (s.links (last (plan_of s))).waiting }
-        ensures marked { W.failed self.new.sink
-            ≡ (W.failed self.old.sink || is_write self.new.failure) }
+            (s.links (last (plan_of s))).waiting) }
+        ensures marked { IfSome result (λ is_over. W.failed self.new.sink
+            ≡ (W.failed self.old.sink || is_write self.new.failure)) }
         ensures unread { (k : ℕ) → is_read_of k self.new.failure ≡ false }
-        ensures room { result ≡ false
+        ensures room { result ≡ Some false
             → HasRoom (length self.old.web.links.items - 1) self.new.web }
         ensures shows { (k : ℕ) → ShowsSame R.remaining R.calls R.failed
             self.old.web.nodes.items self.new.web.nodes.items k }
         ensures turns { self.new.turns ≡ self.old.turns }
         ensures actors { self.new.actors ≡ self.old.actors }
         ensures takers { self.new.takers ≡ self.old.takers }
+        ensures same { result ≡ None → self.new ≡ self.old }
     {
         match self.web.take_out() {
-            Some(row) => match write_record(&mut self.sink, &row) {
+            Taken::Record(row) => match write_record(&mut self.sink, &row) {
                 Ok(()) => {
                     self.web.keep(row);
-                    return false;
+                    return Some(false);
                 }
                 Err(_) => self.fail_to_write(),
             },
-            None => match self.sink.flush() {
+            Taken::End(_) => match self.sink.flush() {
                 Ok(()) => {}
                 Err(_) => self.fail_to_write(),
             },
+            Taken::Nothing => return None,
         }
-        true
+        Some(true)
     }
 
     // A failed read, or running out of memory, ends the run. It happens once, so no turn has a place for it.
@@ -144,43 +151,19 @@ impl<S: Stage + Drop, R: Source + Drop, W: Sink> Net<S, R, W> {
         self.failure = Some(RunResult::Memory);
     }
 
-    // The turn of a stage that does this next.
+    // Counts the turn of a stage, which has told what it has come to. A failure ends the run.
     #[inline(always)]
-    fn stage_turn(&mut self, k: usize, kind: Readiness) -> Turned
-        requires none { self.old.failure ≡ None }
-        requires doing { DoesNext (StandsAs S.stands) k self.old.web kind }
-        requires may { Somewhere (MayTurnFew (StandsAs S.stands) k self.old.web) }
-        ensures fed { self.new.failure ≡ None → Fed (StandsAs S.stands) R.remaining k
-            self.old.web self.new.web }
-        ensures link { (s : Scene) → IsActor (StandsAs S.stands) k self.old.web s
-            → IsChanged k s self.new.failure result.link }
-        ensures over { result.is_over ≡ is_some self.new.failure }
-        ensures full { result.is_full ≡ true → IsFull k self.new.web }
-        ensures room { result.has_taken ≡ true
-            → (result.link < k) × HasRoom result.link self.new.web }
-        ensures failed { IfSome self.new.failure (λ by. (s : Scene)
-            → MayTurn (StandsAs S.stands) k self.old.web s
-            → MayFail (plan_of s) k text_of s.links by []) }
-        ensures others { KeepsOthers k self.old.web self.new.web }
-        ensures marked { failed_at R.failed k self.new.web.nodes.items
-            ≡ (failed_at R.failed k self.old.web.nodes.items || is_read_of k self.new.failure) }
-        ensures unmarked { (i : ℕ) → i ≢ k → is_read_of i self.new.failure ≡ false }
-        ensures unwritten { is_write self.new.failure ≡ false }
-        ensures calls { AsksAtMostOnce (calls_at R.calls k self.old.web.nodes.items)
-            (failed_at R.failed k self.old.web.nodes.items)
-            (calls_at R.calls k self.new.web.nodes.items)
-            (failed_at R.failed k self.new.web.nodes.items) }
-        ensures stays { IfSome self.new.failure (λ by. HasStayed
-            (ended_at k self.old.web.nodes.items)
-            (ended_at k self.new.web.nodes.items)
-            (remaining_at R.remaining k self.old.web.nodes.items)
-            (remaining_at R.remaining k self.new.web.nodes.items)) }
-        ensures sink { self.new.sink ≡ self.old.sink }
-        ensures turns { self.new.turns ≡ self.old.turns }
-        ensures actors { self.new.actors ≡ self.old.actors }
-        ensures takers { self.new.takers ≡ self.old.takers }
+    fn settle(&mut self, k: usize, told: Result<Moved, ReadError>) -> Turned
+        requires number { k < 255 }
+        requires few { self.old.turns < 2 ^ 64 - 1 }
+        ensures turned { result ≡ turned_by k told }
+        ensures net { self.new ≡ record self.old {
+          turns = self.old.turns + 1;
+          failure = failed_by k told self.old.failure;
+        } }
     {
-        match self.web.turn(k, kind) {
+        self.turns += 1;
+        match told {
             Ok(moved) => {
                 return Turned {
                     link: moved.link,
@@ -326,13 +309,13 @@ impl<S: Stage + Drop, R: Source + Drop, W: Sink> Net<S, R, W> {
             (λ search. LeansTo search.side O.picks O.after order.old) }
         ensures stepped { HasStepped (StandsAs S.stands) R.remaining W.contents W.flushed
             (record { pick = O.picks; next = O.after }) order.old order.new search.old
-            search.new self.old self.new result.is_over }
+            search.new self.old self.new (is_over result) }
         ensures leans { IfSome search.new
             (λ search. LeansTo search.side O.picks O.after order.new) }
-        ensures closer { IsCloser search.old search.new self.old self.new result.is_over }
-        ensures room { result.has_taken ≡ true → IfSome search.new
-            (λ search. is_left search.side ≡ true → HasRoom search.from self.new.web) }
-        ensures turns { result.has_taken ≡ true → self.new.turns ≡ self.old.turns + 1 }
+        ensures closer { IsCloser search.old search.new self.old self.new (is_over result) }
+        ensures room { result ≡ steps.Room → IfSome search.new
+            (λ search. (is_left search.side ≡ true) × HasRoom search.from self.new.web) }
+        ensures turns { result ≡ steps.Room → self.new.turns ≡ self.old.turns + 1 }
         ensures reads { (i : ℕ) → failed_at R.failed i self.new.web.nodes.items
             ≡ (failed_at R.failed i self.old.web.nodes.items || is_read_of i self.new.failure) }
         ensures writes { W.failed self.new.sink
@@ -343,19 +326,17 @@ impl<S: Stage + Drop, R: Source + Drop, W: Sink> Net<S, R, W> {
             if let Some(search) = search {
                 search.pass();
             }
-            return Stepped {
-                is_over: false,
-                has_taken: false,
-            };
+            return Stepped::On;
         };
         if turned.is_over {
-            return Stepped {
-                is_over: true,
-                has_taken: false,
-            };
+            return Stepped::Over;
         }
         match search {
             Some(search) => {
+                if turned.has_taken && search.is_left() {
+                    search.reach(turned.link, turned.is_full);
+                    return Stepped::Room;
+                }
                 if turned.is_full {
                     search.skip(turned.link, &self.takers);
                 } else {
@@ -367,10 +348,7 @@ impl<S: Stage + Drop, R: Source + Drop, W: Sink> Net<S, R, W> {
                 self.ask_both(turned.link, taker);
             }
         }
-        Stepped {
-            is_over: false,
-            has_taken: turned.has_taken,
-        }
+        Stepped::On
     }
 
     // A stage takes a record that was handed to it, and tells whether the run is over.
@@ -476,6 +454,15 @@ impl<S: Stage + Drop, R: Source + Drop, W: Sink> Net<S, R, W> {
         }
     }
 
+    // Whether a stage waits, while the run goes on.
+    #[inline(always)]
+    fn waits(&self, k: usize, is_over: bool) -> bool
+        requires { is_over ≡ false → Somewhere (HasActor (StandsAs S.stands) k self.now.web) }
+        ensures { result ≡ true → IsWaiting k self.now.web }
+    {
+        !is_over && self.web.waits(k)
+    }
+
     // From the right, the turn of a stage whose link is idle and, behind it, that of who takes from it and waits
     // for a record: they were to be asked next in any case. Tells whether the run is over, or nothing has moved.
     #[inline(always)]
@@ -492,17 +479,20 @@ impl<S: Stage + Drop, R: Source + Drop, W: Sink> Net<S, R, W> {
         ensures marks { IfSome result (λ is_over. MarksFailures R.failed W.failed self.old self.new) }
         ensures same { result ≡ None → (self.new ≡ self.old) × (search.new ≡ search.old) }
     {
+        let Some(Side::Right) = order.side() else {
+            return None;
+        };
         let Some(look) = search else {
             return None;
         };
         let k = look.from();
-        let sink = self.web.count();
-        if look.is_left() || k == sink || !self.web.is_idle(k) {
+        if look.is_left() || !self.web.may_hand(k) {
             return None;
         }
+        let sink = self.web.count();
         if k + 1 == sink {
             let is_over = self.hand_to_sink(k, sink)?;
-            look.hand(sink);
+            look.hand(sink, self.waits(k, is_over));
             look.pass();
             return Some(is_over);
         }
@@ -511,7 +501,7 @@ impl<S: Stage + Drop, R: Source + Drop, W: Sink> Net<S, R, W> {
         if self.web.is_source(k) {
             return Some(match self.read_to_stage(k, taker, place) {
                 Handed::On(is_over) => {
-                    look.hand(taker);
+                    look.hand(taker, false);
                     is_over
                 }
                 Handed::Alone(is_over) => {
@@ -521,32 +511,37 @@ impl<S: Stage + Drop, R: Source + Drop, W: Sink> Net<S, R, W> {
             });
         }
         let is_over = self.hand_to_stage(k, taker, place)?;
-        look.hand(taker);
+        look.hand(taker, self.waits(k, is_over));
         Some(is_over)
     }
 
-    // From the left a stage whose link has room, and which has its next record, has its turn: it was to be asked next.
+    // From the left a stage onto whose link room has come has its turn, if it gives or reads at once: it was to be
+    // asked next. Tells whether the run is over.
     #[inline(always)]
-    fn go_on<O: Order>(&mut self, order: &O, search: &Option<Search>)
-        requires may { MayStep (StandsAs S.stands) W.contents W.flushed search.now self.old }
-        requires leans { IfSome search.now
+    fn go_on<O: Order>(&mut self, order: &O, search: &mut Option<Search>) -> bool
+        requires may { MayStep (StandsAs S.stands) W.contents W.flushed search.old self.old }
+        requires leans { IfSome search.old
             (λ search. LeansTo search.side O.picks O.after order.now) }
-        requires room { IfSome search.now
-            (λ search. is_left search.side ≡ true → HasRoom search.from self.old.web) }
+        requires room { IfSome search.old
+            (λ search. (is_left search.side ≡ true) × HasRoom search.from self.old.web) }
         ensures stepped { HasStepped (StandsAs S.stands) R.remaining W.contents W.flushed
-            (record { pick = O.picks; next = O.after }) order.now order.now search.now
-            search.now self.old self.new false }
+            (record { pick = O.picks; next = O.after }) order.now order.now search.old
+            search.new self.old self.new result }
+        ensures leans { IfSome search.new
+            (λ search. LeansTo search.side O.picks O.after order.now) }
         ensures turns { self.old.turns ≤ self.new.turns }
-        ensures reads { (i : ℕ) → failed_at R.failed i self.new.web.nodes.items
-            ≡ failed_at R.failed i self.old.web.nodes.items }
-        ensures failure { self.new.failure ≡ self.old.failure }
-        ensures sink { self.new.sink ≡ self.old.sink }
+        ensures marks { MarksFailures R.failed W.failed self.old self.new }
     {
-        if let Some(search) = search {
-            if search.is_left() {
-                self.refill(search.from());
-            }
+        let Some(look) = search else {
+            return false;
+        };
+        let Some(turned) = self.refill(look.from()) else {
+            return false;
+        };
+        if turned.is_full {
+            look.pass();
         }
+        turned.is_over
     }
 
     // A step and, on the left, the turn of the stage onto whose link room has come. Tells whether the run is over.
@@ -566,14 +561,11 @@ impl<S: Stage + Drop, R: Source + Drop, W: Sink> Net<S, R, W> {
         ensures writes { W.failed self.new.sink
             ≡ (W.failed self.old.sink || is_write self.new.failure) }
     {
-        let stepped = self.step(order, search);
-        if stepped.is_over {
-            return true;
+        match self.step(order, search) {
+            Stepped::On => false,
+            Stepped::Room => self.go_on(order, search),
+            Stepped::Over => true,
         }
-        if stepped.has_taken {
-            self.go_on(order, search);
-        }
-        false
     }
 
     // From the right a record that is handed on, or else a step. Tells whether the run is over.
@@ -629,24 +621,58 @@ impl<S: Stage + Drop, R: Source + Drop, W: Sink> Net<S, R, W> {
             → is_some result ≡ is_ready (plan_of s) s.size now k) }
         ensures gone { IfSome result (HasGone (StandsAs S.stands) R.remaining
             R.failed W.contents W.flushed W.failed k self.old self.new) }
+        ensures little { IfSome result (λ turned. AsksLittle (StandsAs S.stands) R.remaining R.calls R.failed
+            W.contents W.flushed W.calls k self.old self.new) }
         ensures same { result ≡ None → self.new ≡ self.old }
     {
-        let kind = self.web.ready_for(k)?;
-        Some(self.turn_as(k, kind))
+        if k == self.web.count() {
+            let link = self.web.last();
+            let is_over = self.sink_turn()?;
+            self.turns += 1;
+            return Some(Turned {
+                link,
+                is_over,
+                is_full: false,
+                has_taken: !is_over,
+            });
+        }
+        self.stage_turn(k)
     }
 
-    // The turn of a stage whose link has room, if it has taken the record ahead that it gives next.
+    // The turn of a stage, if it is ready.
+    // A function of its own, so that each kind of turn goes its own way behind it.
     #[inline(always)]
-    fn refill(&mut self, k: usize)
+    fn stage_turn(&mut self, k: usize) -> Option<Turned>
+        requires ask { MayAsk (StandsAs S.stands) W.contents W.flushed k self.old }
+        requires stage { k ≢ length self.old.web.nodes.items }
+        ensures ready { AtEach (StandsAs S.stands) W.contents W.flushed self.old
+            (λ start s now. ended (plan_of s) now ≡ None → k ≤ s.count
+            → is_some result ≡ is_ready (plan_of s) s.size now k) }
+        ensures gone { IfSome result (HasGone (StandsAs S.stands) R.remaining
+            R.failed W.contents W.flushed W.failed k self.old self.new) }
+        ensures little { IfSome result (λ turned. AsksLittle (StandsAs S.stands) R.remaining R.calls R.failed
+            W.contents W.flushed W.calls k self.old self.new) }
+        ensures same { result ≡ None → self.new ≡ self.old }
+    {
+        let told = self.web.turn(k)?;
+        Some(self.settle(k, told))
+    }
+
+    // The turn of a stage whose link has room, if it gives or reads at once.
+    #[inline(always)]
+    fn refill(&mut self, k: usize) -> Option<Turned>
         requires ask { MayAsk (StandsAs S.stands) W.contents W.flushed k self.old }
         requires room { HasRoom k self.old.web }
-        ensures refilled { HasRefilled (StandsAs S.stands) R.remaining R.failed W.contents
-            W.flushed W.failed k self.old self.new }
+        ensures ready { IfSome result (λ turned. AtEach (StandsAs S.stands) W.contents W.flushed self.old
+            (λ start s now. ended (plan_of s) now ≡ None
+            → is_ready (plan_of s) s.size now k ≡ true)) }
+        ensures gone { IfSome result (HasGone (StandsAs S.stands) R.remaining
+            R.failed W.contents W.flushed W.failed k self.old self.new) }
+        ensures own { IfSome result (λ turned. turned.link ≡ k) }
+        ensures same { result ≡ None → self.new ≡ self.old }
     {
-        if !self.web.refill(k) {
-            return;
-        }
-        self.turns += 1;
+        let told = self.web.refill(k)?;
+        Some(self.settle(k, told))
     }
 
     /// One turn of an actor that is ready: a stage by its number, from 0, or the sink by the number of stages.
@@ -657,37 +683,10 @@ impl<S: Stage + Drop, R: Source + Drop, W: Sink> Net<S, R, W> {
         ensures little { AsksLittle (StandsAs S.stands) R.remaining R.calls R.failed
             W.contents W.flushed W.calls k self.old self.new }
     {
-        match self.web.ready_for(k) {
-            Some(kind) => self.turn_as(k, kind),
+        match self.turn_if_ready(k) {
+            Some(turned) => turned,
             None => unreachable!(),
         }
-    }
-
-    // The same of one that is known to do this next, if it isn't the sink.
-    #[inline(always)]
-    fn turn_as(&mut self, k: usize, kind: Readiness) -> Turned
-        requires may { MayGo (StandsAs S.stands) W.contents W.flushed k self.old }
-        requires doing { k ≢ length self.old.web.nodes.items
-            → DoesNext (StandsAs S.stands) k self.old.web kind }
-        ensures gone { HasGone (StandsAs S.stands) R.remaining R.failed
-            W.contents W.flushed W.failed k self.old self.new result }
-        ensures little { AsksLittle (StandsAs S.stands) R.remaining R.calls R.failed
-            W.contents W.flushed W.calls k self.old self.new }
-    {
-        if k == self.web.count() {
-            self.turns += 1;
-            let link = self.web.last();
-            let is_over = self.sink_turn();
-            return Turned {
-                link,
-                is_over,
-                is_full: false,
-                has_taken: !is_over,
-            };
-        }
-        let turned = self.stage_turn(k, kind);
-        self.turns += 1;
-        turned
     }
 
     /// How the run ended, once it has.

@@ -1,7 +1,7 @@
 //! Where a run by an order that leans to a side looks for an actor that is ready.
 ghost use Rattle.std.specs.Prelude.{◌≡◌, ◌<◌, ◌-◌, ◌^◌, ℕ, Some, length, slice_get};
 ghost use Rattle.hum_engine.specs.Search.{beginning, away, outer, passed, changed, skipped, kept_behind};
-ghost use Rattle.hum_engine.specs.Search.{skipped_left, handed, is_left};
+ghost use Rattle.hum_engine.specs.Search.{skipped_left, handed, reached, is_left};
 
 use hum_turns::Side;
 
@@ -96,14 +96,27 @@ impl Search {
         }
     }
 
-    /// It has given a record to this actor, which has taken it: two turns.
+    /// From the right it has given a record to this actor, which has taken it: two turns. Where it waits for
+    /// another it isn't asked before whoever is behind it.
     #[inline(always)]
-    pub fn hand(&mut self, taker: usize)
-        requires { taker < 2 ^ 64 - 1 }
-        ensures { self.new ≡ handed self.old taker }
+    pub fn hand(&mut self, taker: usize, waits: bool)
+        ensures { self.new ≡ handed self.old taker waits }
     {
+        if !waits {
+            self.behind = self.from;
+        }
         self.from = taker;
-        self.behind = away(self.side, taker);
+    }
+
+    /// From the left it has taken a record from this link, and its own link is full or isn't.
+    #[inline(always)]
+    pub fn reach(&mut self, link: usize, is_full: bool)
+        ensures { self.new ≡ reached self.old link is_full }
+    {
+        if !is_full {
+            self.behind = self.from;
+        }
+        self.from = link;
     }
 
     // The actor that is asked behind one that is asked again.

@@ -1,25 +1,29 @@
 //! Nodes and their links.
-ghost use Rattle.std.specs.Prelude.{◌≡◌, ◌≢◌, ◌≤◌, ◌<◌, ◌⊎◌, ℕ, [], true, false, slice_index, slice_get, length};
+ghost use Rattle.std.specs.Prelude.{◌≡◌, ◌≢◌, ◌≤◌, ◌<◌, ℕ, true, false, slice_index, length};
 ghost use Rattle.std.specs.Prelude.{IfSome, MatchOption, is_some, ◌-◌};
 ghost use Rattle.std.specs.Prelude.{IfOk, OnOk, OnErr, Err, Some, None, ◌||◌};
 ghost use Rattle.hum_turns.specs.Turns.{Gives, Takes, Ends, state, can, ready};
 ghost use Rattle.hum_turns.specs.Plan.{last};
 ghost use Rattle.hum_turns.specs.Near.{touched};
-ghost use Rattle.hum_turns.specs.Links.{has_some, linked, IsOpening};
+ghost use Rattle.hum_turns.specs.Links.{linked, IsOpening};
 ghost use Rattle.hum_nodes.specs.Nodes.{StandsAs};
 ghost use Rattle.hum_nodes.specs.At.{HoldsOneEach};
 ghost use Rattle.hum_nodes.specs.Doing as does;
 ghost use Rattle.hum_nodes.specs.declared.node.Readiness.TheVariants as kinds;
-ghost use Rattle.hum_engine.specs.Links.{next_of};
+ghost use Rattle.hum_record.specs.Row.{Row};
+ghost use Rattle.hum_engine.specs.Links.{taken_of, is_some_of};
+ghost use Rattle.hum_engine.specs.declared.link.Taken.TheVariants as taken;
+ghost use Rattle.hum_read.specs.declared.ReadError.TheVariants as errors;
+ghost use Rattle.hum_engine.specs.Told.{HasTold};
 ghost use Rattle.hum_engine.specs.Scene.{Scene, plan_of, Somewhere, IsAt, IsActor, MayTurn, MayAct};
 ghost use Rattle.hum_engine.specs.Scene.{IsKind, Keeps, KeepsOthers, Fed, Done, IsAbout};
-ghost use Rattle.hum_engine.specs.Scene.{IsAboutKind, IsDoing, DoesNext, HasActor};
+ghost use Rattle.hum_engine.specs.Scene.{IsAboutKind, IsDoing, HasActor};
 ghost use Rattle.hum_engine.specs.Scene.{IsBegun, Stands, HasStage, held_of, HasFullLink, IsFull, HasRoom};
-ghost use Rattle.hum_engine.specs.Scene.{HasIdleLink, HandsOut, WantsFrom, IsOffered, HasAccepted};
-ghost use Rattle.hum_engine.specs.Readers.{ShowsSame, remaining_at, ended_at, calls_at, failed_at};
+ghost use Rattle.hum_engine.specs.Scene.{HasIdleLink, HandsOut, WantsFrom, IsOffered, HasAccepted, IsWaiting};
+ghost use Rattle.hum_engine.specs.Readers.{remaining_at, ended_at, calls_at, failed_at};
 ghost use Rattle.hum_nodes.specs.Polls.{AsksAtMostOnce, HasStayed, is_failed_read};
 
-use crate::link::Link;
+use crate::link::{Link, Taken};
 use hum_nodes::{Node, Readiness};
 use hum_read::ReadError;
 use hum_record::{Record, Spare};
@@ -36,6 +40,20 @@ pub struct Moved {
     pub is_full: bool,
     /// Whether it has taken a record from that link, which then has room.
     pub has_taken: bool,
+}
+
+impl Moved {
+    // Only this link has changed, from which no record was taken.
+    #[inline(always)]
+    fn alone(link: usize) -> Moved
+        ensures { result ≡ record { link = link; is_full = false; has_taken = false } }
+    {
+        Moved {
+            link,
+            is_full: false,
+            has_taken: false,
+        }
+    }
 }
 
 /// Nodes, and the link of each.
@@ -176,20 +194,22 @@ impl<S: Stage + Drop, R: Source + Drop> Web<S, R> {
         })
     }
 
-    /// What the sink takes: the next record of the last stage, or none where it hears its end.
-    pub fn take_out(&mut self) -> Option<Record>
+    /// What the sink takes: the next record of the last stage, or its end, if there is anything.
+    #[inline(always)]
+    pub fn take_out(&mut self) -> Taken
         requires { Somewhere (IsAt (StandsAs S.stands) self.old) }
-        ensures taken { (s : Scene) → IsAt (StandsAs S.stands) self.old s
-            → has_some (s.links (last (plan_of s))) ≡ true
+        ensures done { is_some_of result ≡ true → (s : Scene) → IsAt (StandsAs S.stands) self.old s
             → Done (StandsAs S.stands) s.count (Takes (last (plan_of s))) self.new s }
-        ensures next { (s : Scene) → IsAt (StandsAs S.stands) self.old s
-            → result ≡ next_of (s.links (last (plan_of s))).waiting }
-        ensures room { IfSome result (λ row. HasRoom (length self.old.links.items - 1) self.new) }
+        ensures taken { (s : Scene) → IsAt (StandsAs S.stands) self.old s
+            → result ≡ taken_of (s.links (last (plan_of s))).waiting (s.links (last (plan_of s))).mark }
+        ensures room { (row : Row) → result ≡ taken.Record row
+            → HasRoom (length self.old.links.items - 1) self.new }
         ensures links { length self.new.links.items ≡ length self.old.links.items }
         ensures nodes { self.new.nodes ≡ self.old.nodes }
+        ensures same { result ≡ taken.Nothing → self.new ≡ self.old }
     {
         let last = self.links.len() - 1;
-        self.links[last].next()
+        self.links[last].take()
     }
 
     /// Keeps a record that is done with, for the next that is made.
@@ -244,96 +264,79 @@ impl<S: Stage + Drop, R: Source + Drop> Web<S, R> {
         }
     }
 
-    // A stage takes from the link of its source at a place.
+    // A stage takes from the link of its source at a place, if there is anything.
     #[inline(always)]
-    fn pass(&mut self, k: usize, place: usize) -> Result<Moved, AllocError>
-        requires may { Somewhere (MayAct (StandsAs S.stands) k (does.Wants place)
-            self.old) }
+    fn pass(&mut self, k: usize, place: usize) -> Option<Result<Moved, ReadError>>
+        requires about { Somewhere (IsAbout (StandsAs S.stands) k (does.Wants place) self.old) }
         requires stage { IsKind false k self.old }
-        ensures passed { OnOk result ((s : Scene)
-            → MayAct (StandsAs S.stands) k (does.Wants place) self.old s
-            → Done (StandsAs S.stands) k
-            (Takes (slice_index (s.kinds k).stage.sources place)) self.new s) }
-        ensures source { IfOk result (λ moved. (s : Scene)
+        ensures able { (s : Scene) → IsAbout (StandsAs S.stands) k (does.Wants place) self.old s
+            → is_some result ≡ can s.size s.links k (state (plan_of s) s.links k) }
+        ensures passed { IfSome result (λ told. OnOk told ((s : Scene)
             → IsAbout (StandsAs S.stands) k (does.Wants place) self.old s
-            → moved.link ≡ slice_index (s.kinds k).stage.sources place) }
-        ensures full { IfOk result (λ moved. moved.is_full ≡ true → IsFull k self.new) }
-        ensures room { IfOk result (λ moved. moved.has_taken ≡ true
-            → (moved.link < k) × HasRoom moved.link self.new) }
+            → Done (StandsAs S.stands) k
+            (Takes (slice_index (s.kinds k).stage.sources place)) self.new s)) }
+        ensures source { IfSome result (λ told. IfOk told (λ moved. (s : Scene)
+            → IsAbout (StandsAs S.stands) k (does.Wants place) self.old s
+            → moved.link ≡ slice_index (s.kinds k).stage.sources place)) }
+        ensures full { IfSome result (λ told. IfOk told (λ moved. moved.is_full ≡ true → IsFull k self.new)) }
+        ensures room { IfSome result (λ told. IfOk told (λ moved. moved.has_taken ≡ true
+            → (moved.link < k) × HasRoom moved.link self.new)) }
+        ensures read { IfSome result (λ told. told ≢ Err errors.Read) }
         ensures nodes { Keeps k self.old self.new }
+        ensures same { result ≡ None → self.new ≡ self.old }
     {
-        let source = self.nodes[k].source();
-        match self.links[source].next() {
-            Some(row) => {
-                let gives = self.nodes[k].put(place, row, &mut self.pool)?;
-                return Ok(Moved {
+        let node = &mut self.nodes[k];
+        let source = node.source();
+        match self.links[source].take() {
+            Taken::Record(row) => Some(match node.put(place, row, &mut self.pool) {
+                Ok(gives) => Ok(Moved {
                     link: source,
                     is_full: self.is_full(k, gives),
                     has_taken: true,
-                });
-            }
-            None => {
-                if let Some(end) = self.links[source].heard() {
-                    self.nodes[k].stop(place, end);
-                }
-            }
-        }
-        Ok(Moved {
-            link: source,
-            is_full: false,
-            has_taken: false,
-        })
-    }
-
-    /// The turn of a stage that is ready and does this next.
-    ///
-    /// # Errors
-    /// A failed read of a source, and running out of memory.
-    #[inline(always)]
-    pub fn turn(&mut self, k: usize, kind: Readiness) -> Result<Moved, ReadError>
-        requires turn { Somewhere (MayTurn (StandsAs S.stands) k self.old) }
-        requires doing { DoesNext (StandsAs S.stands) k self.old kind }
-        ensures turned { OnOk result
-            (Fed (StandsAs S.stands) R.remaining k self.old self.new) }
-        ensures link { IfOk result (λ moved. (s : Scene)
-            → IsActor (StandsAs S.stands) k self.old s
-            → moved.link ≡ touched k (state (plan_of s) s.links k)) }
-        ensures full { IfOk result (λ moved. moved.is_full ≡ true → IsFull k self.new) }
-        ensures room { IfOk result (λ moved. moved.has_taken ≡ true
-            → (moved.link < k) × HasRoom moved.link self.new) }
-        ensures read { result ≡ Err ReadError.Read → IsKind true k self.old }
-        ensures others { KeepsOthers k self.old self.new }
-        ensures marks { failed_at R.failed k self.new.nodes.items
-            ≡ (failed_at R.failed k self.old.nodes.items || is_failed_read result) }
-        ensures calls { AsksAtMostOnce (calls_at R.calls k self.old.nodes.items)
-            (failed_at R.failed k self.old.nodes.items) (calls_at R.calls k self.new.nodes.items)
-            (failed_at R.failed k self.new.nodes.items) }
-        ensures stays { OnErr result (HasStayed (ended_at k self.old.nodes.items)
-            (ended_at k self.new.nodes.items)
-            (remaining_at R.remaining k self.old.nodes.items)
-            (remaining_at R.remaining k self.new.nodes.items)) }
-    {
-        match kind {
-            Readiness::Reads => self.poll(k),
-            Readiness::Wants(place) => match self.pass(k, place) {
-                Ok(moved) => Ok(moved),
-                Err(_) => Err(ReadError::Memory),
-            },
-            Readiness::Gives => match self.give(k) {
-                Ok(()) => Ok(Moved {
-                    link: k,
-                    is_full: false,
-                    has_taken: false,
                 }),
                 Err(_) => Err(ReadError::Memory),
-            },
+            }),
+            Taken::End(end) => {
+                node.stop(place, end);
+                Some(Ok(Moved::alone(source)))
+            }
+            Taken::Nothing => None,
+        }
+    }
+
+    /// The turn of a stage, if it is ready.
+    #[inline(always)]
+    pub fn turn(&mut self, k: usize) -> Option<Result<Moved, ReadError>>
+        requires { Somewhere (HasActor (StandsAs S.stands) k self.old) }
+        ensures ready { (s : Scene) → HasActor (StandsAs S.stands) k self.old s
+            → is_some result ≡ ready (plan_of s) s.size s.links k }
+        ensures told { IfSome result
+            (HasTold (StandsAs S.stands) R.remaining R.calls R.failed k self.old self.new) }
+        ensures same { result ≡ None → self.new ≡ self.old }
+    {
+        match self.nodes[k].readiness() {
+            Readiness::Wants(place) => self.pass(k, place as usize),
+            Readiness::Reads => {
+                if !self.may_read(k) {
+                    return None;
+                }
+                Some(self.poll(k))
+            }
+            Readiness::Gives => {
+                if !self.links[k].has_room() {
+                    return None;
+                }
+                match self.give(k) {
+                    Ok(()) => Some(Ok(Moved::alone(k))),
+                    Err(_) => Some(Err(ReadError::Memory)),
+                }
+            }
             Readiness::Done => {
+                if !self.links[k].is_unset() {
+                    return None;
+                }
                 self.close(k);
-                Ok(Moved {
-                    link: k,
-                    is_full: false,
-                    has_taken: false,
-                })
+                Some(Ok(Moved::alone(k)))
             }
         }
     }
@@ -358,95 +361,67 @@ impl<S: Stage + Drop, R: Source + Drop> Web<S, R> {
         }
     }
 
-    // This, if a stage that isn't a source can do it.
+    // Whether a source may read.
     #[inline(always)]
-    fn if_able(&self, k: usize, kind: Readiness) -> Option<Readiness>
-        requires about { Somewhere (IsAboutKind (StandsAs S.stands) k kind self.now) }
-        requires stage { IsKind false k self.now }
-        ensures kind { IfSome result (λ able. able ≡ kind) }
-        ensures able { (s : Scene) → IsAboutKind (StandsAs S.stands) k kind self.now s
-            → is_some result ≡ can s.size s.links k (state (plan_of s) s.links k) }
-    {
-        if self.can(k, kind) {
-            return Some(kind);
-        }
-        None
-    }
-
-    // The same of a source.
-    #[inline(always)]
-    fn if_may_read(&self, k: usize) -> Option<Readiness>
+    fn may_read(&self, k: usize) -> bool
         requires stage { Somewhere (HasActor (StandsAs S.stands) k self.now) }
         requires source { IsKind true k self.now }
-        ensures kind { IfSome result (λ able. able ≡ kinds.Reads) }
-        ensures able { (s : Scene) → HasActor (StandsAs S.stands) k self.now s
-            → is_some result ≡ ready (plan_of s) s.size s.links k }
+        ensures { (s : Scene) → HasActor (StandsAs S.stands) k self.now s
+            → result ≡ ready (plan_of s) s.size s.links k }
     {
-        if !self.links[k].is_unset() {
-            return None;
+        self.links[k].is_unset() && self.links[k].has_room()
+    }
+
+    /// The turn of a stage whose link has room, if it has taken the record ahead that it gives next, or reads
+    /// bytes and isn't at their end.
+    #[inline(always)]
+    pub fn refill(&mut self, k: usize) -> Option<Result<Moved, ReadError>>
+        requires at { Somewhere (IsAt (StandsAs S.stands) self.old) }
+        requires room { HasRoom k self.old }
+        ensures ready { is_some result ≡ true → (s : Scene) → IsAt (StandsAs S.stands) self.old s
+            → MayTurn (StandsAs S.stands) k self.old s }
+        ensures told { IfSome result
+            (HasTold (StandsAs S.stands) R.remaining R.calls R.failed k self.old self.new) }
+        ensures own { IfSome result (λ told. IfOk told (λ moved. (moved.link ≡ k) × (moved.has_taken ≡ false))) }
+        ensures same { result ≡ None → self.new ≡ self.old }
+    {
+        if self.nodes[k].gives_ahead() {
+            let row = self.nodes[k].take_ahead();
+            self.links[k].push(row);
+            return Some(Ok(Moved::alone(k)));
         }
-        if self.links[k].has_room() {
-            return Some(Readiness::Reads);
+        if self.nodes[k].is_source() && self.links[k].is_unset() {
+            return Some(self.poll(k));
         }
         None
     }
 
-    /// What an actor does next, if it is ready: a stage, or the sink, whose number is that of the
-    /// stages and which wants.
-    // Each kind has an arm, so that the turn that follows is compiled for each.
+    /// Whether a stage waits: it takes from another stage next, and nothing lies on the link of that.
     #[inline(always)]
-    pub fn ready_for(&self, k: usize) -> Option<Readiness>
-        requires { Somewhere (IsActor (StandsAs S.stands) k self.now) }
-        ensures ready { (s : Scene) → IsActor (StandsAs S.stands) k self.now s
-            → is_some result ≡ ready (plan_of s) s.size s.links k }
-        ensures doing { k ≢ length self.now.nodes.items
-            → IfSome result (DoesNext (StandsAs S.stands) k self.now) }
+    pub fn waits(&self, k: usize) -> bool
+        requires { Somewhere (HasActor (StandsAs S.stands) k self.now) }
+        ensures { result ≡ true → IsWaiting k self.now }
     {
-        if k == self.nodes.len() {
-            if self.links[k - 1].has_some() {
-                return Some(Readiness::Wants(0));
-            }
-            return None;
-        }
         match self.nodes[k].readiness() {
-            Readiness::Reads => self.if_may_read(k),
-            Readiness::Gives => self.if_able(k, Readiness::Gives),
-            Readiness::Wants(place) => self.if_able(k, Readiness::Wants(place)),
-            Readiness::Done => self.if_able(k, Readiness::Done),
+            Readiness::Wants(_) => {
+                let source = self.nodes[k].source();
+                self.links[source].is_idle()
+            }
+            Readiness::Gives | Readiness::Reads | Readiness::Done => false,
         }
     }
 
-    /// The turn of a stage whose link has room and which has taken the record ahead that it gives next. Tells
-    /// whether it has; else nothing changes.
+    /// Whether a stage may give a record on an idle link: it reads bytes, or has taken the record ahead that it
+    /// gives next.
     #[inline(always)]
-    pub fn refill(&mut self, k: usize) -> bool
-        requires at { Somewhere (IsAt (StandsAs S.stands) self.old) }
-        requires room { HasRoom k self.old }
-        ensures ready { result ≡ true → (s : Scene) → IsAt (StandsAs S.stands) self.old s
-            → MayTurn (StandsAs S.stands) k self.old s }
-        ensures fed { result ≡ true → Fed (StandsAs S.stands) R.remaining k self.old self.new }
-        ensures link { result ≡ true → (s : Scene) → IsActor (StandsAs S.stands) k self.old s
-            → k ≡ touched k (state (plan_of s) s.links k) }
-        ensures others { KeepsOthers k self.old self.new }
-        ensures marks { failed_at R.failed k self.new.nodes.items
-            ≡ failed_at R.failed k self.old.nodes.items }
-        ensures same { result ≡ false → self.new ≡ self.old }
+    pub fn may_hand(&self, k: usize) -> bool
+        requires { length self.now.links.items ≡ length self.now.nodes.items }
+        ensures stage { result ≡ true → k < length self.now.nodes.items }
+        ensures idle { result ≡ true → HasIdleLink k self.now }
     {
-        if !self.nodes[k].gives_ahead() {
-            return false;
-        }
-        let row = self.nodes[k].take_ahead();
-        self.links[k].push(row);
-        true
-    }
-
-    /// Whether nothing lies on the link of a stage, no end either.
-    #[inline(always)]
-    pub fn is_idle(&self, k: usize) -> bool
-        requires { k < length self.now.links.items }
-        ensures { result ≡ true → HasIdleLink k self.now }
-    {
-        self.links[k].is_idle()
+        k < self.nodes.len()
+            && (self.nodes[k].gives_ahead() || self.nodes[k].is_source())
+            && self.links[k].is_idle()
     }
 
     /// Whether a stage reads bytes.
@@ -494,7 +469,7 @@ impl<S: Stage + Drop, R: Source + Drop> Web<S, R> {
         match self.nodes[k].readiness() {
             Readiness::Wants(place) => {
                 if self.nodes[k].source() == source {
-                    return Some(place);
+                    return Some(place as usize);
                 }
                 None
             }
@@ -530,7 +505,15 @@ impl<S: Stage + Drop, R: Source + Drop> Web<S, R> {
         ensures { (s : Scene) → IsActor (StandsAs S.stands) k self.now s
             → result ≡ ready (plan_of s) s.size s.links k }
     {
-        self.ready_for(k).is_some()
+        if k == self.nodes.len() {
+            return self.links[k - 1].has_some();
+        }
+        match self.nodes[k].readiness() {
+            Readiness::Reads => self.may_read(k),
+            Readiness::Wants(place) => self.can(k, Readiness::Wants(place)),
+            Readiness::Gives => self.can(k, Readiness::Gives),
+            Readiness::Done => self.can(k, Readiness::Done),
+        }
     }
 
     /// The number of the last stage, whose link the sink takes from.

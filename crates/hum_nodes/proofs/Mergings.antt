@@ -1,8 +1,9 @@
 -- What several scores side by side stand for, as a node.
 use Rattle.std.proofs.Common.{◌≡◌, ◌∙◌, refl, sym, ap, subst, ℕ, zero, suc, Bool, true, false}
 use Rattle.std.proofs.Common.{if◌then◌else◌, nat_lt, List, [], ◌∷◌, length, map, replicate, Option}
-use Rattle.std.proofs.Common.{Some, None, arith, ◌+◌}
-use Rattle.std.specs.Prelude.{MatchOption, slice_get}
+use Rattle.std.proofs.Common.{Some, None, arith, ◌+◌, ◌<◌, ◌≤◌, ◌%◌}
+use Rattle.std.specs.Prelude.{IfSome, MatchOption, slice_get}
+use Rattle.std.proofs.lemmas.List.{length-replicate}
 use Rattle.std.proofs.lemmas.Option.{none-some}
 use Rattle.hum_record.specs.Row.{Row}
 use Rattle.hum_stage.specs.declared.faults.End.{End}
@@ -11,7 +12,7 @@ use Rattle.hum_stage.specs.declared.faults.Fault.{Fault}
 use Rattle.hum_stage.specs.declared.faults.State.{State}
 use Rattle.hum_stage.specs.declared.faults.State.TheVariants as state
 use Rattle.hum_stage.specs.Meaning.{resting_state, end_of as stage_end}
-use Rattle.hum_assemble.specs.Change.{Input, More, Ends, had_at}
+use Rattle.hum_assemble.specs.Change.{Input, Change, More, Ends, had_at, IsOpenInput}
 use Rattle.hum_assemble.specs.Meaning as merge
 use Rattle.hum_assemble.specs.Meaning.{Moment, all_of, after_take, after, own_fault, ends}
 use Rattle.hum_assemble.specs.Meaning.{state_of, wants_of, put_of, output, HasTaken}
@@ -156,28 +157,35 @@ end_inputs [] place e = refl
 end_inputs (x ∷ a) zero e = refl
 end_inputs (x ∷ a) (suc place) e = ap (λ xs. input_of x ∷ xs) (end_inputs a place e)
 
+had_length : (j : ℕ) (change : Change) (xs : List Input) → length (had_at j change xs) ≡ length xs
+had_length j change [] = refl
+had_length zero change (x ∷ xs) = refl
+had_length (suc j) change (x ∷ xs) = ap suc (had_length j change xs)
+
 pub put_stands : (stands : Moment → Type 0) (from : List ℕ) (t : At) (place : ℕ) (row : Row)
     (m : Moment) → t.kind ≡ merging m.stage from → inputs_of t.inputs ≡ m.inputs
-    → t.given ≡ m.given → stands (after place (More row) m)
+    → t.given ≡ m.given → length m.inputs ≤ 15 → stands (after place (More row) m)
     → IsMerging stands from (node.after_change (with_record row) place t)
-put_stands stands from t place row m kind inputs given s = record {
+put_stands stands from t place row m kind inputs given few s = record {
   moment = after place (More row) m;
   stand = s;
   kind = kind;
   inputs = put_inputs t.inputs place row ∙ ap (had_at place (More row)) inputs;
   given = given;
+  few = rw (had_length place (More row) m.inputs) few;
 }
 
 pub end_stands : (stands : Moment → Type 0) (from : List ℕ) (t : At) (place : ℕ) (e : End)
     (m : Moment) → t.kind ≡ merging m.stage from → inputs_of t.inputs ≡ m.inputs
-    → t.given ≡ m.given → stands (after place (Ends e) m)
+    → t.given ≡ m.given → length m.inputs ≤ 15 → stands (after place (Ends e) m)
     → IsMerging stands from (node.after_change (with_end e) place t)
-end_stands stands from t place e m kind inputs given s = record {
+end_stands stands from t place e m kind inputs given few s = record {
   moment = after place (Ends e) m;
   stand = s;
   kind = kind;
   inputs = end_inputs t.inputs place e ∙ ap (had_at place (Ends e)) inputs;
   given = given;
+  few = rw (had_length place (Ends e) m.inputs) few;
 }
 
 -- What is settled, and what is taken of it.
@@ -200,6 +208,7 @@ takes before after from t h None s = record {
   kind = h.kind;
   inputs = h.inputs;
   given = h.given;
+  few = h.few;
 }
 takes before after from t h (Some row) s = record {
   moment = after_take h.moment;
@@ -207,6 +216,7 @@ takes before after from t h (Some row) s = record {
   kind = h.kind;
   inputs = h.inputs;
   given = ap (λ n. n + 1) h.given;
+  few = h.few;
 }
 
 pub taken_stands : (before after : Moment → Type 0) (from : List ℕ) (taken : Option Row)
@@ -217,28 +227,44 @@ taken_stands before after from taken s t h =
     (k.0 ∙ next_is before from t h, takes before after from t h taken k.1)
 
 -- Nothing was put yet.
+abbrev empty_input : Input
+empty_input = record { put = []; ended = None }
+
 none_put : (from : List ℕ)
-    → inputs_of (map (λ s. so_far []) from)
-    ≡ replicate (length from) (record { put = []; ended = None })
+    → inputs_of (map (λ s. so_far []) from) ≡ replicate (length from) empty_input
 none_put [] = refl
-none_put (s ∷ from) = ap (λ xs. record { put = []; ended = None } ∷ xs) (none_put from)
+none_put (s ∷ from) = ap (λ xs. empty_input ∷ xs) (none_put from)
 
 pub fresh_stands : (stands : Moment → Type 0) (stage n : ℕ) (from : List ℕ) → n ≡ length from
-    → stands (merge.empty_moment stage n)
+    → length from ≤ 15 → stands (merge.empty_moment stage n)
     → IsMerging stands from (node.fresh (merging stage from))
-fresh_stands stands stage n from count s = record {
+fresh_stands stands stage n from count few s = record {
   moment = merge.empty_moment stage n;
   stand = s;
   kind = refl;
-  inputs = none_put from
-      ∙ ap (λ k. replicate k (record { put = []; ended = None })) (sym count);
+  inputs = none_put from ∙ ap (λ k. replicate k empty_input) (sym count);
   given = refl;
+  few = rw (length-replicate n empty_input, count) few;
 }
 
 -- no place is wanted
 pub unwanted : (o : Option ℕ) → ((place : ℕ) → o ≡ Some place → ⊥) → o ≡ None
 unwanted None h = refl
 unwanted (Some place) h = absurd (h place refl)
+
+-- A place that is wanted fits a byte.
+open_below : (j : ℕ) (xs : List Input) → IsOpenInput j xs → j < length xs
+open_below j [] h = absurd h
+open_below zero (x ∷ xs) h = omega arith
+open_below (suc j) (x ∷ xs) h = let k = open_below j xs h in omega (arith, k)
+
+pub fits_byte : (o : Option ℕ) (place : ℕ) (xs : List Input) → length xs ≤ 15 → o ≡ Some place
+    → IfSome o (λ j. IsOpenInput j xs) → place % 256 ≡ place
+fits_byte None place xs few is h = cc
+fits_byte (Some j) place xs few is h =
+    let k = open_below j xs h in
+    let same : j ≡ place = cc in
+    omega (arith, k, same, few)
 
 -- The end that the state tells.
 

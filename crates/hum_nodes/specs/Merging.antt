@@ -1,5 +1,5 @@
 -- Several scores side by side as a stage of a plan.
-use Rattle.std.specs.Prelude.{◌≡◌, ℕ, true, List, map, Option, Some, None}
+use Rattle.std.specs.Prelude.{◌≡◌, ◌≤◌, ℕ, true, List, map, length, Option, Some, None}
 use Rattle.hum_record.specs.Row.{Row}
 use Rattle.hum_assemble.specs.Change.{Input}
 use Rattle.hum_assemble.specs.Merge.{ahead}
@@ -40,10 +40,12 @@ merging number sources = record {
   one_each = true;
 }
 
--- Where the assembler stands for what was put and given, the node stands for that of its inputs.
+-- Where the assembler stands for what was put and given, the node stands for that of its inputs. They are
+-- few, so that a byte tells the place of each.
 pub record IsMerging (stands : Moment → Type 0) (from : List ℕ) (t : At) : Type 0 where
   pub moment : Moment
   pub stand : stands moment
   pub kind : t.kind ≡ merging moment.stage from
   pub inputs : inputs_of t.inputs ≡ moment.inputs
   pub given : t.given ≡ moment.given
+  pub few : length moment.inputs ≤ 15

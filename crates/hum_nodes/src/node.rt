@@ -23,13 +23,13 @@ use hum_stage::{End, Readiness as StageReadiness, Stage, State};
 use hum_text::calls::Source;
 use std::alloc::{AllocError, Global};
 
-/// What a node does next. It is as small as a number, so a net asks for it quickly; the end is asked
-/// for once, where it is done. The first three stand in the order of what a stage is ready for, so that one
-/// becomes the other without a table.
+/// What a node does next. It is two bytes, so a net asks for it quickly; the end is asked for once, where
+/// it is done. The first three stand in the order of what a stage is ready for, so that one becomes the other
+/// without a table.
 #[derive(Clone, Copy, Drop)]
 pub enum Readiness {
     /// It takes a record or the end of its input at this place, from 0.
-    Wants(usize),
+    Wants(u8),
     /// It gives a record that is settled.
     Gives,
     /// It has given all.
@@ -51,11 +51,11 @@ pub struct Node<S, R> {
 /// What a stage of a plan is.
 #[derive(Drop)]
 enum Work<S, R> {
+    /// A command, the record that it gives next, if that was taken as its input was put, and what it is
+    /// ready for behind that. It stands first, so that it is told from the others by one look.
+    Command(S, Option<Record>, StageReadiness),
     /// A score is read.
     Read(ScoreReader<R>),
-    /// A command, the record that it gives next, if that was taken as its input was put, and what it is
-    /// ready for behind that.
-    Command(S, Option<Record>, StageReadiness),
     /// Scores are put side by side, those of these stages.
     Assemble(Assemble, Vec<usize>),
 }
@@ -97,7 +97,7 @@ fn taken_from(readiness: Readiness, sources: &[usize]) -> usize
         → result ≡ slice_index sources.now place }
 {
     match readiness {
-        Readiness::Wants(place) => source_at(sources, place),
+        Readiness::Wants(place) => source_at(sources, place as usize),
         Readiness::Gives => 0,
         Readiness::Reads => 0,
         Readiness::Done => 0,
@@ -110,7 +110,8 @@ fn of_assemble(stage: &Assemble) -> Readiness
         → result ≡ readiness_of (doing_of t) }
 {
     if let Some(place) = stage.wants() {
-        return Readiness::Wants(place);
+        // of 15 sources at most
+        return Readiness::Wants((place % 256) as u8);
     }
     match stage.state() {
         // No input is wanted here, so the second doesn't come up.

@@ -1,9 +1,10 @@
 //! The command rid: drops records by their kinds.
 #![tactic(auto)]
 
-ghost use Rattle.std.specs.Prelude.{◌≡◌, true, false};
+ghost use Rattle.std.specs.Prelude.{◌<◌, length, ◌≡◌, false, not, ◌&&◌};
 ghost use Rattle.std.specs.List.{list_all};
 ghost use Rattle.std.specs.Str.{bytes_eq};
+ghost use Rattle.hum_record.specs.Contents.{is_data};
 ghost use Rattle.hum_record.specs.Row.{tokens_of};
 ghost use Rattle.hum_rid.specs.Rid.{rid, drops, all_are};
 
@@ -48,21 +49,28 @@ fn drops(options: &RidOptions, row: &Record) -> bool
     }
 }
 
-/// Whether a record is data, and none of those is dropped.
+/// Whether a record of this text is data: its first byte tells.
 #[inline(always)]
-fn keeps_data(options: &RidOptions, row: &Record) -> bool
-    ensures { result ≡ true → drops options.now row.now ≡ false }
+fn begins_data(text: &[u8]) -> bool
+    requires { 0 < length text.now }
+    ensures { result ≡ is_data text.now }
 {
-    match row.kind() {
-        Kind::Global | Kind::Local | Kind::Interpretation => false,
-        Kind::Values => !options.values && !options.null_values,
-    }
+    !matches!(text[0], b'!' | b'*')
+}
+
+/// Whether no data is dropped.
+fn keeps_data(options: &RidOptions) -> bool
+    ensures { result ≡ (not options.now.values && not options.now.null_values) }
+{
+    !options.values && !options.null_values
 }
 
 /// What is dropped.
 #[derive(Drop)]
 pub struct Dropping {
     options: RidOptions,
+    // whether no data is dropped
+    keeps_data: bool,
 }
 
 impl Decides for Dropping {
@@ -78,19 +86,24 @@ impl Decides for Dropping {
 
     ghost keeps = { λ options. options.interpretations ≡ false };
 
-    ghost follows = { λ s decide past. decide ≡ rid s.options };
+    ghost follows = { λ s decide past. (decide ≡ rid s.options)
+        × (s.keeps_data ≡ (not s.options.values && not s.options.null_values)) };
 
     fn command() -> Command {
         Command::Rid
     }
 
     fn begin(_alloc: Global, options: RidOptions) -> Dropping {
-        Dropping { options }
+        let keeps_data = keeps_data(&options);
+        Dropping {
+            options,
+            keeps_data,
+        }
     }
 
     #[inline(always)]
     fn leaves(&self, next: &Record) -> bool {
-        keeps_data(&self.options, next)
+        begins_data(next.text()) && self.keeps_data
     }
 
     fn step(&mut self, next: Record, _room: u64, out: &mut AtMostOne) -> Result<(), Refusal> {

@@ -1,7 +1,7 @@
 //! Links of a net by hand.
 use crate::compared::{same, same_bytes};
 use crate::record::read;
-use hum_engine::Link;
+use hum_engine::{Link, Taken};
 use hum_stage::End;
 use std::alloc::Global;
 use std::process::Abort;
@@ -32,12 +32,10 @@ fn check(rt: &impl Abort, alloc: Global, size: usize, steps: &[Step]) {
                 link.push(read(rt, alloc, text));
             }
             Call::End => link.end(End::Closed),
-            Call::Next(want) => match link.next() {
-                Some(record) => same_bytes(rt, record.text(), want, "a record"),
-                None => {
-                    let told = link.heard().is_some();
-                    same_bytes(rt, if told { b"end" } else { b"" }, want, "no record");
-                }
+            Call::Next(want) => match link.take() {
+                Taken::Record(record) => same_bytes(rt, record.text(), want, "a record"),
+                Taken::End(_) => same_bytes(rt, b"end", want, "the end"),
+                Taken::Nothing => same_bytes(rt, b"", want, "nothing"),
             },
         }
         let (len, room) = (link.len(), link.has_room());

@@ -5,7 +5,7 @@ use Rattle.hum_turns.specs.declared.result.RunResult.TheVariants as ends
 use Rattle.hum_nodes.proofs.Standing.{reads_few}
 use Rattle.hum_nodes.specs.Nodes.{StandsAs}
 use Rattle.hum_engine.specs.Readers.{failed_at, is_read_of, is_write}
-use Rattle.hum_engine.proofs.HandingTo.{hand_at, hand_unfailed, hand_few, between, given, written, not_written, sink_idle, marks_kept}
+use Rattle.hum_engine.proofs.HandingTo.{hand_at, hand_unfailed, hand_few, between, given, written, not_written, sink_idle, marks_kept, waits_then}
 use Rattle.hum_engine.proofs.Netting.{or_false, unfailed_now}
 use Rattle.hum_engine.proofs.net.Net.hand_to_sink.Goals as goal
 
@@ -37,6 +37,7 @@ returns-in-Ok-clause-handed g c =
           m.idle.idle.empty c.args.sink c.requires.sink c.requires.last g.R.Source.calls g.R.Source.failed _
           (ap (λ w. w.nodes) c.keep.ensures) (ap (λ w. w.links) c.keep.ensures) refl refl refl refl c.in-Ok.ensures.ok;
       takers = refl;
+      waits = waits_then k c.in_ok-row.row m.idle.link web _ (ap (λ w. slice_get w.nodes.items k) c.keep.ensures) (ap (λ w. w.links) c.keep.ensures);
     }
 
 pub returns-in-Ok-clause-marks : goal.returns-in-Ok-clause-marks
@@ -85,6 +86,7 @@ returns-in-Err-clause-handed g c =
           m.idle.idle.empty c.args.sink c.requires.sink c.requires.last g.R.Source.calls g.R.Source.failed _ refl refl refl refl refl refl
           c.in-Err.ensures.err;
       takers = refl;
+      waits = waits_then k c.in_ok-row.row m.idle.link web _ refl refl;
     })
 
 pub returns-in-Err-clause-marks : goal.returns-in-Err-clause-marks

@@ -51,7 +51,7 @@ returns-clause-handed g c =
     (λ s at less. e.ready s at) (e.given m.idle.link its) (λ s actor less. e.touches s actor) c.hand_out.ensures.others its
     m.idle.idle.empty c.args.taker c.args.place (wants_within stage c.args.taker c.args.place k old.web c.requires.wants)
     (wants_still stage c.args.taker c.args.place k old.web c.requires.wants web c.hand_out.ensures.others above)
-    c.accept.new.self c.accept.result a.ok a.err a.others a.stays
+    c.accept.new.self c.accept.result a.ok a.err a.others a.stays above a.links
 
 pub returns-clause-marks : goal.returns-clause-marks
 returns-clause-marks g c =

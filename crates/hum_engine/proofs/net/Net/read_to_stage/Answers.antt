@@ -96,7 +96,7 @@ returns-in-Ok-Some-clause-handed g c =
     (source_changes stage k old.web c.requires.source) c.fetch.ensures.others its
     m.idle.idle.empty c.args.taker c.args.place (wants_within stage c.args.taker c.args.place k old.web c.requires.wants)
     (wants_still stage c.args.taker c.args.place k old.web c.requires.wants web c.fetch.ensures.others above)
-    c.accept.new.self c.accept.result a.ok a.err a.others a.stays
+    c.accept.new.self c.accept.result a.ok a.err a.others a.stays above a.links
 
 pub returns-in-Ok-Some-clause-marks : goal.returns-in-Ok-Some-clause-marks
 returns-in-Ok-Some-clause-marks g c =

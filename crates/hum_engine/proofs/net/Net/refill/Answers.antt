@@ -1,10 +1,12 @@
-use Rattle.std.proofs.Common.{◌∙◌, false, true, None, refl, sym, arith, inl}
+use Rattle.std.proofs.Common.{◌∙◌, true, is_some, refl, sym, ap, arith}
 use Rattle.hum_nodes.proofs.Standing.{reads_few}
 use Rattle.hum_nodes.specs.Nodes.{StandsAs}
-use Rattle.hum_engine.specs.Scene.{moved}
+use Rattle.hum_turns.specs.Failures.{result as ended}
+use Rattle.hum_engine.specs.Scene.{moved, plan_of}
 use Rattle.hum_engine.proofs.Bounds.{turns_few}
 use Rattle.hum_engine.proofs.Feeding.{within}
-use Rattle.hum_engine.proofs.Netting.{actor_now, ready_by, marks_by, or_false, stage_turned, unfailed_now}
+use Rattle.hum_engine.proofs.Netting.{actor_now, ready_going, unfailed_now}
+use Rattle.hum_engine.proofs.Settling.{settled}
 use Rattle.hum_engine.proofs.net.Net.refill.Goals as goal
 
 pub refill-requires-clause-at : goal.refill-requires-clause-at
@@ -14,8 +16,18 @@ refill-requires-clause-at g c =
     r.now c.args.k r.at c.requires.ask.going c.requires.ask.within in
     record { scene = moved r.scene r.now.links; holds = at.at }
 
-pub overflow_add-self : goal.overflow_add-self
-overflow_add-self g c =
+pub settle-requires-clause-number : goal.settle-requires-clause-number
+settle-requires-clause-number g c =
+    let r = c.requires.ask.running in
+    let at = actor_now (StandsAs g.S.Stage.stands) g.W.Sink.contents g.W.Sink.flushed r.start r.scene c.args.self.now
+    r.now c.args.k r.at c.requires.ask.going c.requires.ask.within in
+    let its = c.requires.room in
+    let less = within c.args.self.now.web.links.items c.args.k r.scene.count its.link at.at.stand.as_many its.its in
+    let few = r.at.plan.few in
+    omega (arith, less, few)
+
+pub settle-requires-clause-few : goal.settle-requires-clause-few
+settle-requires-clause-few g c =
     let r = c.requires.ask.running in
     let stands = StandsAs g.S.Stage.stands in
     let none = unfailed_now stands g.W.Sink.contents g.W.Sink.flushed r.start r.scene c.args.self.now r.now c.args.k r.at
@@ -25,38 +37,33 @@ overflow_add-self g c =
     let counted = r.at.counted in
     omega (arith, few, counted)
 
-pub returns : goal.returns
-returns g c =
+pub returns-clause-ready : goal.returns-clause-ready
+returns-clause-ready g c start s now h none =
     let stands = StandsAs g.S.Stage.stands in
     let contents = g.W.Sink.contents in
     let flushed = g.W.Sink.flushed in
     let net = c.args.self.now in
     let k = c.args.k in
-    let its = c.requires.room in
+    let at = actor_now stands contents flushed start s net now 0 h none (omega arith) in
+    sym (ready_going stands contents flushed start s net now k h (ended (plan_of s) now) true refl none
+    (sym (c.refill.ensures.ready (ap is_some c.in_ok-told.was) (moved s now.links) at.at).ready))
+
+pub returns-clause-gone : goal.returns-clause-gone
+returns-clause-gone g c =
     let r = c.requires.ask.running in
-    let none = unfailed_now stands contents flushed r.start r.scene net r.now k r.at c.requires.ask.going in
-    let unfailed = r.at.failure ∙ none in
-    let e = c.if-not-refill.ensures in
-    let standing = r.at.going none in
+    let stands = StandsAs g.S.Stage.stands in
+    let contents = g.W.Sink.contents in
+    let flushed = g.W.Sink.flushed in
+    let net = c.args.self.now in
+    let k = c.args.k in
+    let unfailed = unfailed_now stands contents flushed r.start r.scene net r.now k r.at c.requires.ask.going in
+    let standing = r.at.going unfailed in
+    let its = c.requires.room in
     let less = within net.web.links.items k r.scene.count its.link standing.as_many its.its in
     let count = standing.count in
-    record {
-      refilled = record {
-        given = inl (record {
-          ready = λ start s now h none.
-              let stand = h.going (unfailed_now stands contents flushed start s net now k h none) in
-              let less = within net.web.links.items k s.count its.link stand.as_many its.its in
-              sym (ready_by stands contents flushed start s net now k h true none (omega (arith, less))
-              (λ t at. sym (e.ready refl t at.at).ready));
-          turned = stage_turned stands g.R.Source.remaining contents flushed k net _ false None refl
-              (λ here. omega (arith, less, count, here)) (λ is. e.fed refl) tt tt c.refill.ensures.others refl unfailed refl refl refl;
-          changes = λ s actor. inl (e.link refl s actor);
-          turns = refl;
-        });
-        reads = λ i. marks_by g.R.Source.failed k net.web.nodes.items c.refill.new.self.nodes.items None c.refill.ensures.others
-            (c.refill.ensures.marks ∙ or_false _) (λ j other. refl) i ∙ sym (or_false _);
-        sink = refl;
-        failure = refl;
-        takers = refl;
-      };
-    }
+    let e = c.settle.ensures.net in
+    rw c.settle.ensures.turned (settled g.S.Stage.stands g.R.Source.remaining g.R.Source.calls g.R.Source.failed
+    contents flushed g.W.Sink.failed k net c.settle.new.self
+    (λ here. absurd (omega (arith, less, count, here))) (r.at.failure ∙ unfailed)
+    (ap (λ n. n.sink) e) (ap (λ n. n.turns) e) (ap (λ n. n.actors) e) (ap (λ n. n.takers) e) c.in_ok-told.told
+    (rw (ap (λ n. n.web) e) c.in_ok-told.ensures.told) (ap (λ n. n.failure) e))

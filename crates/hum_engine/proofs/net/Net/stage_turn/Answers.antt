@@ -1,90 +1,84 @@
-use Rattle.std.proofs.Common.{refl, sym, ap, ◌∙◌, ◌||◌, ◌+◌, Err, is_some, inl, inr, arith}
-use Rattle.std.proofs.lemmas.Bool.{false≢true, eq-eqb, ne_eqb}
-use Rattle.std.proofs.lemmas.Option.{none-some}
-use Rattle.hum_nodes.specs.Polls.{is_failed_read}
-use Rattle.hum_engine.specs.Readers.{failed_at, is_read_of, is_write}
-use Rattle.hum_engine.proofs.Netting.{source_here}
+use Rattle.std.proofs.Common.{◌∙◌, is_some, refl, sym, ap, arith}
+use Rattle.hum_nodes.proofs.Standing.{reads_few}
+use Rattle.hum_nodes.specs.Nodes.{StandsAs}
+use Rattle.hum_engine.specs.Scene.{moved}
+use Rattle.hum_engine.proofs.Bounds.{turns_few}
+use Rattle.hum_engine.proofs.Netting.{actor_now, below_count, ready_going, unfailed_now}
+use Rattle.hum_engine.proofs.Settling.{settled, settled_little}
 use Rattle.hum_engine.proofs.net.Net.stage_turn.Goals as goal
 
-pub turn-requires-clause-turn : goal.turn-requires-clause-turn
-turn-requires-clause-turn g c = record { scene = c.requires.may.scene; holds = c.requires.may.holds.turn }
-
-pub turn-requires-clause-doing : goal.turn-requires-clause-doing
-turn-requires-clause-doing g c = c.requires.doing
-
-pub returns-in-Ok : goal.returns-in-Ok
-returns-in-Ok g c =
-    let none = c.requires.none in
-    let marks = c.turn.ensures.marks in
+pub turn-requires : goal.turn-requires
+turn-requires g c =
+    let r = c.requires.ask.running in
+    let at = actor_now (StandsAs g.S.Stage.stands) g.W.Sink.contents g.W.Sink.flushed r.start r.scene c.args.self.now
+    r.now c.args.k r.at c.requires.ask.going c.requires.ask.within in
     record {
-      fed = λ e. c.in-Ok.ensures.turned;
-      link = λ s h. inl (c.in-Ok.ensures.link s h);
-      over = sym (ap is_some none);
-      full = c.in-Ok.ensures.full;
-      room = c.in-Ok.ensures.room;
-      failed = rw none tt;
-      others = c.turn.ensures.others;
-      marked = marks
-          ∙ ap (λ b. failed_at g.R.Source.failed c.args.k c.args.self.now.web.nodes.items || b)
-          (ap is_failed_read c.in-Ok.is ∙ sym (ap (is_read_of c.args.k) none));
-      unmarked = λ i other. ap (is_read_of i) none;
-      unwritten = ap is_write none;
-      calls = c.turn.ensures.calls;
-      stays = rw none tt;
-      sink = refl;
-      turns = refl;
-      actors = refl;
-      takers = refl;
+      scene = moved r.scene r.now.links;
+      holds = record {
+        at = at.at;
+        less = below_count c.args.k _ r.scene.count c.requires.ask.within at.at.stand.count c.requires.stage;
+      };
     }
 
-pub returns-in-Err-Read : goal.returns-in-Err-Read
-returns-in-Err-Read g c =
-    let read = c.in-Err-Read.is ∙ ap Err c.in-Err-Read.field-0-is in
-    rw c.fail_to_read.ensures (record {
-      fed = λ e. absurd (none-some _ (sym e));
-      link = λ s h. inr (refl, λ e. none-some _ (sym e));
-      over = refl;
-      full = λ full. absurd (false≢true full);
-      room = λ taken. absurd (false≢true taken);
-      failed = λ s may. (
-        source_here g.S.Stage.stands c.args.k c.args.self.now.web s may (c.turn.ensures.read read),
-        refl,
-        refl,
-      );
-      others = c.turn.ensures.others;
-      marked = c.turn.ensures.marks
-          ∙ ap (λ b. failed_at g.R.Source.failed c.args.k c.args.self.now.web.nodes.items || b)
-          (ap is_failed_read read ∙ sym (eq-eqb (c.args.k + 1) (c.args.k + 1) refl));
-      unmarked = λ i other. ne_eqb (c.args.k + 1) (i + 1) (λ e. other (omega (arith, e)));
-      unwritten = refl;
-      calls = c.turn.ensures.calls;
-      stays = rw read at c.turn.ensures.stays;
-      sink = refl;
-      turns = refl;
-      actors = refl;
-      takers = refl;
-    })
+pub returns-in_err-told-clause-ready : goal.returns-in_err-told-clause-ready
+returns-in_err-told-clause-ready g c start s now h none within =
+    let stands = StandsAs g.S.Stage.stands in
+    let contents = g.W.Sink.contents in
+    let flushed = g.W.Sink.flushed in
+    let net = c.args.self.now in
+    let k = c.args.k in
+    let at = actor_now stands contents flushed start s net now k h none within in
+    let less = below_count k _ s.count within at.at.stand.count c.requires.stage in
+    ap is_some c.from_residual.ensures ∙ sym (ap is_some c.in_err-told.was)
+    ∙ ready_going stands contents flushed start s net now k h _ (is_some c.turn.result) refl none
+    (c.turn.ensures.ready (moved s now.links) (record { at = at.at; less = less }))
 
-pub returns-in-Err-Memory : goal.returns-in-Err-Memory
-returns-in-Err-Memory g c =
-    let memory = c.in-Err-Memory.is ∙ ap Err c.in-Err-Memory.field-0-is in
-    rw c.fail_for_memory.ensures (record {
-      fed = λ e. absurd (none-some _ (sym e));
-      link = λ s h. inr (refl, λ e. none-some _ (sym e));
-      over = refl;
-      full = λ full. absurd (false≢true full);
-      room = λ taken. absurd (false≢true taken);
-      failed = λ s may. refl;
-      others = c.turn.ensures.others;
-      marked = c.turn.ensures.marks
-          ∙ ap (λ b. failed_at g.R.Source.failed c.args.k c.args.self.now.web.nodes.items || b)
-          (ap is_failed_read memory);
-      unmarked = λ i other. refl;
-      unwritten = refl;
-      calls = c.turn.ensures.calls;
-      stays = rw memory at c.turn.ensures.stays;
-      sink = refl;
-      turns = refl;
-      actors = refl;
-      takers = refl;
-    })
+pub settle-requires-clause-few : goal.settle-requires-clause-few
+settle-requires-clause-few g c =
+    let r = c.requires.ask.running in
+    let stands = StandsAs g.S.Stage.stands in
+    let none = unfailed_now stands g.W.Sink.contents g.W.Sink.flushed r.start r.scene c.args.self.now r.now c.args.k r.at
+    c.requires.ask.going in
+    let few = turns_few stands g.W.Sink.contents g.W.Sink.flushed r.start r.scene c.args.self.now r.now
+    (reads_few g.S.Stage.stands) r.at none in
+    let counted = r.at.counted in
+    omega (arith, few, counted)
+
+pub returns-clause-ready : goal.returns-clause-ready
+returns-clause-ready g c start s now h none within =
+    let stands = StandsAs g.S.Stage.stands in
+    let contents = g.W.Sink.contents in
+    let flushed = g.W.Sink.flushed in
+    let net = c.args.self.now in
+    let k = c.args.k in
+    let at = actor_now stands contents flushed start s net now k h none within in
+    let less = below_count k _ s.count within at.at.stand.count c.requires.stage in
+    sym (ap is_some c.in_ok-told.was)
+    ∙ ready_going stands contents flushed start s net now k h _ (is_some c.turn.result) refl none
+    (c.turn.ensures.ready (moved s now.links) (record { at = at.at; less = less }))
+
+pub returns-clause-gone : goal.returns-clause-gone
+returns-clause-gone g c =
+    let r = c.requires.ask.running in
+    let stands = StandsAs g.S.Stage.stands in
+    let none = r.at.failure ∙ unfailed_now stands g.W.Sink.contents g.W.Sink.flushed r.start r.scene c.args.self.now r.now
+    c.args.k r.at c.requires.ask.going in
+    let e = c.settle.ensures.net in
+    rw c.settle.ensures.turned (settled g.S.Stage.stands g.R.Source.remaining g.R.Source.calls g.R.Source.failed
+    g.W.Sink.contents g.W.Sink.flushed g.W.Sink.failed c.args.k c.args.self.now c.settle.new.self
+    c.requires.stage none
+    (ap (λ n. n.sink) e) (ap (λ n. n.turns) e) (ap (λ n. n.actors) e) (ap (λ n. n.takers) e) c.in_ok-told.told
+    (rw (ap (λ n. n.web) e) c.in_ok-told.ensures.told) (ap (λ n. n.failure) e))
+
+pub returns-clause-little : goal.returns-clause-little
+returns-clause-little g c =
+    let r = c.requires.ask.running in
+    let stands = StandsAs g.S.Stage.stands in
+    let none = r.at.failure ∙ unfailed_now stands g.W.Sink.contents g.W.Sink.flushed r.start r.scene c.args.self.now r.now
+    c.args.k r.at c.requires.ask.going in
+    let e = c.settle.ensures.net in
+    settled_little g.S.Stage.stands g.R.Source.remaining g.R.Source.calls g.R.Source.failed
+    g.W.Sink.contents g.W.Sink.flushed g.W.Sink.failed c.args.k c.args.self.now c.settle.new.self
+    c.requires.stage none
+    (ap (λ n. n.sink) e) (ap (λ n. n.turns) e) (ap (λ n. n.actors) e) (ap (λ n. n.takers) e) g.W.Sink.calls c.in_ok-told.told
+    (rw (ap (λ n. n.web) e) c.in_ok-told.ensures.told)

@@ -1,13 +1,10 @@
-use Rattle.std.proofs.Common.{◌∙◌, ◌||◌, ◌<◌, sym, ap, subst, arith, is_some, inr, get_or, slice_get, Some}
-use Rattle.std.proofs.lemmas.Option.{slice_get-get_or}
+use Rattle.std.proofs.Common.{◌∙◌, ◌||◌, ◌<◌, sym, ap, subst, arith, is_some, inr, slice_get, Some}
 use Rattle.hum_turns.specs.Orders.{Order}
 use Rattle.hum_nodes.specs.Nodes.{StandsAs}
 use Rattle.hum_engine.specs.Readers.{failed_at, is_read_of, is_write}
 use Rattle.hum_engine.specs.Nets.{HasStepped}
-use Rattle.hum_engine.specs.Scene.{HasRoom}
-use Rattle.hum_engine.specs.Search.{is_left}
-use Rattle.hum_engine.specs.declared.search.Search.{Search}
-use Rattle.hum_engine.proofs.Advancing.{from_changed, from_skipped}
+use Rattle.hum_engine.specs.Search.{reached}
+use Rattle.hum_engine.proofs.Advancing.{either, reached_on, reached_over}
 use Rattle.hum_engine.proofs.Moving.{nth}
 use Rattle.hum_engine.proofs.Netting.{or_false}
 use Rattle.hum_engine.proofs.Choosing.{asks, may_pick, unfailed, may_ask, never_picked, asks_fewer, front_of}
@@ -181,7 +178,7 @@ change-requires-clause-link g c =
     c.in-Some.turned.link c.in-Some.turned.is_over c.turn_if_ready.new.self
     (λ start s now h none within. sym (c.turn_if_ready.ensures.ready start s now h none within) ∙ ap is_some c.in-Some.is)
     c.in-Some.ensures.gone.link c.in-Some.ensures.gone.turned c.if-turned.false in
-    rw c.deref-else-turned-2.ensures.value less
+    rw c.deref-else-turned-3.ensures.value less
 
 pub skip-requires-clause-from : goal.skip-requires-clause-from
 skip-requires-clause-from g c =
@@ -226,8 +223,8 @@ skip-requires-clause-behind g c =
     let few = m.running.at.plan.few in
     omega (arith, fits, few)
 
-pub returns-else-turned-2-clause-stepped : goal.returns-else-turned-2-clause-stepped
-returns-else-turned-2-clause-stepped g c =
+pub returns-else-turned-3-clause-stepped : goal.returns-else-turned-3-clause-stepped
+returns-else-turned-3-clause-stepped g c =
     let stands = StandsAs g.S.Stage.stands in
     let contents = g.W.Sink.contents in
     let flushed = g.W.Sink.flushed in
@@ -240,10 +237,10 @@ returns-else-turned-2-clause-stepped g c =
     c.in-Some.turned.link c.in-Some.turned.is_over c.turn_if_ready.new.self
     (λ start s now h none within. sym (c.turn_if_ready.ensures.ready start s now h none within) ∙ ap is_some c.in-Some.is)
     c.in-Some.ensures.gone.link c.in-Some.ensures.gone.turned c.if-turned.false c.in-Some-search-2.search c.change.new.self c.in-Some-search-2.is
-    (λ taker at. c.change.ensures.changed taker (ap (λ l. slice_get l c.in-Some.turned.link) c.deref-else-turned-2.ensures.value ∙ at)))
+    (λ taker at. c.change.ensures.changed taker (ap (λ l. slice_get l c.in-Some.turned.link) c.deref-else-turned-3.ensures.value ∙ at)))
 
-pub returns-else-turned-2-clause-leans : goal.returns-else-turned-2-clause-leans
-returns-else-turned-2-clause-leans g c =
+pub returns-else-turned-3-clause-leans : goal.returns-else-turned-3-clause-leans
+returns-else-turned-3-clause-leans g c =
     let order : Order g.row.O.Denot = record { pick = g.O.Order.picks; next = g.O.Order.after } in
     let e = c.next-actor.ensures in
     let look = c.args.search.now in
@@ -251,8 +248,8 @@ returns-else-turned-2-clause-leans g c =
     let w = who c.in-Some-search-2.search c.in-Some-search-2.is in
     rw (c.change.ensures.side, w.1) w.2
 
-pub returns-then-turned-2-clause-stepped : goal.returns-then-turned-2-clause-stepped
-returns-then-turned-2-clause-stepped g c =
+pub returns-then-turned-3-clause-stepped : goal.returns-then-turned-3-clause-stepped
+returns-then-turned-3-clause-stepped g c =
     let stands = StandsAs g.S.Stage.stands in
     let contents = g.W.Sink.contents in
     let flushed = g.W.Sink.flushed in
@@ -266,11 +263,11 @@ returns-then-turned-2-clause-stepped g c =
     (λ start s now h none within. sym (c.turn_if_ready.ensures.ready start s now h none within) ∙ ap is_some c.in-Some.is)
     c.in-Some.ensures.gone.link c.in-Some.ensures.gone.turned c.if-turned.false c.in-Some-search-2.search c.skip.new.self c.in-Some-search-2.is
     (λ start s now h none within. held_by g.S.Stage.stands contents flushed c.next-actor.result c.turn_if_ready.new.self start s now h none within
-    (c.in-Some.ensures.gone.full c.if-turned-2.true))
+    (c.in-Some.ensures.gone.full c.if-turned-3.true))
     (λ taker at. c.skip.ensures.skipped taker (ap (λ l. slice_get l c.in-Some.turned.link) c.deref.ensures.value ∙ at)))
 
-pub returns-then-turned-2-clause-leans : goal.returns-then-turned-2-clause-leans
-returns-then-turned-2-clause-leans g c =
+pub returns-then-turned-3-clause-leans : goal.returns-then-turned-3-clause-leans
+returns-then-turned-3-clause-leans g c =
     let order : Order g.row.O.Denot = record { pick = g.O.Order.picks; next = g.O.Order.after } in
     let e = c.next-actor.ensures in
     let look = c.args.search.now in
@@ -357,54 +354,34 @@ returns-in-None-clause-stepped g c =
     c.in-None.is c.ask_both.new.self c.in-Some.ensures.gone.actors c.ask_both.ensures.same c.ask_both.ensures.len
     c.ask_both.ensures.list)
 
-pub returns-then-turned-2-clause-room : goal.returns-then-turned-2-clause-room
-returns-then-turned-2-clause-room g c taken left =
-    let stands = StandsAs g.S.Stage.stands in
-    let contents = g.W.Sink.contents in
-    let flushed = g.W.Sink.flushed in
-    let order : Order g.row.O.Denot = record { pick = g.O.Order.picks; next = g.O.Order.after } in
-    let e = c.next-actor.ensures in
-    let look = c.args.search.now in
-    let by = c.in-Some-search-2.search in
-    let who = asks order look c.next-actor.result c.args.order.now c.next-actor.new.order e.from c.requires.leans in
-    let few = link_few stands g.R.Source.remaining contents flushed order look c.next-actor.result c.args.order.now c.next-actor.new.order c.args.self.now c.requires.may who e.picked
-    c.in-Some.turned.link c.in-Some.turned.is_over c.turn_if_ready.new.self
-    (λ start s now h none within. sym (c.turn_if_ready.ensures.ready start s now h none within) ∙ ap is_some c.in-Some.is)
-    c.in-Some.ensures.gone.link c.in-Some.ensures.gone.turned c.if-turned.false in
-    let list = c.turn_if_ready.new.self.takers.items in
-    let taker = get_or list c.in-Some.turned.link 0 in
-    let made = c.in-Some.ensures.gone.room taken in
-    let from = (who by c.in-Some-search-2.is).0 in
-    let low = made.0 in
-    let below : c.in-Some.turned.link < by.from = omega (arith, low, from) in
-    let goes = c.skip.ensures.skipped taker (ap (λ l. slice_get l c.in-Some.turned.link) c.deref.ensures.value
-    ∙ slice_get-get_or list c.in-Some.turned.link 0 few) in
-    subst (λ i. HasRoom i c.turn_if_ready.new.self.web)
-    (sym (ap (λ (to : Search). to.from) goes ∙ from_skipped by c.in-Some.turned.link taker (ap is_left (sym c.skip.ensures.side) ∙ left) below))
-    made.1
+-- Where it has taken a record, and the search is from the left.
 
-pub returns-else-turned-2-clause-room : goal.returns-else-turned-2-clause-room
-returns-else-turned-2-clause-room g c taken left =
+pub returns-then-is_left-clause-stepped : goal.returns-then-is_left-clause-stepped
+returns-then-is_left-clause-stepped g c =
     let stands = StandsAs g.S.Stage.stands in
     let contents = g.W.Sink.contents in
     let flushed = g.W.Sink.flushed in
     let order : Order g.row.O.Denot = record { pick = g.O.Order.picks; next = g.O.Order.after } in
     let e = c.next-actor.ensures in
     let look = c.args.search.now in
-    let by = c.in-Some-search-2.search in
     let who = asks order look c.next-actor.result c.args.order.now c.next-actor.new.order e.from c.requires.leans in
-    let few = link_few stands g.R.Source.remaining contents flushed order look c.next-actor.result c.args.order.now c.next-actor.new.order c.args.self.now c.requires.may who e.picked
-    c.in-Some.turned.link c.in-Some.turned.is_over c.turn_if_ready.new.self
-    (λ start s now h none within. sym (c.turn_if_ready.ensures.ready start s now h none within) ∙ ap is_some c.in-Some.is)
-    c.in-Some.ensures.gone.link c.in-Some.ensures.gone.turned c.if-turned.false in
-    let list = c.turn_if_ready.new.self.takers.items in
-    let taker = get_or list c.in-Some.turned.link 0 in
-    let made = c.in-Some.ensures.gone.room taken in
+    let by = c.in-Some-search-2.search in
+    let link = c.in-Some.turned.link in
     let from = (who by c.in-Some-search-2.is).0 in
-    let low = made.0 in
-    let below : c.in-Some.turned.link < by.from = omega (arith, low, from) in
-    let goes = c.change.ensures.changed taker (ap (λ l. slice_get l c.in-Some.turned.link) c.deref-else-turned-2.ensures.value
-    ∙ slice_get-get_or list c.in-Some.turned.link 0 few) in
-    subst (λ i. HasRoom i c.turn_if_ready.new.self.web)
-    (sym (ap (λ (to : Search). to.from) goes ∙ from_changed by c.in-Some.turned.link taker (ap is_left (sym c.change.ensures.side) ∙ left) below))
-    made.1
+    let low = (c.in-Some.ensures.gone.room c.if-turned-2.true).0 in
+    let below : link < by.from = omega (arith, low, from) in
+    let left = sym c.is_left.ensures ∙ c.if-is_left.true in
+    subst (λ b. HasStepped stands g.R.Source.remaining contents flushed order c.args.order.now c.next-actor.new.order
+    look (Some c.reach.new.self) c.args.self.now c.turn_if_ready.new.self b) c.if-turned.false (either c.in-Some.turned.is_full
+    (λ full. stepped_over_it stands g.R.Source.remaining contents flushed order look c.next-actor.result c.args.order.now c.next-actor.new.order c.args.self.now c.requires.may who e.picked
+    link c.in-Some.turned.is_over c.turn_if_ready.new.self
+    (λ start s now h none within. sym (c.turn_if_ready.ensures.ready start s now h none within) ∙ ap is_some c.in-Some.is)
+    c.in-Some.ensures.gone.link c.in-Some.ensures.gone.turned c.if-turned.false by c.reach.new.self c.in-Some-search-2.is
+    (λ start s now h none within. held_by g.S.Stage.stands contents flushed c.next-actor.result c.turn_if_ready.new.self start s now h none within
+    (c.in-Some.ensures.gone.full full))
+    (λ taker at. c.reach.ensures ∙ ap (reached by link) full ∙ reached_over by link taker left below))
+    (λ isnt. stepped_on stands g.R.Source.remaining contents flushed order look c.next-actor.result c.args.order.now c.next-actor.new.order c.args.self.now c.requires.may who e.picked
+    link c.in-Some.turned.is_over c.turn_if_ready.new.self
+    (λ start s now h none within. sym (c.turn_if_ready.ensures.ready start s now h none within) ∙ ap is_some c.in-Some.is)
+    c.in-Some.ensures.gone.link c.in-Some.ensures.gone.turned c.if-turned.false by c.reach.new.self c.in-Some-search-2.is
+    (λ taker at. c.reach.ensures ∙ ap (reached by link) isnt ∙ reached_on by link taker left below)))

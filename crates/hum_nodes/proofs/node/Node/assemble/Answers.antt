@@ -10,7 +10,7 @@ returns-clause-stands g c rest =
     let l = c.args.sources.ok.0 in
     let count : c.len.result ≡ length c.args.sources.items = omega (arith, is, l) in
     let works = fresh_stands (Stands c.in_ok-stage.stage) c.args.number c.len.result c.args.sources.items
-    count c.in_ok-stage.ensures.stands in
+    count c.requires c.in_ok-stage.ensures.stands in
     let knows = c.of_assemble-readiness.ensures c.args.sources.items _ works in
     record {
       works = works;

@@ -57,7 +57,7 @@ returns-in_ok-put-in-Assemble-clause-put g c rest t h may =
     let k = merging.changes stands c.in-Assemble.sources.items t w (with_record c.args.next)
     c.args.place may in
     let works = merging.put_stands (Stands c.give_back.new.self) c.in-Assemble.sources.items t
-    c.args.place c.args.next w.moment w.kind w.inputs w.given
+    c.args.place c.args.next w.moment w.kind w.inputs w.given w.few
     (rw c.give_back.ensures (c.in_ok-put-in-Assemble.ensures.ok w.moment w.stand k.wants)) in
     let knows = c.of_assemble-self.ensures c.in-Assemble.sources.items _ works in
     record {

@@ -68,7 +68,7 @@ returns-in-Assemble-clause-stopped g c rest t h may =
     let k = merging.changes stands c.in-Assemble.sources.items t w (with_end c.args.end) c.args.place
     may in
     let works = merging.end_stands (Stands c.end-in-Assemble.new.self) c.in-Assemble.sources.items t
-    c.args.place c.args.end w.moment w.kind w.inputs w.given
+    c.args.place c.args.end w.moment w.kind w.inputs w.given w.few
     (c.end-in-Assemble.ensures.ended w.moment w.stand k.wants) in
     let knows = c.of_assemble-self.ensures c.in-Assemble.sources.items _ works in
     record {

@@ -1,0 +1,32 @@
+-- What the turn of a stage comes to.
+use Rattle.std.specs.Prelude.{◌≡◌, ℕ, ◌<◌, Bool, true, List, Option, Result, Err, OnOk, OnErr, IfOk, ◌||◌}
+use Rattle.hum_read.specs.declared.ReadError.{ReadError}
+use Rattle.hum_read.specs.declared.ReadError.TheVariants as error
+use Rattle.hum_turns.specs.Turns.{state}
+use Rattle.hum_turns.specs.Near.{touched}
+use Rattle.hum_nodes.specs.At.{At}
+use Rattle.hum_nodes.specs.Polls.{AsksAtMostOnce, HasStayed, is_failed_read}
+use Rattle.hum_nodes.specs.declared.node.Node.{Node}
+use Rattle.hum_engine.specs.declared.web.Web.{Web}
+use Rattle.hum_engine.specs.declared.web.Moved.{Moved}
+use Rattle.hum_engine.specs.Readers.{remaining_at, ended_at, calls_at, failed_at}
+use Rattle.hum_engine.specs.Scene.{Scene, plan_of, IsActor, IsKind, IsFull, HasRoom, KeepsOthers, Fed}
+
+-- Stage k was ready and has had its turn, which tells what it has come to. A failed read, or running out
+-- of memory, has read no byte. Its reader was called once at most, and no other.
+pub record HasTold {S R : Type 0} (stands : Node S R → List ℕ → At → Type 0) (remaining : R → Option (List ℕ))
+    (asks : R → ℕ) (failed : R → Bool) (k : ℕ) (old new : Web S R) (told : Result Moved ReadError)
+    : Type 0 where
+  pub turned : OnOk told (Fed stands remaining k old new)
+  pub link : IfOk told (λ moved. (s : Scene) → IsActor stands k old s
+      → moved.link ≡ touched k (state (plan_of s) s.links k))
+  pub full : IfOk told (λ moved. moved.is_full ≡ true → IsFull k new)
+  pub room : IfOk told (λ moved. moved.has_taken ≡ true → (moved.link < k) × HasRoom moved.link new)
+  pub read : told ≡ Err error.Read → IsKind true k old
+  pub others : KeepsOthers k old new
+  pub marks : failed_at failed k new.nodes.items
+      ≡ (failed_at failed k old.nodes.items || is_failed_read told)
+  pub calls : AsksAtMostOnce (calls_at asks k old.nodes.items) (failed_at failed k old.nodes.items)
+      (calls_at asks k new.nodes.items) (failed_at failed k new.nodes.items)
+  pub stays : OnErr told (HasStayed (ended_at k old.nodes.items) (ended_at k new.nodes.items)
+      (remaining_at remaining k old.nodes.items) (remaining_at remaining k new.nodes.items))
