@@ -1,5 +1,6 @@
 -- What subtokens say that are as most are.
-use Rattle.std.specs.Prelude.{◌≡◌, ◌+◌, ◌-◌, ◌*◌, ◌==◌, nat_lt, nat_le, not, ◌&&◌, ◌||◌, ◌++◌, take, drop, ℕ, Bool, true, false, List, [], ◌∷◌, Option, None, Some, Ok, if◌then◌else◌}
+use Rattle.std.specs.Prelude.{◌≡◌, ◌+◌, ◌-◌, ◌*◌, ◌==◌, nat_lt, nat_le, not, ◌&&◌, ◌||◌, ◌++◌, take, drop}
+use Rattle.std.specs.Prelude.{ℕ, Bool, true, false, List, [], ◌∷◌, Option, None, Some, Ok, if◌then◌else◌}
 use Rattle.std.specs.List.{list_any}
 use Rattle.hum_frac.specs.Ratio.{Ratio, reduced}
 use Rattle.hum_kern.specs.declared.Length.{Length}
@@ -81,4 +82,5 @@ pub record IsLastingText (token text : List ℕ) : Type 0 where
   pub read : duration token ≡ Ok found
   pub valued : found.value ≡ Some value
   pub alone : subtokens token ≡ token ∷ []
-  pub text_is : text ≡ take (found.end - found.start) (drop found.start token) ++ (if is_rest token then 114 ∷ [] else [])
+  pub text_is : text ≡
+      take (found.end - found.start) (drop found.start token) ++ (if is_rest token then 114 ∷ [] else [])
