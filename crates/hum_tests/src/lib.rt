@@ -14,6 +14,8 @@ mod faults;
 #[cfg(test)]
 mod frac;
 #[cfg(test)]
+mod gathered;
+#[cfg(test)]
 mod kern;
 #[cfg(test)]
 mod laws;

@@ -10,3 +10,4 @@ pub mod WayLemmas
 pub mod ReadLemmas
 pub mod PollLemmas
 pub mod NearLemmas
+pub mod GatherLemmas

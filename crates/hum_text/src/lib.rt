@@ -3,6 +3,7 @@
 
 mod block;
 pub mod calls;
+pub mod gathered;
 mod near;
 pub mod reader;
 mod rules;

@@ -14,7 +14,8 @@ use crate::ending::Ending;
 use crate::files::run_files;
 use hum_line::{Choice, LineFault, Side, read_line};
 use hum_net::{Leftmost, Order, Rightmost, run_bundle};
-use hum_text::calls::{LARGEST_READ, Marked};
+use hum_text::calls::LARGEST_READ;
+use hum_text::gathered::Gathered;
 use hum_words::{LARGEST_BUNDLE, LONGEST_PLAN};
 use std::alloc::Global;
 use std::io::{self, BufWriter, ErrorKind, Printer, Read};
@@ -22,11 +23,11 @@ use std::process::ExitCode;
 use std::{env, fs};
 
 /// Standard output, in blocks.
-type Output<'a> = Marked<BufWriter<Printer<'a, HostRuntime>>>;
+type Output<'a> = Gathered<BufWriter<Printer<'a, HostRuntime>>>;
 
 fn output(rt: &HostRuntime) -> io::Result<Output<'_>> {
     let writer = BufWriter::with_capacity(rt.alloc(), LARGEST_READ, io::writer(rt))?;
-    Ok(Marked::new(writer))
+    Ok(Gathered::new(rt.alloc(), writer)?)
 }
 
 /// The bytes of a reader, of which so many are wanted and one more.
