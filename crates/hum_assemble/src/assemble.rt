@@ -34,7 +34,7 @@ pub struct Assemble {
     // whether a round goes on, and what can be done next
     going: bool,
     next: Next,
-    // records of the sources that were done with
+    // records of the sources that were done with, of two rounds at most
     done: Done,
     spent: bool,
 }
@@ -196,7 +196,7 @@ impl Assemble {
             given: 0,
             going,
             next,
-            done: Done::with_room(alloc, sources)?,
+            done: Done::with_room(alloc, 2 * sources)?,
             spent: false,
         })
     }
@@ -272,12 +272,13 @@ impl Assemble {
         Ok(Some(row))
     }
 
-    /// Hands a record that was put and is done with to the pool, where none stands in front there, and one is
-    /// left beside that in which the next is made.
+    /// Hands a record that was put and is done with to the pool, if another is left in which the next is made:
+    /// where none stands in front there, since from the left a source reads as soon as its record is put; and
+    /// where more wait than a round leaves, since from the right all read once a round is over.
     pub fn give_back(&mut self, pool: &mut Spare)
         ensures { self.new ≡ self.old }
     {
-        if pool.has_first() {
+        if pool.has_first() && self.done.count() <= self.sources.len() {
             return;
         }
         if let Some(row) = self.done.take_surplus() {

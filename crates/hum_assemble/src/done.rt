@@ -37,6 +37,11 @@ impl Done {
         }
     }
 
+    /// How many there are.
+    pub fn count(&self) -> usize {
+        self.rows.len()
+    }
+
     /// Hands one out, if there is one.
     pub fn take(&mut self) -> Option<Record> {
         self.rows.pop()
