@@ -84,6 +84,21 @@ module _ {S R W O : Type 0} (stands : Node S R → List ℕ → At → Type 0)
         takers = refl;
       })
 
+  pub marks_twice : (failed : R → Bool) (broken : W → Bool) (old net new : Net S R W) → net.failure ≡ None
+      → MarksFailures failed broken old net → MarksFailures failed broken net new
+      → MarksFailures failed broken old new
+  marks_twice failed broken old net new none one two =
+      let broke : Bool = broken old.sink in
+      record {
+        reads = λ i.
+            let was : Bool = failed_at failed i old.web.nodes.items in
+            two.reads i ∙ ap (λ b. b || is_read_of i new.failure)
+            (one.reads i ∙ ap (λ f. was || is_read_of i f) none ∙ sym (or_false was));
+        writes = two.writes ∙ ap (λ b. b || is_write new.failure)
+            (one.writes ∙ ap (λ f. broke || is_write f) none ∙ sym (or_false broke));
+        takers = two.takers ∙ one.takers;
+      }
+
   -- Two steps are one.
   pub stepped_twice : (before look after : Option Search) (is_over : Bool) (o p q : O) (old net new : Net S R W)
       → HasStepped stands remaining contents flushed order o p before look old net false

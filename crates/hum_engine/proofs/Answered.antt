@@ -138,11 +138,11 @@ module _ {S R : Type 0} (stage : S → Moment → Type 0) (tells : R → Option 
     module _ (place : ℕ) (doing : IsDoing (StandsAs stage) k old (kinds.Wants place)) (here : Scene)
         (at : IsAt (StandsAs stage) old here) (less : k < here.count) where
       pub told_pass : (o : Option (Result Moved ReadError))
-          → ((s : Scene) → IsAbout (StandsAs stage) k (does.Wants place) old s
+          → ((s : Scene) (place : ℕ) → IsAbout (StandsAs stage) k (does.Wants place) old s
           → is_some o ≡ can s.size s.links k (state (plan_of s) s.links k))
-          → IfSome o (λ told. OnOk told ((s : Scene) → IsAbout (StandsAs stage) k (does.Wants place) old s
+          → IfSome o (λ told. OnOk told ((s : Scene) (place : ℕ) → IsAbout (StandsAs stage) k (does.Wants place) old s
           → Done (StandsAs stage) k (Takes (slice_index (s.kinds k).stage.sources place)) new s))
-          → IfSome o (λ told. IfOk told (λ moved. (s : Scene) → IsAbout (StandsAs stage) k (does.Wants place) old s
+          → IfSome o (λ told. IfOk told (λ moved. (s : Scene) (place : ℕ) → IsAbout (StandsAs stage) k (does.Wants place) old s
           → moved.link ≡ slice_index (s.kinds k).stage.sources place))
           → IfSome o (λ told. IfOk told (λ moved. moved.is_full ≡ true → IsFull k new))
           → IfSome o (λ told. IfOk told (λ moved. moved.has_taken ≡ true → (moved.link < k) × HasRoom moved.link new))
@@ -158,19 +158,19 @@ module _ {S R : Type 0} (stage : S → Moment → Type 0) (tells : R → Option 
           let may : MayTurn stands k old here = record {
             at = at;
             less = less;
-            ready = stage_ready stands k old (does.Wants place) here about ∙ sym (able here about);
+            ready = stage_ready stands k old (does.Wants place) here about ∙ sym (able here place about);
           } in
           record {
             turned = stage_fed stage k tells old new node.0 here may node.1 (was node.0 node.1)
                 (λ u turn.
                 let a = wants_about stands k old place doing u turn.at turn.less in
-                let act = may_of stands k (does.Wants place) old u a (sym (able u a)) in
+                let act = may_of stands k (does.Wants place) old u a (sym (able u place a)) in
                 has_done stands k old new _ u act (Takes (slice_index (u.kinds k).stage.sources place))
-                (state_takes u u.links k place act.less act.does) (passed u a)) keep;
+                (state_takes u u.links k place act.less act.does) (passed u place a)) keep;
             link = λ u actor.
                 let there = here_too k _ here.count u.count less at.stand.count actor.at.stand.count in
                 let a = wants_about stands k old place doing u actor.at there in
-                touched_takes stands k old _ u a place moved.link refl (source u a);
+                touched_takes stands k old _ u a place moved.link refl (source u place a);
             full = full;
             room = room;
             read = λ h. cc;

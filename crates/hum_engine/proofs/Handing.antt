@@ -7,7 +7,7 @@ use Rattle.hum_stage.specs.Meaning.{Moment}
 use Rattle.hum_turns.specs.Links.{has_room, view}
 use Rattle.hum_turns.specs.Turns.{Takes, can, ready, state, pushed, popped}
 use Rattle.hum_turns.specs.Near.{touched}
-use Rattle.hum_nodes.specs.At.{At, doing_of, after_change, with_record, MayChange}
+use Rattle.hum_nodes.specs.At.{sources_of, At, doing_of, after_change, with_record, MayChange}
 use Rattle.hum_nodes.specs.Doing as does
 use Rattle.hum_nodes.specs.Nodes.{StandsAs, is_source, readiness_at}
 use Rattle.hum_nodes.specs.declared.node.Node.{Node}
@@ -38,14 +38,19 @@ room_in stands k web s link st at h =
 
 -- A node that has taken a record ahead is a stage that gives next, and can where its link has room.
 module _ {S R : Type 0} (stage : S → Moment → Type 0) (k : ℕ) (web : Web S R) (node : Node S R) (link : port.Link)
-    (is : is_source node ≡ false)
-    (gives : (rest : List ℕ) (t : At) → StandsAs stage node rest t → doing_of t ≡ does.Gives)
+    (gives : (rest : List ℕ) (t : At) → StandsAs stage node rest t
+    → (is_source node ≡ false) × (doing_of t ≡ does.Gives))
     (there : slice_get web.nodes.items k ≡ Some node)
     (its : slice_get web.links.items k ≡ Some link) (has : room link ≡ true)
     (s : Scene) (at : IsAt (StandsAs stage) web s) (less : k < s.count) where
+  pub isnt_source : is_source node ≡ false
+  isnt_source = (gives (s.rests k) (at_of s.kinds s.links k) (at.stand.nodes k node there)).0
+
   pub doing : IsDoing (StandsAs stage) k web kinds.Gives
   doing = doing_is stage k web node kinds.Gives
-      (λ rest t stands. sym (ap (λ b. readiness_at b (doing_of t)) is ∙ ap (readiness_at false) (gives rest t stands)))
+      (λ rest t stands.
+      let its_kind = gives rest t stands in
+      sym (ap (λ b. readiness_at b (doing_of t)) its_kind.0 ∙ ap (readiness_at false) its_kind.1))
       there s at less gives_not_reads
 
   pub can_give : can s.size s.links k (state (plan_of s) s.links k) ≡ true
@@ -226,16 +231,19 @@ module _ {S R : Type 0} (stage : S → Moment → Type 0) (k place source : ℕ)
 
 -- A record is offered once.
 module _ {S R : Type 0} (stage : S → Moment → Type 0) (k place : ℕ) (row : Row) (web : Web S R)
-    (o : IsOffered (StandsAs stage) k place row web) (source : ℕ) (link : port.Link)
+    (o : IsOffered (StandsAs stage) k row web) (source : ℕ) (link : port.Link)
     (its : slice_get web.links.items source ≡ Some link) (w : WantsFrom (StandsAs stage) k place source web) where
   source_is : o.source ≡ source
   source_is =
       let s = o.scene in
       let here = o.at.stand.nodes k o.wants.node o.wants.is in
       let same : o.wants.node ≡ w.node = same_Some _ _ (sym o.wants.is ∙ w.is) in
-      sym (o.wants.from (s.rests k) (at_of s.kinds s.links k) here)
-      ∙ w.from (s.rests k) (at_of s.kinds s.links k)
-      (subst (λ n. StandsAs stage n (s.rests k) (at_of s.kinds s.links k)) same here)
+      let t = at_of s.kinds s.links k in
+      let there = subst (λ n. StandsAs stage n (s.rests k) t) same here in
+      let wants : does.Wants o.place ≡ does.Wants place =
+      sym (o.wants.wants (s.rests k) t here) ∙ w.wants (s.rests k) t there in
+      let place_is : o.place ≡ place = cc in
+      sym (o.wants.from (s.rests k) t here) ∙ ap (slice_index (sources_of t)) place_is ∙ w.from (s.rests k) t there
 
   pub offered_at : IsAt (StandsAs stage) (laid source row link web) o.scene
   offered_at =

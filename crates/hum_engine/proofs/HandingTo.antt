@@ -245,11 +245,12 @@ module _ {S R W : Type 0} (stage : S → Moment → Type 0) (remaining : R → O
     -- A stage takes it.
     module _ (taker place : ℕ) (takes : taker < length old.web.nodes.items)
         (w : WantsFrom (StandsAs stage) taker place k web) where
-      pub offered : IsOffered (StandsAs stage) taker place row web
+      pub offered : IsOffered (StandsAs stage) taker row web
       offered =
           let less_too = takes in
           let count = after.many in
           record {
+            place = place;
             source = k;
             link = link;
             its = its;
@@ -275,14 +276,14 @@ module _ {S R W : Type 0} (stage : S → Moment → Type 0) (remaining : R → O
       isnt_sink : taker ≡ length web.nodes.items → ⊥
       isnt_sink here = let same = many in omega (arith, takes, here, same)
 
-      pub taken : (new : Net S R W) → HasAccepted (StandsAs stage) remaining taker place row web new.web
+      pub taken : (new : Net S R W) → HasAccepted (StandsAs stage) remaining taker row web new.web
           → KeepsOthers taker web new.web → new.sink ≡ old.sink → new.failure ≡ old.failure → new.turns ≡ old.turns + 2
           → new.actors ≡ old.actors → new.takers ≡ old.takers
           → HasMoved (StandsAs stage) remaining contents flushed taker k (between k row link web old) new false
       taken new accepts keeps sink failure more list who = record {
         ready = ready_then;
         turned = stage_turned (StandsAs stage) remaining contents flushed taker (between k row link web old) new false None refl
-            isnt_sink (λ is. accepts k link its empty w) tt tt keeps sink
+            isnt_sink (λ is. accepts k place link its empty w) tt tt keeps sink
             (failure ∙ unfailed (StandsAs stage) contents flushed look old may) (two_more _ _ more) list who;
         changes = λ s actor.
             inl (accept_touches stage taker place k row web link its empty w s actor.at (takes_in s actor.at.stand.count));
@@ -308,7 +309,7 @@ module _ {S R W : Type 0} (stage : S → Moment → Type 0) (remaining : R → O
       -- as one answer
       pub handed_to : (new : Net S R W) (b : Bool)
           → (b ≡ false → (new ≡ record old { web = new.web; turns = old.turns + 2 })
-          × HasAccepted (StandsAs stage) remaining taker place row web new.web)
+          × HasAccepted (StandsAs stage) remaining taker row web new.web)
           → (b ≡ true → new ≡ record old { web = new.web; turns = old.turns + 2; failure = Some ends.Memory })
           → KeepsOthers taker web new.web
           → HasStayed (ended_at taker web.nodes.items) (ended_at taker new.web.nodes.items)
@@ -324,7 +325,7 @@ module _ {S R W : Type 0} (stage : S → Moment → Type 0) (remaining : R → O
       }
         where
           by : (b : Bool) → (b ≡ false → (new ≡ record old { web = new.web; turns = old.turns + 2 })
-              × HasAccepted (StandsAs stage) remaining taker place row web new.web)
+              × HasAccepted (StandsAs stage) remaining taker row web new.web)
               → (b ≡ true → new ≡ record old { web = new.web; turns = old.turns + 2; failure = Some ends.Memory })
               → HasMoved (StandsAs stage) remaining contents flushed taker k (between k row link web old) new b
           by false ok err =

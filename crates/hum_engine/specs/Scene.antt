@@ -252,8 +252,9 @@ pub record WantsFrom {S R : Type 0} (stands : Node S R → List ℕ → At → T
   pub from : (rest : List ℕ) (t : At) → stands node rest t → slice_index (sources_of t) place ≡ source
 
 -- Stage k takes this record next, which would be alone on the link that it takes from.
-pub record IsOffered {S R : Type 0} (stands : Node S R → List ℕ → At → Type 0) (k place : ℕ) (row : Row)
+pub record IsOffered {S R : Type 0} (stands : Node S R → List ℕ → At → Type 0) (k : ℕ) (row : Row)
     (web : Web S R) : Type 0 where
+  pub place : ℕ
   pub source : ℕ
   pub link : Link
   pub its : slice_get web.links.items source ≡ Some link
@@ -332,8 +333,8 @@ HandsOut stands remaining k row old new =
     (link : Link) → slice_get new.links.items k ≡ Some link → Fed stands remaining k old (laid k row link new)
 
 -- Stage k has had its turn, in which it has taken this record from a link on which it would have been alone.
-abbrev pub HasAccepted : {S R : Type 0} → (Node S R → List ℕ → At → Type 0) → (R → Option (List ℕ)) → ℕ → ℕ
+abbrev pub HasAccepted : {S R : Type 0} → (Node S R → List ℕ → At → Type 0) → (R → Option (List ℕ)) → ℕ
     → Row → Web S R → Web S R → Type 0
-HasAccepted stands remaining k place row old new =
-    (source : ℕ) (link : Link) → slice_get old.links.items source ≡ Some link → link.waiting.items ≡ []
+HasAccepted stands remaining k row old new =
+    (source place : ℕ) (link : Link) → slice_get old.links.items source ≡ Some link → link.waiting.items ≡ []
     → WantsFrom stands k place source old → Fed stands remaining k (laid source row link old) new

@@ -316,10 +316,7 @@ impl<S: Stage + Drop, R: Source + Drop, W: Sink> Net<S, R, W> {
         ensures room { result ≡ steps.Room → IfSome search.new
             (λ search. (is_left search.side ≡ true) × HasRoom search.from self.new.web) }
         ensures turns { result ≡ steps.Room → self.new.turns ≡ self.old.turns + 1 }
-        ensures reads { (i : ℕ) → failed_at R.failed i self.new.web.nodes.items
-            ≡ (failed_at R.failed i self.old.web.nodes.items || is_read_of i self.new.failure) }
-        ensures writes { W.failed self.new.sink
-            ≡ (W.failed self.old.sink || is_write self.new.failure) }
+        ensures marks { MarksFailures R.failed W.failed self.old self.new }
     {
         let actor = self.next(order, search);
         let Some(turned) = self.turn_if_ready(actor) else {
@@ -353,11 +350,11 @@ impl<S: Stage + Drop, R: Source + Drop, W: Sink> Net<S, R, W> {
 
     // A stage takes a record that was handed to it, and tells whether the run is over.
     #[inline(always)]
-    fn accept(&mut self, k: usize, place: usize, row: Record) -> bool
+    fn accept(&mut self, k: usize, row: Record) -> bool
         requires none { self.old.failure ≡ None }
-        requires offered { IsOffered (StandsAs S.stands) k place row self.old.web }
+        requires offered { IsOffered (StandsAs S.stands) k row self.old.web }
         ensures ok { result ≡ false → (self.new ≡ record self.old { web = self.new.web })
-            × HasAccepted (StandsAs S.stands) R.remaining k place row self.old.web self.new.web }
+            × HasAccepted (StandsAs S.stands) R.remaining k row self.old.web self.new.web }
         ensures err { result ≡ true → self.new ≡ record self.old { web = self.new.web; failure = Some ends.Memory } }
         ensures others { KeepsOthers k self.old.web self.new.web }
         ensures links { self.new.web.links ≡ self.old.web.links }
@@ -367,7 +364,7 @@ impl<S: Stage + Drop, R: Source + Drop, W: Sink> Net<S, R, W> {
             (remaining_at R.remaining k self.old.web.nodes.items)
             (remaining_at R.remaining k self.new.web.nodes.items) }
     {
-        match self.web.accept(k, place, row) {
+        match self.web.accept(k, row) {
             Ok(()) => false,
             Err(_) => {
                 self.fail_for_memory();
@@ -378,9 +375,9 @@ impl<S: Stage + Drop, R: Source + Drop, W: Sink> Net<S, R, W> {
 
     // The turn of a stage that has its next record at hand and, behind it, that of the stage which takes it; or nothing.
     #[inline(always)]
-    fn hand_to_stage(&mut self, k: usize, taker: usize, place: usize) -> Option<bool>
+    fn hand_to_stage(&mut self, k: usize, taker: usize) -> Option<bool>
         requires may { MayHand (StandsAs S.stands) W.contents W.flushed k self.old }
-        requires wants { WantsFrom (StandsAs S.stands) taker place k self.old.web }
+        requires wants { (place : ℕ) × WantsFrom (StandsAs S.stands) taker place k self.old.web }
         ensures handed { IfSome result (HasHandedOn (StandsAs S.stands) R.remaining
             W.contents W.flushed k taker self.old self.new) }
         ensures marks { IfSome result (λ is_over. MarksFailures R.failed W.failed self.old self.new) }
@@ -389,15 +386,15 @@ impl<S: Stage + Drop, R: Source + Drop, W: Sink> Net<S, R, W> {
     {
         let row = self.web.hand_out(k)?;
         self.turns += 2;
-        Some(self.accept(taker, place, row))
+        Some(self.accept(taker, row))
     }
 
     // The same of a source, which reads where it has no record at hand.
     #[inline(always)]
-    fn read_to_stage(&mut self, k: usize, taker: usize, place: usize) -> Handed
+    fn read_to_stage(&mut self, k: usize, taker: usize) -> Handed
         requires may { MayHand (StandsAs S.stands) W.contents W.flushed k self.old }
         requires source { IsKind true k self.old.web }
-        requires wants { WantsFrom (StandsAs S.stands) taker place k self.old.web }
+        requires wants { (place : ℕ) × WantsFrom (StandsAs S.stands) taker place k self.old.web }
         ensures handed { HasHanded (StandsAs S.stands) R.remaining W.contents W.flushed k taker
             self.old self.new result }
         ensures marks { MarksFailures R.failed W.failed self.old self.new }
@@ -406,7 +403,7 @@ impl<S: Stage + Drop, R: Source + Drop, W: Sink> Net<S, R, W> {
         match self.web.fetch(k) {
             Ok(Some(row)) => {
                 self.turns += 2;
-                Handed::On(self.accept(taker, place, row))
+                Handed::On(self.accept(taker, row))
             }
             Ok(None) => {
                 self.turns += 1;
@@ -455,7 +452,6 @@ impl<S: Stage + Drop, R: Source + Drop, W: Sink> Net<S, R, W> {
     }
 
     // Whether a stage waits, while the run goes on.
-    #[inline(always)]
     fn waits(&self, k: usize, is_over: bool) -> bool
         requires { is_over ≡ false → Somewhere (HasActor (StandsAs S.stands) k self.now.web) }
         ensures { result ≡ true → IsWaiting k self.now.web }
@@ -497,9 +493,11 @@ impl<S: Stage + Drop, R: Source + Drop, W: Sink> Net<S, R, W> {
             return Some(is_over);
         }
         let taker = self.takers[k];
-        let place = self.web.wants_from(taker, k)?;
+        if !self.web.wants_from(taker, k) {
+            return None;
+        }
         if self.web.is_source(k) {
-            return Some(match self.read_to_stage(k, taker, place) {
+            return Some(match self.read_to_stage(k, taker) {
                 Handed::On(is_over) => {
                     look.hand(taker, false);
                     is_over
@@ -510,7 +508,7 @@ impl<S: Stage + Drop, R: Source + Drop, W: Sink> Net<S, R, W> {
                 }
             });
         }
-        let is_over = self.hand_to_stage(k, taker, place)?;
+        let is_over = self.hand_to_stage(k, taker)?;
         look.hand(taker, self.waits(k, is_over));
         Some(is_over)
     }
@@ -544,31 +542,8 @@ impl<S: Stage + Drop, R: Source + Drop, W: Sink> Net<S, R, W> {
         turned.is_over
     }
 
-    // A step and, on the left, the turn of the stage onto whose link room has come. Tells whether the run is over.
-    #[inline(always)]
-    fn step_on<O: Order>(&mut self, order: &mut O, search: &mut Option<Search>) -> bool
-        requires may { MayStep (StandsAs S.stands) W.contents W.flushed search.old self.old }
-        requires leans { IfSome search.old
-            (λ search. LeansTo search.side O.picks O.after order.old) }
-        ensures stepped { HasStepped (StandsAs S.stands) R.remaining W.contents W.flushed
-            (record { pick = O.picks; next = O.after }) order.old order.new search.old
-            search.new self.old self.new result }
-        ensures leans { IfSome search.new
-            (λ search. LeansTo search.side O.picks O.after order.new) }
-        ensures closer { IsCloser search.old search.new self.old self.new result }
-        ensures reads { (i : ℕ) → failed_at R.failed i self.new.web.nodes.items
-            ≡ (failed_at R.failed i self.old.web.nodes.items || is_read_of i self.new.failure) }
-        ensures writes { W.failed self.new.sink
-            ≡ (W.failed self.old.sink || is_write self.new.failure) }
-    {
-        match self.step(order, search) {
-            Stepped::On => false,
-            Stepped::Room => self.go_on(order, search),
-            Stepped::Over => true,
-        }
-    }
-
-    // From the right a record that is handed on, or else a step. Tells whether the run is over.
+    // From the right a record that is handed on, or else a step and, from the left, the turn of the stage onto
+    // whose link room has come. Tells whether the run is over.
     #[inline(always)]
     fn advance<O: Order>(&mut self, order: &mut O, search: &mut Option<Search>) -> bool
         requires may { MayStep (StandsAs S.stands) W.contents W.flushed search.old self.old }
@@ -580,14 +555,15 @@ impl<S: Stage + Drop, R: Source + Drop, W: Sink> Net<S, R, W> {
         ensures leans { IfSome search.new
             (λ search. LeansTo search.side O.picks O.after order.new) }
         ensures closer { IsCloser search.old search.new self.old self.new result }
-        ensures reads { (i : ℕ) → failed_at R.failed i self.new.web.nodes.items
-            ≡ (failed_at R.failed i self.old.web.nodes.items || is_read_of i self.new.failure) }
-        ensures writes { W.failed self.new.sink
-            ≡ (W.failed self.old.sink || is_write self.new.failure) }
+        ensures marks { MarksFailures R.failed W.failed self.old self.new }
     {
         match self.hand_on(order, search) {
             Some(is_over) => is_over,
-            None => self.step_on(order, search),
+            None => match self.step(order, search) {
+                Stepped::On => false,
+                Stepped::Room => self.go_on(order, search),
+                Stepped::Over => true,
+            },
         }
     }
 

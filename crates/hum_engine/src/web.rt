@@ -152,25 +152,14 @@ impl<S: Stage + Drop, R: Source + Drop> Web<S, R> {
     }
 
     // A turn of a source, which changes its own link.
+    // It is `fetch` and a push; with a call of that here, a stage's turn and a source's meet again behind it, and
+    // each record takes 3 % more.
     #[inline(always)]
     fn poll(&mut self, k: usize) -> Result<Moved, ReadError>
         requires turn { Somewhere (MayTurn (StandsAs S.stands) k self.old) }
         requires source { IsKind true k self.old }
-        ensures fed { OnOk result
-            (Fed (StandsAs S.stands) R.remaining k self.old self.new) }
-        ensures link { IfOk result (λ moved. moved.link ≡ k) }
-        ensures full { IfOk result (λ moved. moved.is_full ≡ true → IsFull k self.new) }
-        ensures apart { IfOk result (λ moved. moved.has_taken ≡ false) }
-        ensures others { KeepsOthers k self.old self.new }
-        ensures marks { failed_at R.failed k self.new.nodes.items
-            ≡ (failed_at R.failed k self.old.nodes.items || is_failed_read result) }
-        ensures calls { AsksAtMostOnce (calls_at R.calls k self.old.nodes.items)
-            (failed_at R.failed k self.old.nodes.items) (calls_at R.calls k self.new.nodes.items)
-            (failed_at R.failed k self.new.nodes.items) }
-        ensures stays { OnErr result (HasStayed (ended_at k self.old.nodes.items)
-            (ended_at k self.new.nodes.items)
-            (remaining_at R.remaining k self.old.nodes.items)
-            (remaining_at R.remaining k self.new.nodes.items)) }
+        ensures told { HasTold (StandsAs S.stands) R.remaining R.calls R.failed k self.old self.new result }
+        ensures own { IfOk result (λ moved. (moved.link ≡ k) × (moved.has_taken ≡ false)) }
     {
         match self.nodes[k].next(&mut self.pool) {
             Some(row) => {
@@ -264,18 +253,18 @@ impl<S: Stage + Drop, R: Source + Drop> Web<S, R> {
         }
     }
 
-    // A stage takes from the link of its source at a place, if there is anything.
+    // A stage takes from the link of the source that it wants from, if there is anything.
     #[inline(always)]
-    fn pass(&mut self, k: usize, place: usize) -> Option<Result<Moved, ReadError>>
-        requires about { Somewhere (IsAbout (StandsAs S.stands) k (does.Wants place) self.old) }
+    fn pass(&mut self, k: usize) -> Option<Result<Moved, ReadError>>
+        requires about { (place : ℕ) × Somewhere (IsAbout (StandsAs S.stands) k (does.Wants place) self.old) }
         requires stage { IsKind false k self.old }
-        ensures able { (s : Scene) → IsAbout (StandsAs S.stands) k (does.Wants place) self.old s
+        ensures able { (s : Scene) (place : ℕ) → IsAbout (StandsAs S.stands) k (does.Wants place) self.old s
             → is_some result ≡ can s.size s.links k (state (plan_of s) s.links k) }
-        ensures passed { IfSome result (λ told. OnOk told ((s : Scene)
+        ensures passed { IfSome result (λ told. OnOk told ((s : Scene) (place : ℕ)
             → IsAbout (StandsAs S.stands) k (does.Wants place) self.old s
             → Done (StandsAs S.stands) k
             (Takes (slice_index (s.kinds k).stage.sources place)) self.new s)) }
-        ensures source { IfSome result (λ told. IfOk told (λ moved. (s : Scene)
+        ensures source { IfSome result (λ told. IfOk told (λ moved. (s : Scene) (place : ℕ)
             → IsAbout (StandsAs S.stands) k (does.Wants place) self.old s
             → moved.link ≡ slice_index (s.kinds k).stage.sources place)) }
         ensures full { IfSome result (λ told. IfOk told (λ moved. moved.is_full ≡ true → IsFull k self.new)) }
@@ -288,7 +277,7 @@ impl<S: Stage + Drop, R: Source + Drop> Web<S, R> {
         let node = &mut self.nodes[k];
         let source = node.source();
         match self.links[source].take() {
-            Taken::Record(row) => Some(match node.put(place, row, &mut self.pool) {
+            Taken::Record(row) => Some(match node.put(row, &mut self.pool) {
                 Ok(gives) => Ok(Moved {
                     link: source,
                     is_full: self.is_full(k, gives),
@@ -297,7 +286,7 @@ impl<S: Stage + Drop, R: Source + Drop> Web<S, R> {
                 Err(_) => Err(ReadError::Memory),
             }),
             Taken::End(end) => {
-                node.stop(place, end);
+                node.stop(end);
                 Some(Ok(Moved::alone(source)))
             }
             Taken::Nothing => None,
@@ -305,6 +294,9 @@ impl<S: Stage + Drop, R: Source + Drop> Web<S, R> {
     }
 
     /// The turn of a stage, if it is ready.
+    ///
+    /// # Errors
+    /// A failed read, and running out of memory.
     #[inline(always)]
     pub fn turn(&mut self, k: usize) -> Option<Result<Moved, ReadError>>
         requires { Somewhere (HasActor (StandsAs S.stands) k self.old) }
@@ -315,7 +307,7 @@ impl<S: Stage + Drop, R: Source + Drop> Web<S, R> {
         ensures same { result ≡ None → self.new ≡ self.old }
     {
         match self.nodes[k].readiness() {
-            Readiness::Wants(place) => self.pass(k, place as usize),
+            Readiness::Wants(_) => self.pass(k),
             Readiness::Reads => {
                 if !self.may_read(k) {
                     return None;
@@ -374,6 +366,9 @@ impl<S: Stage + Drop, R: Source + Drop> Web<S, R> {
 
     /// The turn of a stage whose link has room, if it has taken the record ahead that it gives next, or reads
     /// bytes and isn't at their end.
+    ///
+    /// # Errors
+    /// As [`Web::turn`]'s.
     #[inline(always)]
     pub fn refill(&mut self, k: usize) -> Option<Result<Moved, ReadError>>
         requires at { Somewhere (IsAt (StandsAs S.stands) self.old) }
@@ -397,7 +392,6 @@ impl<S: Stage + Drop, R: Source + Drop> Web<S, R> {
     }
 
     /// Whether a stage waits: it takes from another stage next, and nothing lies on the link of that.
-    #[inline(always)]
     pub fn waits(&self, k: usize) -> bool
         requires { Somewhere (HasActor (StandsAs S.stands) k self.now) }
         ensures { result ≡ true → IsWaiting k self.now }
@@ -413,7 +407,6 @@ impl<S: Stage + Drop, R: Source + Drop> Web<S, R> {
 
     /// Whether a stage may give a record on an idle link: it reads bytes, or has taken the record ahead that it
     /// gives next.
-    #[inline(always)]
     pub fn may_hand(&self, k: usize) -> bool
         requires { length self.now.links.items ≡ length self.now.nodes.items }
         ensures stage { result ≡ true → k < length self.now.nodes.items }
@@ -457,23 +450,18 @@ impl<S: Stage + Drop, R: Source + Drop> Web<S, R> {
         Some(self.nodes[k].take_ahead())
     }
 
-    /// The place at which a stage takes from another next, if it does.
+    /// Whether a stage takes from this other one next.
     #[inline(always)]
-    pub fn wants_from(&self, k: usize, source: usize) -> Option<usize>
+    pub fn wants_from(&self, k: usize, source: usize) -> bool
         requires { Somewhere (IsAt (StandsAs S.stands) self.now) }
-        ensures { IfSome result (λ place. WantsFrom (StandsAs S.stands) k place source self.now) }
+        ensures { result ≡ true → (place : ℕ) × WantsFrom (StandsAs S.stands) k place source self.now }
     {
         if k >= self.nodes.len() {
-            return None;
+            return false;
         }
         match self.nodes[k].readiness() {
-            Readiness::Wants(place) => {
-                if self.nodes[k].source() == source {
-                    return Some(place as usize);
-                }
-                None
-            }
-            Readiness::Gives | Readiness::Reads | Readiness::Done => None,
+            Readiness::Wants(_) => self.nodes[k].source() == source,
+            Readiness::Gives | Readiness::Reads | Readiness::Done => false,
         }
     }
 
@@ -482,10 +470,10 @@ impl<S: Stage + Drop, R: Source + Drop> Web<S, R> {
     /// # Errors
     /// Out of memory.
     #[inline(always)]
-    pub fn accept(&mut self, k: usize, place: usize, row: Record) -> Result<(), AllocError>
-        requires { IsOffered (StandsAs S.stands) k place row self.old }
+    pub fn accept(&mut self, k: usize, row: Record) -> Result<(), AllocError>
+        requires { IsOffered (StandsAs S.stands) k row self.old }
         ensures accepted { OnOk result
-            (HasAccepted (StandsAs S.stands) R.remaining k place row self.old self.new) }
+            (HasAccepted (StandsAs S.stands) R.remaining k row self.old self.new) }
         ensures others { KeepsOthers k self.old self.new }
         ensures links { self.new.links ≡ self.old.links }
         ensures marks { failed_at R.failed k self.new.nodes.items
@@ -494,7 +482,7 @@ impl<S: Stage + Drop, R: Source + Drop> Web<S, R> {
             (remaining_at R.remaining k self.old.nodes.items)
             (remaining_at R.remaining k self.new.nodes.items) }
     {
-        self.nodes[k].put(place, row, &mut self.pool)?;
+        self.nodes[k].put(row, &mut self.pool)?;
         Ok(())
     }
 

@@ -2,6 +2,7 @@
 use Rattle.std.proofs.Common.{◌≡◌, ◌∙◌, refl, sym, ap, subst, ℕ, suc, ◌<◌, ◌≤◌, Bool, true}
 use Rattle.std.proofs.Common.{false, if◌then◌else◌, nat_lt, List, [], ◌∷◌, ◌++◌, length, Option, Some}
 use Rattle.std.proofs.Common.{None, unwrap_or, arith, length-append, ◌⊎◌, ⊎_elim, slice_get, slice_index, lt-ltb, ◌+◌}
+use Rattle.std.specs.Prelude.{MatchOption, is_some}
 use Rattle.std.proofs.lemmas.Bool.{false≢true, cond-true}
 use Rattle.std.proofs.lemmas.Option.{slice_get_within}
 use Rattle.hum_record.specs.Row.{Row}
@@ -19,7 +20,7 @@ use Rattle.hum_nodes.specs.Doing.{Doing, Gives, Reads, Wants, Done}
 use Rattle.hum_nodes.specs.Fine.{fine, IsFine}
 use Rattle.hum_nodes.specs.At.{Kind, At, doing_by, doing_of, output_of, holds_of, readiness_of, change_at, MayChange}
 use Rattle.hum_nodes.specs.Nodes.{KnowsSource}
-use Rattle.hum_nodes.specs.Single.{want_by, own_end, single, IsSingle, HasAhead, IsAhead, readiness_for}
+use Rattle.hum_nodes.specs.Single.{want_by, own_end, single, IsSingle, IsAhead, readiness_for}
 use Rattle.hum_nodes.proofs.Fining.{fine_is}
 
 pub doing_for : State → Doing
@@ -139,6 +140,16 @@ pub done_alone : (stands : Moment → Type 0) (from : ℕ) (ahead : Option Row) 
 done_alone stands from ahead is t end h done =
     (not_ahead stands from ahead is t h (λ e. gives_not_done end (sym e ∙ done))).1
 
+-- and where one was, it is,
+pub ahead_gives : (stands : Moment → Type 0) (from : ℕ) (ahead : Option Row) (is : Readiness) (t : At)
+    → IsAhead stands from ahead is t → is_some ahead ≡ true → doing_of t ≡ Gives
+ahead_gives stands from None is t h e = absurd (false≢true e)
+ahead_gives stands from (Some row) is t h e = gives_if t row h.next
+
+-- so that it takes from no source.
+pub takes_none : (from : ℕ) (t : At) → doing_of t ≡ Gives → KnowsSource from t
+takes_none from t gives place wants = absurd (gives_not_wants place (sym gives ∙ wants))
+
 -- It is the stage of one input, whether a record was taken ahead or not.
 pub kind_is : (stands : Moment → Type 0) (from : ℕ) (ahead : Option Row) (is : Readiness) (t : At)
     → IsAhead stands from ahead is t → (m : Meaning) × (t.kind ≡ single from m)
@@ -160,36 +171,37 @@ holds_is stands from t h =
     ∙ ap (λ i. (single from m.meaning).holds i t.given) h.inputs
     ∙ ap (λ g. (single from m.meaning).holds a g) h.given
 
-pub takes_ahead : (stands : Moment → Type 0) (from : ℕ) (row : Row) (is : Readiness) (t : At)
-    → HasAhead stands from row is t → KnowsSource from t
-takes_ahead stands from row is t h place wants =
-    absurd (gives_not_wants place (sym (gives_if t row h.next) ∙ wants))
-
--- so that what it has given first may be kept ahead,
-pub took_ahead : (stands : Moment → Type 0) (from : ℕ) (row : Row) (is : Readiness) (t : At) (m : Moment)
+-- so that what it has given first may be kept ahead;
+pub took_ahead : (stands : Moment → Type 0) (from : ℕ) (ahead : Option Row) (is : Readiness) (t : At) (m : Moment)
+    → is_some ahead ≡ true
     → t.kind ≡ single from m.meaning → t.inputs ≡ record { items = m.put; end = m.ended } ∷ [] → t.given ≡ m.given
-    → TookFirst stands m row → ShowsReadiness stands is
-    → HasAhead stands from row is t × (doing_of t ≡ Gives)
-took_ahead stands from row is t m kind inputs given took asked =
+    → MatchOption ahead (stands m) (TookFirst stands m) → ShowsReadiness stands is → IsAhead stands from ahead is t
+took_ahead stands from None is t m e kind inputs given took asked = absurd (false≢true e)
+took_ahead stands from (Some row) is t m e kind inputs given took asked =
     let h : IsSingle (λ x. x ≡ m) from t =
     record { moment = m; stand = refl; kind = kind; inputs = inputs; given = given } in
-    let next : Some row ≡ slice_get (output_of t) t.given =
-    took.next ∙ ap (slice_get (all_of m)) (sym given)
-    ∙ ap (λ l. slice_get l t.given) (sym (output_is (λ x. x ≡ m) from t h)) in (
-      record {
-        next = next;
-        held = holds_is (λ x. x ≡ m) from t h ∙ took.held;
-        behind = record {
-          moment = after_take m;
-          stand = took.stand;
-          kind = kind;
-          inputs = inputs;
-          given = ap (λ n. n + 1) given;
-        };
-        asked = asked;
-      },
-      gives_if t row next,
-    )
+    record {
+      next = took.next ∙ ap (slice_get (all_of m)) (sym given)
+          ∙ ap (λ l. slice_get l t.given) (sym (output_is (λ x. x ≡ m) from t h));
+      held = holds_is (λ x. x ≡ m) from t h ∙ took.held;
+      behind = record {
+        moment = after_take m;
+        stand = took.stand;
+        kind = kind;
+        inputs = inputs;
+        given = ap (λ n. n + 1) given;
+      };
+      asked = asked;
+    }
+
+-- where there is none, it is the stage of one input still,
+pub took_none : (stands : Moment → Type 0) (from : ℕ) (ahead : Option Row) (t : At) (m : Moment)
+    → is_some ahead ≡ false
+    → t.kind ≡ single from m.meaning → t.inputs ≡ record { items = m.put; end = m.ended } ∷ [] → t.given ≡ m.given
+    → MatchOption ahead (stands m) (TookFirst stands m) → (ahead ≡ None) × IsSingle stands from t
+took_none stands from None t m e kind inputs given stand =
+    (refl, record { moment = m; stand = stand; kind = kind; inputs = inputs; given = given })
+took_none stands from (Some row) t m e kind inputs given stand = absurd (false≢true (sym e))
 
 -- and the stage may be given what the node may be given.
 pub record Changes (t : At) (m : Moment) (change : Flow Row → Flow Row) (place : ℕ)

@@ -1,6 +1,8 @@
 -- What a node stands for.
 use Rattle.std.specs.Prelude.{◌≡◌, ℕ, Bool, true, false, List, Option, None, is_some, Result, slice_index}
+use Rattle.hum_record.specs.Row.{Row}
 use Rattle.hum_stage.specs.declared.faults.End.{End}
+use Rattle.hum_stage.specs.declared.faults.Readiness.{Readiness as StageReadiness}
 use Rattle.hum_stage.specs.Meaning.{Moment}
 use Rattle.hum_assemble.specs.Standing.{Stands}
 use Rattle.hum_read.specs.declared.ReadError.{ReadError}
@@ -17,40 +19,43 @@ use Rattle.hum_nodes.specs.Merging.{IsMerging}
 
 abbrev pub reads : {S R : Type 0} → Work S R → Bool
 reads (Read reader) = true
-reads (Command stage ahead is) = false
+reads (Command stage) = false
 reads (Assemble stage sources) = false
 
 abbrev pub is_source : {S R : Type 0} → Node S R → Bool
 is_source node = reads node.work
 
--- whether the record that it gives next was taken ahead
-abbrev pub stands_ahead : {S R : Type 0} → Work S R → Bool
-stands_ahead (Read reader) = false
-stands_ahead (Command stage ahead is) = is_some ahead
-stands_ahead (Assemble stage sources) = false
+abbrev pub commands : {S R : Type 0} → Work S R → Bool
+commands (Read reader) = false
+commands (Command stage) = true
+commands (Assemble stage sources) = false
 
+-- whether the record that it gives next was taken ahead
 abbrev pub gives_ahead : {S R : Type 0} → Node S R → Bool
-gives_ahead node = stands_ahead node.work
+gives_ahead node = is_some node.ahead
 
 -- A source reads at each turn; another stage does what it is about to do.
 abbrev pub readiness_at : Bool → Doing → Readiness
 readiness_at true doing = Reads
 readiness_at false doing = readiness_of doing
 
--- what a stage of a plan stands for, where these bytes are still to come
-abbrev pub WorksAs : {S R : Type 0} → (S → Moment → Type 0) → Work S R → ℕ → List ℕ → At → Type 0
-WorksAs stands (Read reader) from rest t = IsReading reader rest t
-WorksAs stands (Command stage ahead is) from rest t = IsAhead (stands stage) from ahead is t
-WorksAs stands (Assemble stage sources) from rest t = IsMerging (Stands stage) sources.items t
+-- what a stage of a plan stands for, with a record ahead or none, where these bytes are still to come
+abbrev pub WorksAs : {S R : Type 0} → (S → Moment → Type 0) → Work S R → ℕ → Option Row → StageReadiness
+    → List ℕ → At → Type 0
+WorksAs stands (Read reader) from ahead behind rest t = IsReading reader rest t
+WorksAs stands (Command stage) from ahead behind rest t = IsAhead (stands stage) from ahead behind t
+WorksAs stands (Assemble stage sources) from ahead behind rest t = IsMerging (Stands stage) sources.items t
 
 -- Where it wants, this is the stage that it takes from.
 abbrev pub KnowsSource : ℕ → At → Type 0
 KnowsSource from t = (place : ℕ) → doing_of t ≡ Wants place → from ≡ slice_index (sources_of t) place
 
--- It stands for that, and knows what it does next and which stage it takes from.
+-- It stands for that, and knows what it does next and which stage it takes from. Nothing but a command has a
+-- record ahead.
 pub record StandsAs {S R : Type 0} (stands : S → Moment → Type 0) (node : Node S R)
     (rest : List ℕ) (t : At) : Type 0 where
-  pub works : WorksAs stands node.work node.from rest t
+  pub works : WorksAs stands node.work node.from node.ahead node.behind rest t
+  pub alone : commands node.work ≡ false → node.ahead ≡ None
   pub knows : node.readiness ≡ readiness_at (reads node.work) (doing_of t)
   pub takes : reads node.work ≡ false → KnowsSource node.from t
 
@@ -60,7 +65,7 @@ pub record StandsAs {S R : Type 0} (stands : S → Moment → Type 0) (node : No
 
 abbrev pub remaining_by : {S R : Type 0} → (R → Option (List ℕ)) → Work S R → Option (List ℕ)
 remaining_by tells (Read reader) = tells reader.lines.source
-remaining_by tells (Command stage ahead is) = None
+remaining_by tells (Command stage) = None
 remaining_by tells (Assemble stage sources) = None
 
 abbrev pub remaining_of : {S R : Type 0} → (R → Option (List ℕ)) → Node S R → Option (List ℕ)
@@ -68,7 +73,7 @@ remaining_of tells node = remaining_by tells node.work
 
 abbrev pub ended_by : {S R : Type 0} → Work S R → Bool
 ended_by (Read reader) = reader.lines.ended
-ended_by (Command stage ahead is) = false
+ended_by (Command stage) = false
 ended_by (Assemble stage sources) = false
 
 abbrev pub ended_of : {S R : Type 0} → Node S R → Bool
@@ -76,7 +81,7 @@ ended_of node = ended_by node.work
 
 abbrev pub calls_by : {S R : Type 0} → (R → ℕ) → Work S R → ℕ
 calls_by calls (Read reader) = calls reader.lines.source
-calls_by calls (Command stage ahead is) = 0
+calls_by calls (Command stage) = 0
 calls_by calls (Assemble stage sources) = 0
 
 abbrev pub calls_of : {S R : Type 0} → (R → ℕ) → Node S R → ℕ
@@ -84,7 +89,7 @@ calls_of calls node = calls_by calls node.work
 
 abbrev pub failed_by : {S R : Type 0} → (R → Bool) → Work S R → Bool
 failed_by failed (Read reader) = failed reader.lines.source
-failed_by failed (Command stage ahead is) = false
+failed_by failed (Command stage) = false
 failed_by failed (Assemble stage sources) = false
 
 abbrev pub failed_of : {S R : Type 0} → (R → Bool) → Node S R → Bool
@@ -92,7 +97,7 @@ failed_of failed node = failed_by failed node.work
 
 abbrev pub stopped_by : {S R : Type 0} → Work S R → Option (Result End ReadError)
 stopped_by (Read reader) = reader.stopped
-stopped_by (Command stage ahead is) = None
+stopped_by (Command stage) = None
 stopped_by (Assemble stage sources) = None
 
 abbrev pub stopped_of : {S R : Type 0} → Node S R → Option (Result End ReadError)

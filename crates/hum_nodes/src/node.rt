@@ -38,12 +38,18 @@ pub enum Readiness {
     Reads,
 }
 
-/// A stage of a plan in a net, what it does next, and where it wants, the number of the stage that it takes
-/// from: these are learnt once after each of its calls, since a net asks for them more often than the
-/// stage moves. Stages are numbered from 0 here.
+/// A stage of a plan in a net.
+///
+/// What it does next and, where it wants, the number of the stage that it takes from are learnt once after
+/// each of its calls, since a net asks for them more often than the stage moves. Stages are numbered from 0
+/// here.
 #[derive(Drop)]
 pub struct Node<S, R> {
     work: Work<S, R>,
+    // the record that it gives next, if its command gave that as its input was put
+    ahead: Option<Record>,
+    // what its command is ready for behind that
+    behind: StageReadiness,
     readiness: Readiness,
     from: usize,
 }
@@ -51,9 +57,8 @@ pub struct Node<S, R> {
 /// What a stage of a plan is.
 #[derive(Drop)]
 enum Work<S, R> {
-    /// A command, the record that it gives next, if that was taken as its input was put, and what it is
-    /// ready for behind that. It stands first, so that it is told from the others by one look.
-    Command(S, Option<Record>, StageReadiness),
+    /// A command. It stands first, so that it is told from the others by one look.
+    Command(S),
     /// A score is read.
     Read(ScoreReader<R>),
     /// Scores are put side by side, those of these stages.
@@ -104,6 +109,16 @@ fn taken_from(readiness: Readiness, sources: &[usize]) -> usize
     }
 }
 
+/// The place of the input that is wanted where this is what is done next; 0 where none is.
+fn place_of(readiness: Readiness) -> usize
+    ensures { (place : ℕ) → readiness ≡ kinds.Wants place → result ≡ place }
+{
+    match readiness {
+        Readiness::Wants(place) => place as usize,
+        Readiness::Gives | Readiness::Done | Readiness::Reads => 0,
+    }
+}
+
 /// What assemble does next.
 fn of_assemble(stage: &Assemble) -> Readiness
     ensures { (from : List ℕ) (t : At) → IsMerging (Stands stage.now) from t
@@ -133,6 +148,8 @@ impl<S: Stage + Drop, R: Source + Drop> Node<S, R> {
     {
         Node {
             work: Work::Read(ScoreReader::new(alloc, number, source)),
+            ahead: None,
+            behind: StageReadiness::Wants,
             readiness: Readiness::Reads,
             from: 0,
         }
@@ -149,7 +166,9 @@ impl<S: Stage + Drop, R: Source + Drop> Node<S, R> {
     {
         let is = stage.readiness();
         Node {
-            work: Work::Command(stage, None, is),
+            work: Work::Command(stage),
+            ahead: None,
+            behind: is,
             readiness: of_stage(is),
             from: source,
         }
@@ -175,6 +194,8 @@ impl<S: Stage + Drop, R: Source + Drop> Node<S, R> {
         let from = taken_from(readiness, &sources);
         Ok(Node {
             work: Work::Assemble(stage, sources),
+            ahead: None,
+            behind: StageReadiness::Wants,
             readiness,
             from,
         })
@@ -205,36 +226,24 @@ impl<S: Stage + Drop, R: Source + Drop> Node<S, R> {
     pub fn gives_ahead(&self) -> bool
         ensures { result ≡ gives_ahead self.now }
     {
-        match &self.work {
-            Work::Read(_) => false,
-            Work::Command(_, Some(_), _) => true,
-            Work::Command(_, None, _) => false,
-            Work::Assemble(..) => false,
-        }
+        self.ahead.is_some()
     }
 
     /// That record.
     #[inline(always)]
     pub fn take_ahead(&mut self) -> Record
         requires { gives_ahead self.old ≡ true }
-        ensures kind { is_source self.old ≡ false }
-        ensures stays { is_source self.new ≡ false }
+        ensures kind { is_source self.new ≡ is_source self.old }
         ensures gives { (rest : List ℕ) (t : At) → StandsAs S.stands self.old rest t
-            → doing_of t ≡ does.Gives }
+            → (is_source self.old ≡ false) × (doing_of t ≡ does.Gives) }
         ensures taken { (rest : List ℕ) → HasTaken (StandsAs S.stands self.old rest)
             (StandsAs S.stands self.new rest) (Some result) }
     {
-        match &mut self.work {
-            Work::Read(_) => unreachable!(),
-            Work::Command(_, ahead, behind) => {
-                let Some(row) = ahead.take() else {
-                    unreachable!()
-                };
-                self.readiness = of_stage(*behind);
-                row
-            }
-            Work::Assemble(..) => unreachable!(),
-        }
+        let Some(row) = self.ahead.take() else {
+            unreachable!()
+        };
+        self.readiness = of_stage(self.behind);
+        row
     }
 
     /// Its end, where it is done and isn't a source.
@@ -246,7 +255,7 @@ impl<S: Stage + Drop, R: Source + Drop> Node<S, R> {
     {
         let state = match &self.work {
             Work::Read(_) => unreachable!(),
-            Work::Command(stage, ..) => stage.state(),
+            Work::Command(stage) => stage.state(),
             Work::Assemble(stage, _) => stage.state(),
         };
         match state {
@@ -294,8 +303,12 @@ impl<S: Stage + Drop, R: Source + Drop> Node<S, R> {
     {
         match &self.work {
             Work::Read(_) => unreachable!(),
-            Work::Command(_, Some(_), _) => 1,
-            Work::Command(stage, None, _) => stage.held(),
+            Work::Command(stage) => {
+                if self.ahead.is_some() {
+                    return 1;
+                }
+                stage.held()
+            }
             Work::Assemble(stage, _) => stage.held(),
         }
     }
@@ -314,9 +327,9 @@ impl<S: Stage + Drop, R: Source + Drop> Node<S, R> {
     {
         match &mut self.work {
             Work::Read(_) => unreachable!(),
-            Work::Command(stage, ahead, behind) => {
-                if let Some(row) = ahead.take() {
-                    self.readiness = of_stage(*behind);
+            Work::Command(stage) => {
+                if let Some(row) = self.ahead.take() {
+                    self.readiness = of_stage(self.behind);
                     return Ok(Some(row));
                 }
                 let (taken, readiness) = stage.take_and_ask(pool)?;
@@ -338,32 +351,28 @@ impl<S: Stage + Drop, R: Source + Drop> Node<S, R> {
     /// # Errors
     /// Out of memory.
     #[inline(always)]
-    pub fn put(&mut self, place: usize, next: Record, pool: &mut Spare) -> Result<bool, AllocError>
+    pub fn put(&mut self, next: Record, pool: &mut Spare) -> Result<bool, AllocError>
         requires kind { is_source self.old ≡ false }
-        requires may { MayPut (StandsAs S.stands self.old []) place next }
+        requires may { (place : ℕ) × MayPut (StandsAs S.stands self.old []) place next }
         ensures kind { is_source self.new ≡ false }
-        ensures put { OnOk result ((rest : List ℕ) → HasPut (StandsAs S.stands self.old rest)
+        ensures put { OnOk result ((rest : List ℕ) (place : ℕ) → HasPut (StandsAs S.stands self.old rest)
             (StandsAs S.stands self.new rest) place next) }
         ensures gives { IfOk result (λ gives. gives ≡ true → self.new.readiness ≡ kinds.Gives) }
     {
         match &mut self.work {
             Work::Read(_) => unreachable!(),
-            Work::Command(stage, ahead, behind) => {
-                let is = stage.put_and_take(next, pool, ahead)?;
-                *behind = is;
-                match ahead {
-                    Some(_) => {
-                        self.readiness = Readiness::Gives;
-                        Ok(true)
-                    }
-                    None => {
-                        self.readiness = of_stage(is);
-                        Ok(false)
-                    }
+            Work::Command(stage) => {
+                let is = stage.put_and_take(next, pool, &mut self.ahead)?;
+                self.behind = is;
+                if self.ahead.is_some() {
+                    self.readiness = Readiness::Gives;
+                    return Ok(true);
                 }
+                self.readiness = of_stage(is);
+                Ok(false)
             }
             Work::Assemble(stage, sources) => {
-                stage.put(place, next)?;
+                stage.put(place_of(self.readiness), next)?;
                 stage.give_back(pool);
                 self.readiness = of_assemble(stage);
                 self.from = taken_from(self.readiness, sources);
@@ -373,21 +382,21 @@ impl<S: Stage + Drop, R: Source + Drop> Node<S, R> {
     }
 
     /// Says how the input that it wants ends: closed only after a closed score.
-    pub fn stop(&mut self, place: usize, end: End)
+    pub fn stop(&mut self, end: End)
         requires kind { is_source self.old ≡ false }
-        requires may { MayStop (StandsAs S.stands self.old []) place end }
+        requires may { (place : ℕ) × MayStop (StandsAs S.stands self.old []) place end }
         ensures kind { is_source self.new ≡ false }
-        ensures stopped { (rest : List ℕ) → HasStopped (StandsAs S.stands self.old rest)
+        ensures stopped { (rest : List ℕ) (place : ℕ) → HasStopped (StandsAs S.stands self.old rest)
             (StandsAs S.stands self.new rest) place end }
     {
         match &mut self.work {
             Work::Read(_) => unreachable!(),
-            Work::Command(stage, ..) => {
+            Work::Command(stage) => {
                 stage.end(end);
                 self.readiness = of_stage(stage.readiness());
             }
             Work::Assemble(stage, sources) => {
-                stage.end(place, end);
+                stage.end(place_of(self.readiness), end);
                 self.readiness = of_assemble(stage);
                 self.from = taken_from(self.readiness, sources);
             }

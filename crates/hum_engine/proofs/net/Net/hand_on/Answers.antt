@@ -100,7 +100,8 @@ returns-in-On-clause-stepped g c =
     let takers = fits.takers in
     let took : slice_get c.args.self.now.takers.items c.from-k.result ≡ Some c.index-taker.result.now =
     nth c.args.self.now.takers.items c.from-k.result c.index-taker.result.now (omega (arith, less, takers)) c.index-taker.ensures in
-    let above = wants_above g.S.Stage.stands c.index-taker.result.now c.in_ok-place.place c.from-k.result c.args.self.now.web c.in_ok-place.ensures _ fits.at.holds in
+    let w = c.if-not-wants_from.ensures refl in
+    let above = wants_above g.S.Stage.stands c.index-taker.result.now w.0 c.from-k.result c.args.self.now.web w.1 _ fits.at.holds in
     rw c.hand-in-On.ensures (handed_step stands g.R.Source.remaining g.W.Sink.contents g.W.Sink.flushed order c.args.search.now c.in-Some.look
     c.in-Some.is c.from-k.result c.args.order.now c.args.self.now c.requires.may from leans c.index-taker.result.now
     c.read_to_stage.new.self c.in-On.is_over right (λ e. omega (arith, above, from, e)) took c.in-On.ensures.marks.takers c.in-On.ensures.handed
@@ -129,7 +130,8 @@ waits-requires-2 g c =
     let takers = fits.takers in
     let took : slice_get c.args.self.now.takers.items c.from-k.result ≡ Some c.index-taker.result.now =
     nth c.args.self.now.takers.items c.from-k.result c.index-taker.result.now (omega (arith, less, takers)) c.index-taker.ensures in
-    let above = wants_above g.S.Stage.stands c.index-taker.result.now c.in_ok-place.place c.from-k.result c.args.self.now.web c.in_ok-place.ensures _ fits.at.holds in
+    let w = c.if-not-wants_from.ensures refl in
+    let above = wants_above g.S.Stage.stands c.index-taker.result.now w.0 c.from-k.result c.args.self.now.web w.1 _ fits.at.holds in
     λ on.
     actor_still stands g.R.Source.remaining g.W.Sink.contents g.W.Sink.flushed order c.args.search.now c.in-Some.look
     c.in-Some.is c.from-k.result c.args.order.now c.args.self.now c.requires.may from leans c.index-taker.result.now
@@ -149,7 +151,8 @@ returns-clause-stepped g c =
     let takers = fits.takers in
     let took : slice_get c.args.self.now.takers.items c.from-k.result ≡ Some c.index-taker.result.now =
     nth c.args.self.now.takers.items c.from-k.result c.index-taker.result.now (omega (arith, less, takers)) c.index-taker.ensures in
-    let above = wants_above g.S.Stage.stands c.index-taker.result.now c.in_ok-place.place c.from-k.result c.args.self.now.web c.in_ok-place.ensures _ fits.at.holds in
+    let w = c.if-not-wants_from.ensures refl in
+    let above = wants_above g.S.Stage.stands c.index-taker.result.now w.0 c.from-k.result c.args.self.now.web w.1 _ fits.at.holds in
     rw c.hand-2.ensures (handed_step stands g.R.Source.remaining g.W.Sink.contents g.W.Sink.flushed order c.args.search.now c.in-Some.look
     c.in-Some.is c.from-k.result c.args.order.now c.args.self.now c.requires.may from leans c.index-taker.result.now
     c.hand_to_stage.new.self c.in_ok-is_over-2.is_over right (λ e. omega (arith, above, from, e)) took c.in_ok-is_over-2.ensures.marks.takers

@@ -29,11 +29,11 @@ accept-requires-clause-offered g c =
     let e = c.in_ok-row.ensures in
     let its = ap (λ v. slice_get v.items k) c.hand_out.ensures.links ∙ m.idle.its in
     let here = (hand_at (StandsAs stage) g.W.Sink.contents g.W.Sink.flushed k old m).holds in
-    let above = wants_above stage c.args.taker c.args.place k old.web c.requires.wants _ here.at in
+    let above = wants_above stage c.args.taker c.requires.wants.0 k old.web c.requires.wants.1 _ here.at in
     offered stage g.R.Source.remaining g.W.Sink.contents g.W.Sink.flushed k c.in_ok-row.row m.idle.link m.look old web m.step m.less
     (λ s at less. e.ready s at) (e.given m.idle.link its) (λ s actor less. e.touches s actor) c.hand_out.ensures.others its
-    m.idle.idle.empty c.args.taker c.args.place (wants_within stage c.args.taker c.args.place k old.web c.requires.wants)
-    (wants_still stage c.args.taker c.args.place k old.web c.requires.wants web c.hand_out.ensures.others above)
+    m.idle.idle.empty c.args.taker c.requires.wants.0 (wants_within stage c.args.taker c.requires.wants.0 k old.web c.requires.wants.1)
+    (wants_still stage c.args.taker c.requires.wants.0 k old.web c.requires.wants.1 web c.hand_out.ensures.others above)
 
 pub returns-clause-handed : goal.returns-clause-handed
 returns-clause-handed g c =
@@ -46,11 +46,11 @@ returns-clause-handed g c =
     let a = c.accept.ensures in
     let its = ap (λ v. slice_get v.items k) c.hand_out.ensures.links ∙ m.idle.its in
     let here = (hand_at (StandsAs stage) g.W.Sink.contents g.W.Sink.flushed k old m).holds in
-    let above = wants_above stage c.args.taker c.args.place k old.web c.requires.wants _ here.at in
+    let above = wants_above stage c.args.taker c.requires.wants.0 k old.web c.requires.wants.1 _ here.at in
     handed_to stage g.R.Source.remaining g.W.Sink.contents g.W.Sink.flushed k c.in_ok-row.row m.idle.link m.look old web m.step m.less
     (λ s at less. e.ready s at) (e.given m.idle.link its) (λ s actor less. e.touches s actor) c.hand_out.ensures.others its
-    m.idle.idle.empty c.args.taker c.args.place (wants_within stage c.args.taker c.args.place k old.web c.requires.wants)
-    (wants_still stage c.args.taker c.args.place k old.web c.requires.wants web c.hand_out.ensures.others above)
+    m.idle.idle.empty c.args.taker c.requires.wants.0 (wants_within stage c.args.taker c.requires.wants.0 k old.web c.requires.wants.1)
+    (wants_still stage c.args.taker c.requires.wants.0 k old.web c.requires.wants.1 web c.hand_out.ensures.others above)
     c.accept.new.self c.accept.result a.ok a.err a.others a.stays above a.links
 
 pub returns-clause-marks : goal.returns-clause-marks

@@ -70,12 +70,12 @@ accept-requires-clause-offered g c =
     let gives = rw c.in-Ok-Some.field-0-is at e.fetched in
     let its = ap (λ v. slice_get v.items k) links ∙ m.idle.its in
     let here = (hand_at (StandsAs stage) g.W.Sink.contents g.W.Sink.flushed k old m).holds in
-    let above = wants_above stage c.args.taker c.args.place k old.web c.requires.wants _ here.at in
+    let above = wants_above stage c.args.taker c.requires.wants.0 k old.web c.requires.wants.1 _ here.at in
     offered stage g.R.Source.remaining g.W.Sink.contents g.W.Sink.flushed k c.in-Ok-Some.row m.idle.link m.look old web m.step m.less
     (λ s at less. source_reads stage k old.web c.requires.source s at less m.idle) (gives m.idle.link its)
     (source_changes stage k old.web c.requires.source) c.fetch.ensures.others its
-    m.idle.idle.empty c.args.taker c.args.place (wants_within stage c.args.taker c.args.place k old.web c.requires.wants)
-    (wants_still stage c.args.taker c.args.place k old.web c.requires.wants web c.fetch.ensures.others above)
+    m.idle.idle.empty c.args.taker c.requires.wants.0 (wants_within stage c.args.taker c.requires.wants.0 k old.web c.requires.wants.1)
+    (wants_still stage c.args.taker c.requires.wants.0 k old.web c.requires.wants.1 web c.fetch.ensures.others above)
 
 pub returns-in-Ok-Some-clause-handed : goal.returns-in-Ok-Some-clause-handed
 returns-in-Ok-Some-clause-handed g c =
@@ -89,13 +89,13 @@ returns-in-Ok-Some-clause-handed g c =
     let gives = rw c.in-Ok-Some.field-0-is at e.fetched in
     let its = ap (λ v. slice_get v.items k) links ∙ m.idle.its in
     let here = (hand_at (StandsAs stage) g.W.Sink.contents g.W.Sink.flushed k old m).holds in
-    let above = wants_above stage c.args.taker c.args.place k old.web c.requires.wants _ here.at in
+    let above = wants_above stage c.args.taker c.requires.wants.0 k old.web c.requires.wants.1 _ here.at in
     let a = c.accept.ensures in
     handed_to stage g.R.Source.remaining g.W.Sink.contents g.W.Sink.flushed k c.in-Ok-Some.row m.idle.link m.look old web m.step m.less
     (λ s at less. source_reads stage k old.web c.requires.source s at less m.idle) (gives m.idle.link its)
     (source_changes stage k old.web c.requires.source) c.fetch.ensures.others its
-    m.idle.idle.empty c.args.taker c.args.place (wants_within stage c.args.taker c.args.place k old.web c.requires.wants)
-    (wants_still stage c.args.taker c.args.place k old.web c.requires.wants web c.fetch.ensures.others above)
+    m.idle.idle.empty c.args.taker c.requires.wants.0 (wants_within stage c.args.taker c.requires.wants.0 k old.web c.requires.wants.1)
+    (wants_still stage c.args.taker c.requires.wants.0 k old.web c.requires.wants.1 web c.fetch.ensures.others above)
     c.accept.new.self c.accept.result a.ok a.err a.others a.stays above a.links
 
 pub returns-in-Ok-Some-clause-marks : goal.returns-in-Ok-Some-clause-marks

@@ -153,12 +153,12 @@ turns-preserved g c =
     record {
       ran = subst (λ b. Ran stands g.R.Source.remaining contents flushed order c.advance.new.search b c.args.order.now c.advance.new.order net c.advance.new.self) c.if-advance.false ran;
       leans = c.advance.ensures.leans;
-      reads = λ none i. c.advance.ensures.reads i
+      reads = λ none i. c.advance.ensures.marks.reads i
           ∙ ap (λ b. b || is_read_of i c.advance.new.self.failure)
           (inv.reads none i
           ∙ ap (λ f. failed_at g.R.Source.failed i net.web.nodes.items || is_read_of i f) none_yet
           ∙ sym (or_false _));
-      writes = λ none. c.advance.ensures.writes
+      writes = λ none. c.advance.ensures.marks.writes
           ∙ ap (λ b. b || is_write c.advance.new.self.failure)
           (inv.writes none
           ∙ ap (λ f. g.W.Sink.failed net.sink || is_write f) none_yet
@@ -220,7 +220,7 @@ returns-then-advance g c =
           c.args.order.now c.advance.new.order c.args.self.now c.advance.new.self ran c.requires in
           let net = c.args.self.now in
           let heard = (w.now.links (last (plan_of w.scene))).heard in
-          c.advance.ensures.reads i
+          c.advance.ensures.marks.reads i
           ∙ ap (λ b. b || is_read_of i c.advance.new.self.failure)
           (c.turns.invariant.reads none i
           ∙ ap (λ f. failed_at g.R.Source.failed i net.web.nodes.items || is_read_of i f) none_yet
@@ -246,7 +246,7 @@ returns-then-advance g c =
           c.args.order.now c.advance.new.order c.args.self.now c.advance.new.self ran c.requires in
           let net = c.args.self.now in
           let heard = (w.now.links (last (plan_of w.scene))).heard in
-          c.advance.ensures.writes
+          c.advance.ensures.marks.writes
           ∙ ap (λ b. b || is_write c.advance.new.self.failure)
           (c.turns.invariant.writes none
           ∙ ap (λ f. g.W.Sink.failed net.sink || is_write f) none_yet

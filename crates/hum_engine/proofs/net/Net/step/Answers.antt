@@ -1,12 +1,10 @@
-use Rattle.std.proofs.Common.{◌∙◌, ◌||◌, ◌<◌, sym, ap, subst, arith, is_some, inr, slice_get, Some}
+use Rattle.std.proofs.Common.{◌∙◌, ◌<◌, sym, ap, subst, arith, is_some, inr, slice_get, Some}
 use Rattle.hum_turns.specs.Orders.{Order}
 use Rattle.hum_nodes.specs.Nodes.{StandsAs}
-use Rattle.hum_engine.specs.Readers.{failed_at, is_read_of, is_write}
 use Rattle.hum_engine.specs.Nets.{HasStepped}
 use Rattle.hum_engine.specs.Search.{reached}
-use Rattle.hum_engine.proofs.Advancing.{either, reached_on, reached_over}
+use Rattle.hum_engine.proofs.Advancing.{either, marks_none, reached_on, reached_over}
 use Rattle.hum_engine.proofs.Moving.{nth}
-use Rattle.hum_engine.proofs.Netting.{or_false}
 use Rattle.hum_engine.proofs.Choosing.{asks, may_pick, unfailed, may_ask, never_picked, asks_fewer, front_of}
 use Rattle.hum_engine.proofs.Choosing.{stepped_past, stepped_over, stepped_on, stepped_over_it, stepped_else, link_few, link_going, taker_going}
 use Rattle.hum_engine.proofs.HeldUp.{held_by}
@@ -69,22 +67,13 @@ returns-in-Some-search-clause-closer g c =
     (λ start s now h none within. sym (c.turn_if_ready.ensures.ready start s now h none within) ∙ ap is_some c.in_default.is) c.in-Some-search.search c.in-Some-search.is).1 in
     rw (c.pass.ensures, c.in-Some-search.is) (inr (inr (ap (λ n. n.turns) (c.turn_if_ready.ensures.same c.in_default.is), fewer)))
 
-pub returns-in-Some-search-clause-reads : goal.returns-in-Some-search-clause-reads
-returns-in-Some-search-clause-reads g c i =
-    let same = c.turn_if_ready.ensures.same c.in_default.is in
-    let none = unfailed (StandsAs g.S.Stage.stands) g.W.Sink.contents g.W.Sink.flushed c.args.search.now
-    c.args.self.now c.requires.may in
-    ap (λ n. failed_at g.R.Source.failed i n.web.nodes.items) same ∙ or_false _
-    ∙ ap (λ f. failed_at g.R.Source.failed i c.args.self.now.web.nodes.items || is_read_of i f)
-    (sym (ap (λ n. n.failure) same ∙ none))
-
-pub returns-in-Some-search-clause-writes : goal.returns-in-Some-search-clause-writes
-returns-in-Some-search-clause-writes g c =
-    let same = c.turn_if_ready.ensures.same c.in_default.is in
-    let none = unfailed (StandsAs g.S.Stage.stands) g.W.Sink.contents g.W.Sink.flushed c.args.search.now
-    c.args.self.now c.requires.may in
-    ap (λ n. g.W.Sink.failed n.sink) same ∙ or_false _
-    ∙ ap (λ f. g.W.Sink.failed c.args.self.now.sink || is_write f) (sym (ap (λ n. n.failure) same ∙ none))
+pub returns-in-Some-search-clause-marks : goal.returns-in-Some-search-clause-marks
+returns-in-Some-search-clause-marks g c =
+    let stands = StandsAs g.S.Stage.stands in
+    let order : Order g.row.O.Denot = record { pick = g.O.Order.picks; next = g.O.Order.after } in
+    marks_none stands g.R.Source.remaining g.W.Sink.contents g.W.Sink.flushed order g.R.Source.failed g.W.Sink.failed
+    c.args.self.now _ (c.turn_if_ready.ensures.same c.in_default.is)
+    (unfailed stands g.W.Sink.contents g.W.Sink.flushed c.args.search.now c.args.self.now c.requires.may)
 
 pub returns-in_default-search-clause-stepped : goal.returns-in_default-search-clause-stepped
 returns-in_default-search-clause-stepped g c =
@@ -110,20 +99,8 @@ returns-in_default-search-clause-closer g c =
     absurd (never_picked stands g.R.Source.remaining contents flushed order look c.next-actor.result c.args.order.now c.next-actor.new.order c.args.self.now c.requires.may who e.picked
     (λ start s now h none within. sym (c.turn_if_ready.ensures.ready start s now h none within) ∙ ap is_some c.in_default.is) c.in_default-search.is)
 
-pub returns-in_default-search-clause-reads : goal.returns-in_default-search-clause-reads
-returns-in_default-search-clause-reads g c i =
-    let stands = StandsAs g.S.Stage.stands in
-    let contents = g.W.Sink.contents in
-    let flushed = g.W.Sink.flushed in
-    let order : Order g.row.O.Denot = record { pick = g.O.Order.picks; next = g.O.Order.after } in
-    let e = c.next-actor.ensures in
-    let look = c.args.search.now in
-    let who = asks order look c.next-actor.result c.args.order.now c.next-actor.new.order e.from c.requires.leans in
-    absurd (never_picked stands g.R.Source.remaining contents flushed order look c.next-actor.result c.args.order.now c.next-actor.new.order c.args.self.now c.requires.may who e.picked
-    (λ start s now h none within. sym (c.turn_if_ready.ensures.ready start s now h none within) ∙ ap is_some c.in_default.is) c.in_default-search.is)
-
-pub returns-in_default-search-clause-writes : goal.returns-in_default-search-clause-writes
-returns-in_default-search-clause-writes g c =
+pub returns-in_default-search-clause-marks : goal.returns-in_default-search-clause-marks
+returns-in_default-search-clause-marks g c =
     let stands = StandsAs g.S.Stage.stands in
     let contents = g.W.Sink.contents in
     let flushed = g.W.Sink.flushed in

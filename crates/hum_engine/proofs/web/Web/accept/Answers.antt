@@ -19,16 +19,18 @@ put-requires-clause-may g c =
     let k = c.args.k in
     let stage = g.S.Stage.stands in
     let node = c.index_mut.result.now in
-    let there = node_at (StandsAs stage) k _ s node o.less o.at.stand c.index_mut.ensures.value in
-    record {
-      at = at_of s.kinds s.links k;
-      stand = any_rest stage node (wants_kind stage k c.args.place o.source c.args.self.now o.wants node there) (s.rests k) [] _
-          (o.at.stand.nodes k node there);
-      holds = may_put stage k c.args.place o.source c.args.row c.args.self.now o.link o.its o.empty o.wants s o.at o.less;
-    }
+    let there = node_at (StandsAs stage) k _ s node o.less o.at.stand c.index_mut.ensures.value in (
+      o.place,
+      record {
+        at = at_of s.kinds s.links k;
+        stand = any_rest stage node (wants_kind stage k o.place o.source c.args.self.now o.wants node there) (s.rests k) [] _
+            (o.at.stand.nodes k node there);
+        holds = may_put stage k o.place o.source c.args.row c.args.self.now o.link o.its o.empty o.wants s o.at o.less;
+      },
+    )
 
 pub returns-clause-accepted : goal.returns-clause-accepted
-returns-clause-accepted g c source link its empty w =
+returns-clause-accepted g c source place link its empty w =
     let o = c.requires in
     let s = o.scene in
     let k = c.args.k in
@@ -37,10 +39,10 @@ returns-clause-accepted g c source link its empty w =
     let node = c.index_mut.result.now in
     let there = node_at (StandsAs stage) k _ s node o.less o.at.stand c.index_mut.ensures.value in
     let same = same_Some _ _ (sym there ∙ w.is) in
-    accepted stage k c.args.place source c.args.row web link its empty w g.R.Source.remaining _ c.put.new.self s
-    (offered_at stage k c.args.place c.args.row web o source link its w) o.less c.put.ensures.kind
-    (subst (λ n. (rest : List ℕ) → HasPut (StandsAs stage n rest) (StandsAs stage c.put.new.self rest) c.args.place c.args.row)
-    same c.in_ok-put.ensures.put) refl refl
+    accepted stage k place source c.args.row web link its empty w g.R.Source.remaining _ c.put.new.self s
+    (offered_at stage k place c.args.row web o source link its w) o.less c.put.ensures.kind
+    (subst (λ n. (rest : List ℕ) → HasPut (StandsAs stage n rest) (StandsAs stage c.put.new.self rest) place c.args.row)
+    same (λ rest. c.in_ok-put.ensures.put rest place)) refl refl
 
 pub returns-clause-others : goal.returns-clause-others
 returns-clause-others g c =
@@ -60,7 +62,7 @@ returns-clause-marks g c =
     let k = c.args.k in
     let new = record web { nodes = with_item web.nodes k c.put.new.self } in
     act_marks g.R.Source.remaining g.R.Source.calls g.R.Source.failed k web new
-    (wants_kind g.S.Stage.stands k c.args.place c.requires.source web c.requires.wants)
+    (wants_kind g.S.Stage.stands k c.requires.place c.requires.source web c.requires.wants)
     (keeps k web new c.put.new.self c.put.ensures.kind refl).kind ∙ sym (or_false _)
 
 pub returns-in_err-put-clause-marks : goal.returns-in_err-put-clause-marks
@@ -69,7 +71,7 @@ returns-in_err-put-clause-marks g c =
     let k = c.args.k in
     let new = record web { nodes = with_item web.nodes k c.put.new.self } in
     act_marks g.R.Source.remaining g.R.Source.calls g.R.Source.failed k web new
-    (wants_kind g.S.Stage.stands k c.args.place c.requires.source web c.requires.wants)
+    (wants_kind g.S.Stage.stands k c.requires.place c.requires.source web c.requires.wants)
     (keeps k web new c.put.new.self c.put.ensures.kind refl).kind ∙ sym (or_false _)
 
 pub returns-clause-stays : goal.returns-clause-stays
@@ -78,7 +80,7 @@ returns-clause-stays g c =
     let k = c.args.k in
     let new = record web { nodes = with_item web.nodes k c.put.new.self } in
     act_stays g.R.Source.remaining g.R.Source.calls g.R.Source.failed k web new
-    (wants_kind g.S.Stage.stands k c.args.place c.requires.source web c.requires.wants)
+    (wants_kind g.S.Stage.stands k c.requires.place c.requires.source web c.requires.wants)
     (keeps k web new c.put.new.self c.put.ensures.kind refl).kind
 
 pub returns-in_err-put-clause-stays : goal.returns-in_err-put-clause-stays
@@ -87,5 +89,5 @@ returns-in_err-put-clause-stays g c =
     let k = c.args.k in
     let new = record web { nodes = with_item web.nodes k c.put.new.self } in
     act_stays g.R.Source.remaining g.R.Source.calls g.R.Source.failed k web new
-    (wants_kind g.S.Stage.stands k c.args.place c.requires.source web c.requires.wants)
+    (wants_kind g.S.Stage.stands k c.requires.place c.requires.source web c.requires.wants)
     (keeps k web new c.put.new.self c.put.ensures.kind refl).kind

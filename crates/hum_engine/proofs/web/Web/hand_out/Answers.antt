@@ -7,7 +7,8 @@ use Rattle.hum_nodes.specs.Nodes.{StandsAs}
 use Rattle.hum_engine.specs.Links.{IsIdle, loaded}
 use Rattle.hum_engine.proofs.Acting.{keeps, gave}
 use Rattle.hum_engine.proofs.Feeding.{node_at, within}
-use Rattle.hum_engine.proofs.Handing.{room_idle, doing, may_give, may_turn, goes_loaded}
+use Rattle.hum_engine.proofs.Moving.{set_other}
+use Rattle.hum_engine.proofs.Handing.{room_idle, isnt_source, doing, may_give, may_turn, goes_loaded}
 use Rattle.hum_engine.proofs.Netting.{or_false}
 use Rattle.hum_engine.proofs.Polling.{state_gives}
 use Rattle.hum_engine.proofs.Stepping.{has_done}
@@ -23,7 +24,7 @@ returns-clause-ready g c s at =
     let node = c.index_mut.result.now in
     let less = within web.links.items k s.count i.link at.stand.as_many i.its in
     let there = node_at stands k web s node less at.stand c.index_mut.ensures.value in
-    may_turn g.S.Stage.stands k web node i.link c.take_ahead.ensures.kind c.take_ahead.ensures.gives there
+    may_turn g.S.Stage.stands k web node i.link c.take_ahead.ensures.gives there
     i.its (room_idle stands k web s i.link at i.its i.idle) s at less
 
 pub returns-clause-given : goal.returns-clause-given
@@ -39,14 +40,15 @@ returns-clause-given g c link its =
     let less = c.requires.at.holds.less in
     let there = node_at stands k web s node less at.stand c.index_mut.ensures.value in
     let idle : IsIdle link = subst IsIdle (same_Some _ _ (sym i.its ∙ its)) i.idle in
+    let kind = isnt_source g.S.Stage.stands k web node link e.gives there its (room_idle stands k web s link at its idle) s at less in
     stage_fed g.S.Stage.stands k g.R.Source.remaining web _ node s
-    (may_turn g.S.Stage.stands k web node link e.kind e.gives there its (room_idle stands k web s link at its idle) s at less) there e.kind
+    (may_turn g.S.Stage.stands k web node link e.gives there its (room_idle stands k web s link at its idle) s at less) there kind
     (λ u turn.
-    let may = may_give g.S.Stage.stands k web node link e.kind e.gives there its (room_idle stands k web u link turn.at its idle) u turn.at turn.less in
+    let may = may_give g.S.Stage.stands k web node link e.gives there its (room_idle stands k web u link turn.at its idle) u turn.at turn.less in
     has_done stands k web _ _ u may Gives (state_gives u u.links k may.less may.does)
     (gave stands k web u _ node c.take_ahead.new.self link (loaded c.take_ahead.result link) (Some c.take_ahead.result)
     c.take_ahead.result may there its refl e.taken (goes_loaded c.take_ahead.result link) refl refl))
-    (keeps k web _ c.take_ahead.new.self e.stays refl)
+    (keeps k web _ c.take_ahead.new.self (e.kind ∙ kind) refl)
 
 pub returns-clause-touches : goal.returns-clause-touches
 returns-clause-touches g c s actor =
@@ -58,14 +60,11 @@ returns-clause-touches g c s actor =
     let e = c.take_ahead.ensures in
     let less = within web.links.items k s.count i.link actor.at.stand.as_many i.its in
     let there = node_at stands k web s node less actor.at.stand c.index_mut.ensures.value in
-    let may = may_give g.S.Stage.stands k web node i.link e.kind e.gives there i.its (room_idle stands k web s i.link actor.at i.its i.idle) s actor.at less in
+    let may = may_give g.S.Stage.stands k web node i.link e.gives there i.its (room_idle stands k web s i.link actor.at i.its i.idle) s actor.at less in
     sym (ap (touched k) (state_gives s s.links k less may.does))
 
 pub returns-clause-others : goal.returns-clause-others
-returns-clause-others g c =
-    let web = c.args.self.now in
-    let new = record web { nodes = with_item web.nodes c.args.k c.take_ahead.new.self } in
-    (keeps c.args.k web new c.take_ahead.new.self c.take_ahead.ensures.stays refl).others
+returns-clause-others g c i o = set_other c.args.self.now.nodes.items c.args.k c.take_ahead.new.self i o
 
 pub returns-clause-marks : goal.returns-clause-marks
 returns-clause-marks g c =
@@ -81,5 +80,7 @@ returns-clause-marks g c =
     let there = node_at stands k web s node less at.stand c.index_mut.ensures.value in
     let new = record web { nodes = with_item web.nodes k c.take_ahead.new.self } in
     act_marks g.R.Source.remaining g.R.Source.calls g.R.Source.failed k web new
-    (doing g.S.Stage.stands k web node i.link e.kind e.gives there i.its (room_idle stands k web s i.link at i.its i.idle) s at less).0
-    (keeps k web new c.take_ahead.new.self e.stays refl).kind ∙ sym (or_false _)
+    (doing g.S.Stage.stands k web node i.link e.gives there i.its (room_idle stands k web s i.link at i.its i.idle) s at less).0
+    (keeps k web new c.take_ahead.new.self
+    (e.kind ∙ isnt_source g.S.Stage.stands k web node i.link e.gives there i.its (room_idle stands k web s i.link at i.its i.idle) s at less)
+    refl).kind ∙ sym (or_false _)

@@ -16,11 +16,11 @@ use Rattle.hum_engine.proofs.web.Web.pass.Goals as goal
 
 pub index_mut-requires : goal.index_mut-requires
 index_mut-requires g c =
-    let s = c.requires.about.scene in
-    let a = c.requires.about.holds in
+    let s = c.requires.about.1.scene in
+    let a = c.requires.about.1.holds in
     let web = c.args.self.now in
     let k = c.args.k in
-    let place = c.args.place in
+    let place = c.requires.about.0 in
     let stands = StandsAs g.S.Stage.stands in
     let node = c.index_mut-node.result.now in
     let there = node_at stands k web s node a.less a.at.stand c.index_mut-node.ensures.value in
@@ -33,8 +33,8 @@ index_mut-requires g c =
 
 pub put-requires-clause-kind : goal.put-requires-clause-kind
 put-requires-clause-kind g c =
-    let s = c.requires.about.scene in
-    let a = c.requires.about.holds in
+    let s = c.requires.about.1.scene in
+    let a = c.requires.about.1.holds in
     let web = c.args.self.now in
     let k = c.args.k in
     let stands = StandsAs g.S.Stage.stands in
@@ -44,8 +44,8 @@ put-requires-clause-kind g c =
 
 pub stop-requires-clause-kind : goal.stop-requires-clause-kind
 stop-requires-clause-kind g c =
-    let s = c.requires.about.scene in
-    let a = c.requires.about.holds in
+    let s = c.requires.about.1.scene in
+    let a = c.requires.about.1.holds in
     let web = c.args.self.now in
     let k = c.args.k in
     let stands = StandsAs g.S.Stage.stands in
@@ -55,11 +55,11 @@ stop-requires-clause-kind g c =
 
 pub put-requires-clause-may : goal.put-requires-clause-may
 put-requires-clause-may g c =
-    let s = c.requires.about.scene in
-    let a = c.requires.about.holds in
+    let s = c.requires.about.1.scene in
+    let a = c.requires.about.1.holds in
     let web = c.args.self.now in
     let k = c.args.k in
-    let place = c.args.place in
+    let place = c.requires.about.0 in
     let stands = StandsAs g.S.Stage.stands in
     let node = c.index_mut-node.result.now in
     let there = node_at stands k web s node a.less a.at.stand c.index_mut-node.ensures.value in
@@ -73,21 +73,23 @@ put-requires-clause-may g c =
     let may = may_of stands k (does.Wants place) web s a (sym told ∙ has) in
     let w = passing stands k place web s i link may e c.index_mut.ensures.value in
     let v = record_next stands k place web s i link (row_of c.take.result) may w
-    (tells_row link c.take.result c.take.ensures.taken) c.in-Record.row (ap row_of c.in-Record.is) in
-    record {
-      at = at_of s.kinds s.links k;
-      stand = any_rest g.S.Stage.stands node (c.requires.stage node there) (s.rests k) [] _
-          (a.at.stand.nodes k node there);
-      holds = may_take stands k place web s i link (with_record c.in-Record.row) may w v;
-    }
+    (tells_row link c.take.result c.take.ensures.taken) c.in-Record.row (ap row_of c.in-Record.is) in (
+      place,
+      record {
+        at = at_of s.kinds s.links k;
+        stand = any_rest g.S.Stage.stands node (c.requires.stage node there) (s.rests k) [] _
+            (a.at.stand.nodes k node there);
+        holds = may_take stands k place web s i link (with_record c.in-Record.row) may w v;
+      },
+    )
 
 pub stop-requires-clause-may : goal.stop-requires-clause-may
 stop-requires-clause-may g c =
-    let s = c.requires.about.scene in
-    let a = c.requires.about.holds in
+    let s = c.requires.about.1.scene in
+    let a = c.requires.about.1.holds in
     let web = c.args.self.now in
     let k = c.args.k in
-    let place = c.args.place in
+    let place = c.requires.about.0 in
     let stands = StandsAs g.S.Stage.stands in
     let node = c.index_mut-node.result.now in
     let there = node_at stands k web s node a.less a.at.stand c.index_mut-node.ensures.value in
@@ -100,19 +102,20 @@ stop-requires-clause-may g c =
     let has = ap is_some_of c.in-End.is in
     let may = may_of stands k (does.Wants place) web s a (sym told ∙ has) in
     let w = passing stands k place web s i link may e c.index_mut.ensures.value in
-    let v = end_left link c.take.result c.take.ensures.taken s i c.in-End.end (a.at.stand.links i link w.at_link) c.in-End.is in
-    record {
-      at = at_of s.kinds s.links k;
-      stand = any_rest g.S.Stage.stands node (c.requires.stage node there) (s.rests k) [] _
-          (a.at.stand.nodes k node there);
-      holds = may_take stands k place web s i link (with_end c.in-End.end) may w v;
-    }
+    let v = end_left link c.take.result c.take.ensures.taken s i c.in-End.end (a.at.stand.links i link w.at_link) c.in-End.is in (
+      place,
+      record {
+        at = at_of s.kinds s.links k;
+        stand = any_rest g.S.Stage.stands node (c.requires.stage node there) (s.rests k) [] _
+            (a.at.stand.nodes k node there);
+        holds = may_take stands k place web s i link (with_end c.in-End.end) may w v;
+      },
+    )
 
 pub returns-in-Ok-clause-able : goal.returns-in-Ok-clause-able
-returns-in-Ok-clause-able g c s a =
+returns-in-Ok-clause-able g c s place a =
     let web = c.args.self.now in
     let k = c.args.k in
-    let place = c.args.place in
     let stands = StandsAs g.S.Stage.stands in
     let node = c.index_mut-node.result.now in
     let there = node_at stands k web s node a.less a.at.stand c.index_mut-node.ensures.value in
@@ -125,10 +128,9 @@ returns-in-Ok-clause-able g c s a =
     sym (ap is_some_of c.in-Record.is) ∙ told
 
 pub returns-in-Err-clause-able : goal.returns-in-Err-clause-able
-returns-in-Err-clause-able g c s a =
+returns-in-Err-clause-able g c s place a =
     let web = c.args.self.now in
     let k = c.args.k in
-    let place = c.args.place in
     let stands = StandsAs g.S.Stage.stands in
     let node = c.index_mut-node.result.now in
     let there = node_at stands k web s node a.less a.at.stand c.index_mut-node.ensures.value in
@@ -141,10 +143,9 @@ returns-in-Err-clause-able g c s a =
     sym (ap is_some_of c.in-Record.is) ∙ told
 
 pub returns-in-End-clause-able : goal.returns-in-End-clause-able
-returns-in-End-clause-able g c s a =
+returns-in-End-clause-able g c s place a =
     let web = c.args.self.now in
     let k = c.args.k in
-    let place = c.args.place in
     let stands = StandsAs g.S.Stage.stands in
     let node = c.index_mut-node.result.now in
     let there = node_at stands k web s node a.less a.at.stand c.index_mut-node.ensures.value in
@@ -157,10 +158,9 @@ returns-in-End-clause-able g c s a =
     sym (ap is_some_of c.in-End.is) ∙ told
 
 pub returns-in-Nothing-clause-able : goal.returns-in-Nothing-clause-able
-returns-in-Nothing-clause-able g c s a =
+returns-in-Nothing-clause-able g c s place a =
     let web = c.args.self.now in
     let k = c.args.k in
-    let place = c.args.place in
     let stands = StandsAs g.S.Stage.stands in
     let node = c.index_mut-node.result.now in
     let there = node_at stands k web s node a.less a.at.stand c.index_mut-node.ensures.value in
@@ -173,10 +173,9 @@ returns-in-Nothing-clause-able g c s a =
     sym (ap is_some_of c.in-Nothing.is) ∙ told
 
 pub returns-in-Ok-clause-passed : goal.returns-in-Ok-clause-passed
-returns-in-Ok-clause-passed g c s a =
+returns-in-Ok-clause-passed g c s place a =
     let web = c.args.self.now in
     let k = c.args.k in
-    let place = c.args.place in
     let stands = StandsAs g.S.Stage.stands in
     let node = c.index_mut-node.result.now in
     let there = node_at stands k web s node a.less a.at.stand c.index_mut-node.ensures.value in
@@ -192,13 +191,12 @@ returns-in-Ok-clause-passed g c s a =
     let v = record_next stands k place web s i link (row_of c.take.result) may w
     (tells_row link c.take.result c.take.ensures.taken) c.in-Record.row (ap row_of c.in-Record.is) in
     passed stands k place web s _ node c.put.new.self i link c.take.new.self (with_record c.in-Record.row) may w v there
-    c.in-Ok.ensures.put (c.take.ensures.popped has) refl refl
+    (λ rest. c.in-Ok.ensures.put rest place) (c.take.ensures.popped has) refl refl
 
 pub returns-in-End-clause-passed : goal.returns-in-End-clause-passed
-returns-in-End-clause-passed g c s a =
+returns-in-End-clause-passed g c s place a =
     let web = c.args.self.now in
     let k = c.args.k in
-    let place = c.args.place in
     let stands = StandsAs g.S.Stage.stands in
     let node = c.index_mut-node.result.now in
     let there = node_at stands k web s node a.less a.at.stand c.index_mut-node.ensures.value in
@@ -213,13 +211,12 @@ returns-in-End-clause-passed g c s a =
     let w = passing stands k place web s i link may e c.index_mut.ensures.value in
     let v = end_left link c.take.result c.take.ensures.taken s i c.in-End.end (a.at.stand.links i link w.at_link) c.in-End.is in
     passed stands k place web s _ node c.stop.new.self i link c.take.new.self (with_end c.in-End.end) may w v there
-    c.stop.ensures.stopped (c.take.ensures.popped has) refl refl
+    (λ rest. c.stop.ensures.stopped rest place) (c.take.ensures.popped has) refl refl
 
 pub returns-in-Ok-clause-source : goal.returns-in-Ok-clause-source
-returns-in-Ok-clause-source g c s a =
+returns-in-Ok-clause-source g c s place a =
     let web = c.args.self.now in
     let k = c.args.k in
-    let place = c.args.place in
     let stands = StandsAs g.S.Stage.stands in
     let node = c.index_mut-node.result.now in
     let there = node_at stands k web s node a.less a.at.stand c.index_mut-node.ensures.value in
@@ -229,10 +226,9 @@ returns-in-Ok-clause-source g c s a =
     e
 
 pub returns-in-End-clause-source : goal.returns-in-End-clause-source
-returns-in-End-clause-source g c s a =
+returns-in-End-clause-source g c s place a =
     let web = c.args.self.now in
     let k = c.args.k in
-    let place = c.args.place in
     let stands = StandsAs g.S.Stage.stands in
     let node = c.index_mut-node.result.now in
     let there = node_at stands k web s node a.less a.at.stand c.index_mut-node.ensures.value in
@@ -243,8 +239,8 @@ returns-in-End-clause-source g c s a =
 
 pub returns-in-Ok-clause-full : goal.returns-in-Ok-clause-full
 returns-in-Ok-clause-full g c full =
-    let s = c.requires.about.scene in
-    let a = c.requires.about.holds in
+    let s = c.requires.about.1.scene in
+    let a = c.requires.about.1.holds in
     let web = c.args.self.now in
     let k = c.args.k in
     let stands = StandsAs g.S.Stage.stands in
@@ -263,11 +259,11 @@ returns-in-Ok-clause-full g c full =
 
 pub returns-in-Ok-clause-room : goal.returns-in-Ok-clause-room
 returns-in-Ok-clause-room g c taken =
-    let s = c.requires.about.scene in
-    let a = c.requires.about.holds in
+    let s = c.requires.about.1.scene in
+    let a = c.requires.about.1.holds in
     let web = c.args.self.now in
     let k = c.args.k in
-    let place = c.args.place in
+    let place = c.requires.about.0 in
     let stands = StandsAs g.S.Stage.stands in
     let node = c.index_mut-node.result.now in
     let there = node_at stands k web s node a.less a.at.stand c.index_mut-node.ensures.value in

@@ -4,9 +4,9 @@ use Rattle.hum_turns.specs.Turns.{Gives}
 use Rattle.hum_turns.specs.Near.{touched}
 use Rattle.hum_nodes.specs.Nodes.{StandsAs}
 use Rattle.hum_engine.proofs.Acting.{keeps, gave}
-use Rattle.hum_engine.proofs.Answered.{source_turn, told_own, told_poll}
+use Rattle.hum_engine.proofs.Answered.{source_turn, told_own}
 use Rattle.hum_engine.proofs.Feeding.{node_at, link_at, within}
-use Rattle.hum_engine.proofs.Handing.{doing, may_give, may_turn}
+use Rattle.hum_engine.proofs.Handing.{isnt_source, doing, may_give, may_turn}
 use Rattle.hum_engine.proofs.Polling.{state_gives}
 use Rattle.hum_engine.proofs.Stepping.{has_done}
 use Rattle.hum_engine.proofs.Turning.{one_kind}
@@ -22,7 +22,7 @@ returns-then-gives_ahead-clause-ready g c has s at =
     let node = c.index_mut.result.now in
     let there = node_at stands k web s node less at.stand c.index_mut.ensures.value in
     let e = c.take_ahead-row.ensures in
-    may_turn g.S.Stage.stands k web node its.link e.kind e.gives there its.its its.room s at less
+    may_turn g.S.Stage.stands k web node its.link e.gives there its.its its.room s at less
 
 pub returns-then-gives_ahead-clause-told : goal.returns-then-gives_ahead-clause-told
 returns-then-gives_ahead-clause-told g c =
@@ -41,11 +41,12 @@ returns-then-gives_ahead-clause-told g c =
       links = with_item web.links k c.push.new.self;
     } in
     told_own g.S.Stage.stands g.R.Source.remaining g.R.Source.calls g.R.Source.failed k web new
-    (doing g.S.Stage.stands k web node its.link e.kind e.gives there its.its its.room s at less).0
-    (keeps k web new c.take_ahead-row.new.self e.stays refl) c.alone.result c.alone.ensures s
-    (may_turn g.S.Stage.stands k web node its.link e.kind e.gives there its.its its.room s at less)
+    (doing g.S.Stage.stands k web node its.link e.gives there its.its its.room s at less).0
+    (keeps k web new c.take_ahead-row.new.self
+    (e.kind ∙ isnt_source g.S.Stage.stands k web node its.link e.gives there its.its its.room s at less) refl) c.alone.result c.alone.ensures s
+    (may_turn g.S.Stage.stands k web node its.link e.gives there its.its its.room s at less)
     (λ u turn.
-    let may = may_give g.S.Stage.stands k web node its.link e.kind e.gives there its.its its.room u turn.at turn.less in
+    let may = may_give g.S.Stage.stands k web node its.link e.gives there its.its its.room u turn.at turn.less in
     has_done stands k web _ _ u may Gives (state_gives u u.links k may.less may.does)
     (gave stands k web u _ node c.take_ahead-row.new.self c.index_mut-then-gives_ahead.result.now c.push.new.self
     (Some c.take_ahead-row.result) c.take_ahead-row.result may there
@@ -54,7 +55,7 @@ returns-then-gives_ahead-clause-told g c =
     refl e.taken c.push.ensures.pushed refl refl))
     (λ u actor.
     let here = within web.links.items k u.count its.link actor.at.stand.as_many its.its in
-    let may = may_give g.S.Stage.stands k web node its.link e.kind e.gives there its.its its.room u actor.at here in
+    let may = may_give g.S.Stage.stands k web node its.link e.gives there its.its its.room u actor.at here in
     sym (ap (touched k) (state_gives u u.links k here may.does)))
 
 pub index-requires-2 : goal.index-requires-2
@@ -125,19 +126,3 @@ returns-then-is_unset-clause-ready g c has s at =
     let kind = sym c.is_source.ensures ∙ c.if-is_source.true in
     source_turn g.S.Stage.stands k web s node its.link c.index-then-is_source.result.now c.is_unset.result at less there kind
     its.its its.room c.index-then-is_source.ensures c.is_unset.ensures c.if-is_unset.true
-
-pub returns-then-is_unset-clause-told : goal.returns-then-is_unset-clause-told
-returns-then-is_unset-clause-told g c =
-    let s = c.requires.at.scene in
-    let at = c.requires.at.holds in
-    let web = c.args.self.now in
-    let k = c.args.k in
-    let stands = StandsAs g.S.Stage.stands in
-    let its = c.requires.room in
-    let less = within web.links.items k s.count its.link at.stand.as_many its.its in
-    let node = c.index-2.result.now in
-    let there = node_at stands k web s node less at.stand c.index-2.ensures in
-    let kind = sym c.is_source.ensures ∙ c.if-is_source.true in
-    let e = c.poll.ensures in
-    told_poll g.S.Stage.stands g.R.Source.remaining g.R.Source.calls g.R.Source.failed k web c.poll.new.self c.poll.result
-    s at less (one_kind k web node true there kind) e.fed e.link e.full e.apart e.others e.marks e.calls e.stays

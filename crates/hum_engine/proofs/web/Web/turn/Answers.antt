@@ -8,7 +8,7 @@ use Rattle.hum_engine.proofs.Polling.{state_gives}
 use Rattle.hum_engine.proofs.Readying.{room_gives, unset_ends, touched_gives}
 use Rattle.hum_engine.proofs.Stepping.{here_too, has_done}
 use Rattle.hum_engine.proofs.Tried.{may_of}
-use Rattle.hum_engine.proofs.Answered.{doing_kind, wants_about, gives_about, done_about, told_poll, told_own, told_out, told_pass}
+use Rattle.hum_engine.proofs.Answered.{doing_kind, wants_about, gives_about, done_about, told_own, told_out, told_pass}
 use Rattle.hum_engine.proofs.Turning.{stage_ready, acting}
 use Rattle.hum_engine.proofs.web.Web.turn.Goals as goal
 
@@ -22,8 +22,8 @@ pass-requires-clause-about g c =
     let node = c.index.result.now in
     let there = node_at stands k web s node h.less h.at.stand c.index.ensures in
     let doing = doing_kind g.S.Stage.stands k web node c.readiness.result c.readiness.ensures there s h.at h.less
-    (kinds.Wants c.in-Wants.place) c.in-Wants.is (wants_not_reads c.in-Wants.place) in
-    record { scene = s; holds = wants_about stands k web c.in-Wants.place doing s h.at h.less }
+    (kinds.Wants c.in-Wants.field-0) c.in-Wants.is (wants_not_reads c.in-Wants.field-0) in
+    (c.in-Wants.field-0, record { scene = s; holds = wants_about stands k web c.in-Wants.field-0 doing s h.at h.less })
 
 pub pass-requires-clause-stage : goal.pass-requires-clause-stage
 pass-requires-clause-stage g c =
@@ -35,7 +35,7 @@ pass-requires-clause-stage g c =
     let node = c.index.result.now in
     let there = node_at stands k web s node h.less h.at.stand c.index.ensures in
     let doing = doing_kind g.S.Stage.stands k web node c.readiness.result c.readiness.ensures there s h.at h.less
-    (kinds.Wants c.in-Wants.place) c.in-Wants.is (wants_not_reads c.in-Wants.place) in
+    (kinds.Wants c.in-Wants.field-0) c.in-Wants.is (wants_not_reads c.in-Wants.field-0) in
     doing.0
 
 pub may_read-requires-clause-source : goal.may_read-requires-clause-source
@@ -165,9 +165,9 @@ returns-in-Wants-clause-ready g c u actor =
     let node = c.index.result.now in
     let there = node_at stands k web s node h.less h.at.stand c.index.ensures in
     let doing = doing_kind g.S.Stage.stands k web node c.readiness.result c.readiness.ensures there s h.at h.less
-    (kinds.Wants c.in-Wants.place) c.in-Wants.is (wants_not_reads c.in-Wants.place) in
-    let about = wants_about stands k web c.in-Wants.place doing u actor.at actor.less in
-    c.pass.ensures.able u about ∙ sym (stage_ready stands k web (does.Wants c.in-Wants.place) u about)
+    (kinds.Wants c.in-Wants.field-0) c.in-Wants.is (wants_not_reads c.in-Wants.field-0) in
+    let about = wants_about stands k web c.in-Wants.field-0 doing u actor.at actor.less in
+    c.pass.ensures.able u c.in-Wants.field-0 about ∙ sym (stage_ready stands k web (does.Wants c.in-Wants.field-0) u about)
 
 pub returns-in-Wants-clause-told : goal.returns-in-Wants-clause-told
 returns-in-Wants-clause-told g c =
@@ -179,24 +179,10 @@ returns-in-Wants-clause-told g c =
     let node = c.index.result.now in
     let there = node_at stands k web s node h.less h.at.stand c.index.ensures in
     let doing = doing_kind g.S.Stage.stands k web node c.readiness.result c.readiness.ensures there s h.at h.less
-    (kinds.Wants c.in-Wants.place) c.in-Wants.is (wants_not_reads c.in-Wants.place) in
+    (kinds.Wants c.in-Wants.field-0) c.in-Wants.is (wants_not_reads c.in-Wants.field-0) in
     told_pass g.S.Stage.stands g.R.Source.remaining g.R.Source.calls g.R.Source.failed k web c.pass.new.self doing.0
-    c.pass.ensures.nodes c.in-Wants.place doing s h.at h.less c.pass.result c.pass.ensures.able c.pass.ensures.passed
+    c.pass.ensures.nodes c.in-Wants.field-0 doing s h.at h.less c.pass.result c.pass.ensures.able c.pass.ensures.passed
     c.pass.ensures.source c.pass.ensures.full c.pass.ensures.room c.pass.ensures.read
-
-pub returns-else-not-may_read-clause-told : goal.returns-else-not-may_read-clause-told
-returns-else-not-may_read-clause-told g c =
-    let s = c.requires.scene in
-    let h = c.requires.holds in
-    let web = c.args.self.now in
-    let k = c.args.k in
-    let stands = StandsAs g.S.Stage.stands in
-    let node = c.index.result.now in
-    let there = node_at stands k web s node h.less h.at.stand c.index.ensures in
-    let reads = reader_is g.S.Stage.stands k web node c.readiness.result c.readiness.ensures there s h.at h.less c.in-Reads.is in
-    let e = c.poll.ensures in
-    told_poll g.S.Stage.stands g.R.Source.remaining g.R.Source.calls g.R.Source.failed k web c.poll.new.self c.poll.result
-    s h.at h.less reads e.fed e.link e.full e.apart e.others e.marks e.calls e.stays
 
 pub returns-in-Ok-clause-ready : goal.returns-in-Ok-clause-ready
 returns-in-Ok-clause-ready g c u actor =

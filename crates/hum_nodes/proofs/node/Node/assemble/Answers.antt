@@ -1,4 +1,4 @@
-use Rattle.std.proofs.Common.{arith, ◌≡◌, ◌∙◌, ap, length, slice_index}
+use Rattle.std.proofs.Common.{arith, refl, ◌≡◌, ◌∙◌, ap, length, slice_index}
 use Rattle.hum_assemble.specs.Standing.{Stands}
 use Rattle.hum_nodes.specs.At.{readiness_of}
 use Rattle.hum_nodes.proofs.Mergings.{fresh_stands}
@@ -14,6 +14,7 @@ returns-clause-stands g c rest =
     let knows = c.of_assemble-readiness.ensures c.args.sources.items _ works in
     record {
       works = works;
+      alone = λ other. refl;
       knows = knows;
       takes = λ other place wants. c.taken_from-from.ensures place (knows ∙ ap readiness_of wants)
           ∙ ap (λ l. slice_index l place) c.deref.ensures.value;

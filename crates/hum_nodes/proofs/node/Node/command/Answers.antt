@@ -11,6 +11,7 @@ returns-clause-stands g c m rest h =
     record { moment = opening m; stand = h; kind = refl; inputs = refl; given = refl } in
     record {
       works = works;
+      alone = λ other. refl;
       knows = c.of_stage.ensures
           ∙ readiness_is _ c.readiness-is.result c.readiness-is.ensures c.args.source _ works;
       takes = λ other. takes_first _ c.args.source _ works;

@@ -6,4 +6,9 @@ use Rattle.hum_nodes.proofs.node.Node.read.Goals as goal
 pub returns-clause-stands : goal.returns-clause-stands
 returns-clause-stands g c all =
     let e = c.new.ensures in
-    record { works = new_stands c.new.result c.args.number all e.fresh e.opening e.stage; knows = refl; takes = λ other. absurd (false≢true (sym other)) }
+    record {
+      works = new_stands c.new.result c.args.number all e.fresh e.opening e.stage;
+      alone = λ other. refl;
+      knows = refl;
+      takes = λ other. absurd (false≢true (sym other));
+    }
