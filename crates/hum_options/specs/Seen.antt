@@ -76,7 +76,8 @@ GoesOn Lawful Behind (Err failed.Memory) = Unit {0}
 abbrev pub Takes : Command → ℕ → List ℕ → List Given → Turn → List Given → Result Turn OptionError → Type 0
 Takes command number word before turn after result =
     (n : ℕ) (words : List Word)
-    → GoesOn (Answers command n before turn ((number, word) ∷ words)) (λ next. Answers command n after next words) result
+    → GoesOn (Answers command n before turn ((number, word) ∷ words))
+    (λ next. Answers command n after next words) result
 
 -- the fault of a value that is word n
 abbrev pub value_fault : ℕ → ValueError → OptionError

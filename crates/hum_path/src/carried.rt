@@ -211,6 +211,7 @@ impl<M: ColumnMemory> Carried<M> {
         ensures seen { OnOk result ((memory : M) → slice_get self.old.each j ≡ Some memory
             → self.new.each ≡ slice_set self.old.each j (M.seen rule.old token.now memory)) }
         ensures kept { rule.new ≡ rule.old }
+        ensures spent { self.new.spent ≡ self.old.spent }
     {
         self.memories[j].see(rule, token)
     }

@@ -47,7 +47,3 @@ front_written r n new old e = ap (take r) (written_back n new old e)
 pub front_behind : (r : ℕ) (new rest : List ℕ) → r ≤ length new → take r (new ++ rest) ≡ take r new
 front_behind r new rest short =
     sym (front_of_front r (length new) (new ++ rest) short) ∙ ap (take r) (take_at new rest (length new) refl)
-
--- LF that was put behind a text
-pub ended_there : (xs : List ℕ) (k : ℕ) → k < length xs → IsEnded (set xs k 10) k
-ended_there xs k within some = (omega (arith, length-set xs k 10, within), get_or-set_same xs k 10 0 within)

@@ -1,7 +1,7 @@
 //! The text of a record, and where its tokens end in it.
 ghost use Rattle.std.specs.Prelude.{◌≡◌, ◌≤◌, ◌<◌, ◌+◌, ◌-◌, ◌*◌, ◌^◌, ◌++◌, ◌∷◌, [], length, take};
 ghost use Rattle.std.specs.Prelude.{bit_and};
-ghost use Rattle.std.specs.Prelude.{ℕ, IfOk, OnOk, IfErr, Ok, true, false, vec_len};
+ghost use Rattle.std.specs.Prelude.{ℕ, OnOk, IfErr, Ok, true, false, vec_len};
 ghost use Rattle.hum_record.specs.Building.{tab_between, spelled};
 ghost use Rattle.hum_record.specs.Contents.{filled_from};
 ghost use Rattle.hum_record.specs.Cutting.{set_places};

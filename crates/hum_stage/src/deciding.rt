@@ -1,7 +1,6 @@
 //! A command that decides each record at once.
 ghost use Rattle.std.specs.Prelude.{◌≡◌, true, [], List, Result};
 ghost use Rattle.hum_record.specs.Row.{Row};
-ghost use Rattle.hum_stage.specs.declared.faults.Rule.{Rule};
 ghost use Rattle.hum_stage.specs.declared.faults.Command.{Command};
 ghost use Rattle.hum_stage.specs.Meaning.{KeepsScore};
 ghost use Rattle.hum_stage.specs.Decided.{Decision, at_once, MayStep, HasStepped, Leaves};
