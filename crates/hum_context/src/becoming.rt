@@ -50,7 +50,6 @@ pub(crate) enum Weight {
 }
 
 /// The walk from a cell of the record with this number, as far as it is known.
-#[inline]
 fn started(walks: &[Walk], at: u64, j: usize) -> Walk
     requires { at ≤ MOST_RECORDS }
     ensures behind { at ≤ result.at }
@@ -67,7 +66,6 @@ fn started(walks: &[Walk], at: u64, j: usize) -> Walk
 }
 
 /// The walk from a cell of the k-th record that waits, down to where it is decided.
-#[inline(always)]
 fn walk_at(
     held: &VecDeque<Queued>,
     k: usize,
@@ -88,7 +86,6 @@ fn walk_at(
 }
 
 /// What the token of a cell becomes from which others are collected, by the walk from it.
-#[inline]
 fn becoming_by(walk: Walk) -> Option<Becoming>
     ensures { (o : Choice) (path : Path) (first : ℕ) (rows : List Row) (j : ℕ)
         → taken o.extent [] ≡ None
@@ -107,7 +104,6 @@ fn becoming_by(walk: Walk) -> Option<Becoming>
 
 /// What the token of a cell becomes from which others are collected, where the walk from it is known
 /// to have enough of them.
-#[inline]
 fn enough_at(walks: &[Walk], at: u64, j: usize) -> Option<Becoming>
     requires { at ≤ MOST_RECORDS }
     ensures { (o : Choice) (path : Path) (rows : List Row) → taken o.extent [] ≡ None
@@ -126,7 +122,6 @@ fn enough_at(walks: &[Walk], at: u64, j: usize) -> Option<Becoming>
 }
 
 /// What the token of a cell of the k-th record that waits becomes, from which others are collected.
-#[inline(never)]
 fn becoming_at(
     held: &VecDeque<Queued>,
     k: usize,
@@ -148,7 +143,6 @@ fn becoming_at(
 }
 
 /// What the token at place j becomes of the k-th record that waits.
-#[inline(always)]
 fn new_at(
     held: &VecDeque<Queued>,
     k: usize,
@@ -249,7 +243,6 @@ pub(crate) fn weigh(held: &VecDeque<Queued>, k: usize, wanted: Option<u16>) -> W
 
 /// The text becomes the tokens that are collected from a cell of the first record that waits, until
 /// they are more than a record holds.
-#[inline(never)]
 fn gather(
     text: &mut Text,
     held: &VecDeque<Queued>,
@@ -370,7 +363,6 @@ fn widen(walks: &mut Vec<Walk>, gone: u64, count: usize) -> Result<(), AllocErro
 }
 
 /// A walk that isn't known begins at its cell, in the first record that waits.
-#[inline(always)]
 fn begin_at(walk: &mut Walk, gone: u64, j: usize)
     requires { gone ≤ MOST_RECORDS }
     ensures behind { gone ≤ walk.new.at }
@@ -385,7 +377,6 @@ fn begin_at(walk: &mut Walk, gone: u64, j: usize)
 }
 
 /// A walk from a cell of the first record that waits goes on, down to where it is decided.
-#[inline(always)]
 fn go_on_at(walk: &mut Walk, held: &VecDeque<Queued>, gone: u64, j: usize, wanted: Option<u16>)
     requires { gone + length held.now.items ≤ MOST_RECORDS }
     ensures { (o : Choice) (path : Path) (rows : List Row) → wanted ≡ wanted_of o.extent
@@ -399,7 +390,6 @@ fn go_on_at(walk: &mut Walk, held: &VecDeque<Queued>, gone: u64, j: usize, wante
 
 /// The walk from a cell of the first record that waits goes on. What the token of the cell becomes,
 /// from which others are collected.
-#[inline(never)]
 fn advance_walk(
     held: &VecDeque<Queued>,
     gone: u64,
@@ -424,7 +414,6 @@ fn advance_walk(
 }
 
 /// What the token at place j becomes of the first record that waits. The walk from it goes on.
-#[inline]
 fn advance_at(
     held: &VecDeque<Queued>,
     gone: u64,

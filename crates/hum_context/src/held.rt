@@ -1,9 +1,7 @@
 //! A record that waits, or what it takes to make it again.
-ghost use Rattle.std.specs.Prelude.{◌≡◌, ◌<◌, ◌≤◌, ◌++◌, ◌∷◌, [], true, length, Some, IfOk, OnOk};
+ghost use Rattle.std.specs.Prelude.{◌≡◌, ◌<◌, ◌≤◌, true, length, Some, IfOk};
 ghost use Rattle.std.specs.List.{list_all};
-ghost use lib.Chars.{codes};
 ghost use Rattle.hum_record.specs.declared.SpinedKind.TheVariants.{Values};
-ghost use Rattle.hum_record.specs.Building.{spelled};
 ghost use Rattle.hum_record.specs.{Contents.is_null, Nulls.null_row};
 ghost use Rattle.hum_record.specs.Row.{Row, kind_of, row_of, text_of, token_at, tokens_of, width_of};
 ghost use Rattle.hum_record.specs.Spelling.{IsTextOf, IsTokenOf};
@@ -80,7 +78,6 @@ impl HeldRecord {
     }
 
     /// What the record is.
-    #[inline]
     pub(crate) fn kind(&self) -> Kind
         ensures kind { result ≡ kind_of self.now }
         ensures lawful { IsTextOf self.now (text_of self.now) }
@@ -94,7 +91,6 @@ impl HeldRecord {
     }
 
     /// How many tokens it has.
-    #[inline]
     pub(crate) fn width(&self) -> usize
         ensures { result ≡ width_of self.now }
     {
@@ -105,7 +101,6 @@ impl HeldRecord {
     }
 
     /// Its token at place j.
-    #[inline]
     pub(crate) fn token(&self, j: usize) -> &[u8]
         requires { j < width_of self.now }
         ensures token { result.now ≡ token_at self.now j }

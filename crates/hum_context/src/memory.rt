@@ -48,7 +48,6 @@ pub struct Collecting {
 
 /// Where the spines under a record go, if it may move them. Only an interpretation is followed: under
 /// others each spine stays.
-#[inline]
 fn below_row(alloc: Global, paths: &mut Paths, row: &Record) -> Result<Below, AllocError>
     requires valid { fault_of paths.old.path row.now ≡ None }
     requires narrow { width (after paths.old.path row.now) ≤ MOST_SPINES }

@@ -13,7 +13,6 @@ use std::alloc::AllocError;
 
 impl Walk {
     /// Its first token is taken away.
-    #[inline]
     fn lose_first(&mut self, enough: bool)
         ensures at { self.new.at ≡ self.old.at }
         ensures column { (self.new.column ≡ self.old.column) × (self.new.ended ≡ self.old.ended) }
@@ -26,7 +25,6 @@ impl Walk {
 
     /// The same of a token that is collected, which ends a group or doesn't; a walk that ended with it
     /// is made anew.
-    #[inline]
     fn lose_taken(&mut self, wanted: Option<u16>, ends: bool)
         ensures at { (self.new.at ≡ self.old.at) ⊎ (self.new.at ≡ 0) }
         ensures has { Shortens wanted ends self.old self.new }
@@ -45,7 +43,6 @@ impl Walk {
 
     /// It becomes the walk from the cell below, where it was one from a cell of the record that is gone.
     // In place: what pads its fields isn't moved along with them.
-    #[inline]
     fn lose(&mut self, kept: &Queued, j: usize, wanted: Option<u16>)
         ensures at { (self.new.at ≡ self.old.at) ⊎ (self.new.at ≡ 0) }
         ensures has { (o : Choice) (path : Path) (row : Row) (front : List Row) (i : ℕ)

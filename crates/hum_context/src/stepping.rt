@@ -16,7 +16,6 @@ use hum_stage::MOST_RECORDS;
 use std::collections::VecDeque;
 
 /// Whether so many tokens are enough, the last of which ends a group or doesn't.
-#[inline]
 pub(crate) fn is_enough(wanted: Option<u16>, count: u64, ends: bool) -> bool
     ensures { result ≡ enough_by wanted count ends }
 {
@@ -28,7 +27,6 @@ pub(crate) fn is_enough(wanted: Option<u16>, count: u64, ends: bool) -> bool
 
 impl Walk {
     /// A walk that is still at the cell in a column.
-    #[inline(always)]
     pub(crate) fn from(at: u64, column: usize) -> Walk
         requires { at ≤ MOST_RECORDS }
         ensures at { result.at ≡ at }
@@ -46,7 +44,6 @@ impl Walk {
     }
 
     /// One record more, whose token in its column isn't collected.
-    #[inline(always)]
     fn pass_by(&mut self, c: usize, next: &Queued)
         requires few { self.old.at < MOST_RECORDS }
         ensures at { self.new.at ≡ self.old.at + 1 }
@@ -65,7 +62,6 @@ impl Walk {
 
     /// One record more, whose token in its column is collected, and ends a group or doesn't. It is
     /// data, so that the column goes on.
-    #[inline(always)]
     fn collect(&mut self, c: usize, next: &Queued, wanted: Option<u16>, ends: bool)
         requires few { self.old.at < MOST_RECORDS }
         requires taken { slice_index_or next.now.heard.items c Passed ≢ Passed }
@@ -83,7 +79,6 @@ impl Walk {
     }
 
     /// One record more, on which it stands in a column.
-    #[inline(always)]
     pub(crate) fn pass(&mut self, c: usize, next: &Queued, wanted: Option<u16>)
         requires few { self.old.at < MOST_RECORDS }
         ensures at { self.new.at ≡ self.old.at + 1 }
@@ -100,7 +95,6 @@ impl Walk {
 
     /// It goes on until its tokens are enough, its column ends or no more records wait, of which so
     /// many are gone.
-    #[inline(always)]
     pub(crate) fn go_on(&mut self, held: &VecDeque<Queued>, gone: u64, wanted: Option<u16>)
         requires behind { gone ≤ self.old.at }
         requires few { gone + length held.now.items ≤ MOST_RECORDS }

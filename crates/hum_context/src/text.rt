@@ -27,7 +27,6 @@ impl Model for Text {
 }
 
 /// A token behind those so far, and a space before it if there are any.
-#[inline]
 fn add_bytes(bytes: &mut GrowingText, token: &[u8]) -> Result<(), AllocError>
     ensures { OnOk result (bytes.new ≡ add_token bytes.old token.now) }
 {
@@ -48,7 +47,6 @@ impl Text {
     }
 
     /// There are none any more.
-    #[inline]
     pub(crate) fn clear(&mut self)
         ensures { self.new ≡ [] }
     {
@@ -56,7 +54,6 @@ impl Text {
     }
 
     /// A token behind those so far.
-    #[inline]
     pub(crate) fn add(&mut self, token: &[u8]) -> Result<(), AllocError>
         requires { IsToken Values token.now }
         ensures { OnOk result (self.new ≡ add_token self.old token.now) }
@@ -71,7 +68,6 @@ impl Text {
     }
 
     /// Whether they make more than a record holds.
-    #[inline]
     pub(crate) fn is_long(&self) -> bool
         ensures { result ≡ nat_lt MOST_BYTES (length self.now) }
     {
@@ -79,7 +75,6 @@ impl Text {
     }
 
     /// The token that they make, joined; a null token where there are none.
-    #[inline]
     pub(crate) fn token(&self) -> &[u8]
         ensures joined { self.now ≢ [] → result.now ≡ self.now }
         ensures lawful { IsToken Values result.now }

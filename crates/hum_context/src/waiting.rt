@@ -53,7 +53,6 @@ impl Queued {
     }
 
     /// What was heard in a column; nothing beyond the last.
-    #[inline]
     pub(crate) fn heard(&self, c: usize) -> Heard
         ensures { result ≡ slice_index_or self.now.heard.items c Passed }
     {
@@ -65,7 +64,6 @@ impl Queued {
     }
 
     /// Its token in a column that is collected.
-    #[inline]
     pub(crate) fn token(&self, c: usize) -> &[u8]
         requires { slice_index_or self.now.heard.items c Passed ≢ Passed }
         ensures token { result.now ≡ token_at self.now.row c }
@@ -94,7 +92,6 @@ impl Queued {
     }
 
     /// Whether each spine stays where it is under it.
-    #[inline]
     pub(crate) fn keeps_columns(&self) -> bool
         ensures { result ≡ true → (c : ℕ) → column_in self.now.row self.now.below c ≡ Some c }
     {
@@ -107,7 +104,6 @@ impl Queued {
     }
 
     /// Whether a column's future is ended at its token.
-    #[inline]
     pub(crate) fn is_last(&self, c: usize) -> bool
         ensures { result ≡ is_last_in self.now.row c }
     {
@@ -120,7 +116,6 @@ impl Queued {
     }
 
     /// The column of the cell below, within the reach. Under data that is collected it is the same.
-    #[inline]
     pub(crate) fn below(&self, c: usize) -> Option<usize>
         ensures { result ≡ column_in self.now.row self.now.below c }
     {
@@ -131,8 +126,6 @@ impl Queued {
     }
 
     /// The same under an interpretation.
-    // Not inlined: most records are data.
-    #[inline(never)]
     fn column_under(&self, c: usize) -> Option<usize>
         requires { kind_of self.now.row ≡ AnyInterpretation }
         ensures { result ≡ column_in self.now.row self.now.below c }
@@ -144,7 +137,6 @@ impl Queued {
     }
 
     /// The same, by what the record is.
-    #[inline(always)]
     pub(crate) fn column_below(&self, c: usize) -> Option<usize>
         ensures { result ≡ column_in self.now.row self.now.below c }
     {

@@ -6,7 +6,6 @@ ghost use Rattle.hum_stage.specs.Decided.{at_once};
 ghost use Rattle.hum_path.specs.Spines.{texts};
 ghost use Rattle.hum_choices.specs.Extract.{Names};
 ghost use Rattle.hum_extract.specs.Extract.{extract};
-ghost use Rattle.hum_choices.specs.Extract.{choice_of};
 ghost use Rattle.hum_extract.specs.Extract.{meaning as meaning_of_extract};
 ghost use Rattle.hum_ditto.specs.Ditto.{meaning as meaning_of_ditto};
 ghost use Rattle.hum_laws.specs.Piped.{IsAlone, IsPiped, SameWhereClosed};
