@@ -1,6 +1,5 @@
 -- What commands mean.
 use Rattle.std.specs.Prelude.{◌≡◌, ℕ, false}
-use Rattle.hum_stage.specs.declared.faults.Command.{Command}
 use Rattle.hum_stage.specs.declared.faults.Command.TheVariants as name
 use Rattle.hum_stage.specs.declared.TheConstants.{MOST_WAITING}
 use Rattle.hum_stage.specs.Meaning.{Meaning}
@@ -56,10 +55,6 @@ means n (Cleave options) = cleave.meaning n options
 -- the same, by what it is told to do
 abbrev pub meaning : ℕ → CommandOptions → Meaning
 meaning n options = means n (options_of options)
-
--- which command it is
-abbrev pub command_of : CommandOptions → Command
-command_of options = (meaning 1 options).command
 
 -- Of scores it makes scores: all commands do, but rid where it drops all interpretations.
 abbrev pub MakesScores : CommandOptions → Type 0

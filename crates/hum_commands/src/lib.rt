@@ -8,4 +8,4 @@ mod seen;
 mod stages;
 
 pub use hum_choices::CommandOptions;
-pub use stages::{CommandStage, command_of};
+pub use stages::CommandStage;

@@ -1,7 +1,6 @@
 //! The commands of one input, in one list, and their stages.
-ghost use Rattle.std.specs.Prelude.{◌≡◌};
 ghost use Rattle.hum_stage.specs.Meaning.{opening, KeepsScore, IsWithinLag};
-ghost use Rattle.hum_commands.specs.Meaning.{meaning, MakesScores, most_lag, command_of};
+ghost use Rattle.hum_commands.specs.Meaning.{meaning, MakesScores, most_lag};
 
 use crate::seen::IsSeen;
 use hum_choices::CommandOptions;
@@ -11,30 +10,11 @@ use hum_ditto::Ditto;
 use hum_extract::Extract;
 use hum_record::{Record, Spare};
 use hum_rid::Rid;
-use hum_stage::{Command, End, Readiness, Stage, State};
+use hum_stage::{End, Readiness, Stage, State};
 use hum_timebase::Timebase;
 use hum_tones::{Mint, Recip, Semits, Trans};
 use hum_yank::Yank;
 use std::alloc::{AllocError, Global};
-
-/// Which command is told what to do.
-pub fn command_of(options: &CommandOptions) -> Command
-    ensures { result ≡ command_of options.now }
-{
-    match options {
-        CommandOptions::Rid(_) => Command::Rid,
-        CommandOptions::Extract(_) => Command::Extract,
-        CommandOptions::Ditto(_) => Command::Ditto,
-        CommandOptions::Timebase(_) => Command::Timebase,
-        CommandOptions::Context(_) => Command::Context,
-        CommandOptions::Trans(_) => Command::Trans,
-        CommandOptions::Semits(_) => Command::Semits,
-        CommandOptions::Mint(_) => Command::Mint,
-        CommandOptions::Recip(_) => Command::Recip,
-        CommandOptions::Yank(_) => Command::Yank,
-        CommandOptions::Cleave(_) => Command::Cleave,
-    }
-}
 
 /// The stage of a command of one input.
 pub enum CommandStage {
