@@ -1,16 +1,17 @@
 -- Nodes that were asked nothing yet, and links over which nothing has passed.
-use Rattle.std.proofs.Common.{◌≡◌, ◌∙◌, ◌⊎◌, ℕ, zero, suc, List, [], ◌∷◌, ◌++◌, map, length}
-use Rattle.std.proofs.Common.{Some, refl, sym, ap, subst, inl, inr, slice_get}
+use Rattle.std.proofs.Common.{◌≡◌, ◌∙◌, ◌⊎◌, ℕ, zero, suc, List, [], ◌∷◌, ◌++◌, length, Some, sym, ap, subst, inl, inr}
+use Rattle.std.proofs.Common.{slice_get}
 use Rattle.std.proofs.lemmas.Option.{none-some, same_Some}
 use Rattle.hum_record.specs.Row.{Row}
-use Rattle.hum_turns.specs.Flow.{Flow, so_far}
-use Rattle.hum_turns.specs.Links.{Link, Moment, given, view, fresh, IsOpening}
+use Rattle.hum_turns.specs.Flow.{so_far}
+use Rattle.hum_turns.specs.Links.{Moment, view, fresh, IsOpening}
 use Rattle.hum_nodes.specs.At.{Kind, At, fresh as fresh_at}
 use Rattle.hum_nodes.specs.declared.node.Node.{Node}
 use Rattle.hum_engine.specs.declared.link.Link as port
 use Rattle.hum_engine.specs.Links.{IsLink}
 use Rattle.hum_engine.specs.declared.web.Web.{Web}
 use Rattle.hum_engine.specs.Scene.{Scene, at_of, IsBegun, Stands}
+use Rattle.hum_engine.proofs.Moving.{map_each}
 
 pub push_cases : {X : Type 0} (xs : List X) (y : X) (k : ℕ) (x : X)
     → slice_get (xs ++ y ∷ []) k ≡ Some x → (slice_get xs k ≡ Some x) ⊎ (y ≡ x)
@@ -19,31 +20,17 @@ push_cases [] y (suc k) x h = absurd (none-some x h)
 push_cases (z ∷ xs) y zero x h = inl h
 push_cases (z ∷ xs) y (suc k) x h = push_cases xs y k x h
 
-map_each : (f g : ℕ → Flow Row) → ((i : ℕ) → f i ≡ g i) → (ss : List ℕ) → map f ss ≡ map g ss
-map_each f g h [] = refl
-map_each f g h (s ∷ ss) = ap (λ v. v ∷ map f ss) (h s) ∙ ap (λ l. g s ∷ l) (map_each f g h ss)
-
 at_fresh : (kinds : ℕ → Kind) (m : Moment Row) → IsOpening m → (k : ℕ)
     → at_of kinds m k ≡ fresh_at (kinds k)
 at_fresh kinds m start k =
-    ap
-    (λ i. record { kind = kinds k; inputs = i; read = (m k).read; given = length (given (m k)) })
-    (map_each (λ i. view (m i)) (λ i. so_far []) (λ i. ap view (start i)) (kinds k).stage.sources)
-    ∙ ap
-    (λ (l : Link Row). record {
-      kind = kinds k;
-      inputs = map (λ s. so_far []) (kinds k).stage.sources;
-      read = l.read;
-      given = length (given l);
-    })
-    (start k)
+    rw (map_each (λ i. view (m i)) (λ i. so_far []) (λ i. ap view (start i)) (kinds k).stage.sources, start k)
 
-pub begins : {S R : Type 0} (stands : Node S R → List ℕ → At → Type 0) (size : ℕ) (web : Web S R)
-    (s : Scene) → IsOpening s.links → IsBegun stands size web.nodes.items s
+pub begins : {S R : Type 0} {stands : Node S R → List ℕ → At → Type 0} {size : ℕ} {web : Web S R} {s : Scene}
+    → IsOpening s.links → IsBegun stands size web.nodes.items s
     → length web.links.items ≡ length web.nodes.items
     → ((k : ℕ) (link : port.Link) → slice_get web.links.items k ≡ Some link → IsLink size link fresh)
     → Stands stands web s
-begins stands size web s opening begun count each = record {
+begins {stands = stands} {size = size} {s = s} opening begun count each = record {
   count = begun.count;
   as_many = count ∙ begun.count;
   nodes = λ k node at.

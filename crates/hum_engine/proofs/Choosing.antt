@@ -1,434 +1,410 @@
 -- One step of a run: the actor that is asked, and what its turn leaves known of who is ready.
-use Rattle.std.proofs.Common.{◌≡◌, ◌∙◌, ℕ, ◌+◌, ◌<◌, ◌≤◌, Bool, true, false, List, [], ◌∷◌, ◌++◌}
-use Rattle.std.proofs.Common.{length, Option, Some, None, refl, sym, ap, subst, arith, ⊎_elim, ◌⊎◌, inl, inr, slice_set, slice_get, get_or}
-use Rattle.std.proofs.lemmas.Option.{slice_get-get_or, same_Some, none-some}
+use Rattle.std.proofs.Common.{◌≡◌, ◌∙◌, ℕ, ◌+◌, ◌<◌, ◌≤◌, Bool, true, false, List, [], length, Option, Some, None, refl, sym}
+use Rattle.std.proofs.Common.{ap, subst, arith, ⊎_elim, ◌⊎◌, inl, inr, slice_set, slice_get, get_or, ◌∷◌, Vec, Global}
 use Rattle.std.specs.Prelude.{is_some, IfSome}
-use Rattle.std.proofs.lemmas.Bool.{false≢true, cases_lt}
+use Rattle.std.proofs.lemmas.Bool.{false≢true, cases_Bool, cases_lt}
+use Rattle.std.proofs.lemmas.Option.{slice_get-get_or, none-some}
 use Rattle.hum_record.specs.Row.{Row}
+use Rattle.hum_stage.specs.Meaning.{Moment}
 use Rattle.hum_turns.specs.Plan.{last}
+use Rattle.hum_turns.specs.declared.order.Side.{Side}
 use Rattle.hum_turns.specs.declared.order.Side.TheVariants as side
-use Rattle.hum_turns.specs.Turns.{state}
 use Rattle.hum_turns.specs.Near.{touched}
 use Rattle.hum_turns.specs.Failures.{Now, is_ready, result}
 use Rattle.hum_turns.specs.Orders.{Order, ready_list, LeansTo}
 use Rattle.hum_turns.proofs.States.{sink_state, last_less}
 use Rattle.hum_turns.proofs.Writing.{still}
 use Rattle.hum_nodes.specs.At.{At}
+use Rattle.hum_nodes.specs.Nodes.{StandsAs}
 use Rattle.hum_nodes.specs.declared.node.Node.{Node}
-use Rattle.hum_nodes.specs.Polls.{HasRead}
 use Rattle.hum_nodes.proofs.Followed.{read_none}
 use Rattle.hum_engine.specs.declared.net.Net.{Net}
+use Rattle.hum_engine.specs.declared.net.Turned.{Turned}
 use Rattle.hum_engine.specs.declared.search.Search.{Search}
-use Rattle.hum_engine.specs.Search.{IsNearer, outer, passed, changed, skipped, left_to_ask}
-use Rattle.hum_engine.specs.Readers.{ended_at, remaining_at}
-use Rattle.hum_engine.specs.Scene.{Scene, plan_of, moved, before_all, IsActor}
-use Rattle.hum_engine.specs.Nets.{NetAt, AreOver, HasTurned, GoesTo, IsChanged, Sees, MayPick, MayAsk, MayStep, HasPicked}
-use Rattle.hum_engine.specs.Nets.{HasStepped, IsGoing, IsFront, IsHeldUp}
-use Rattle.hum_engine.proofs.Flags.{touched_below, two_set}
+use Rattle.hum_engine.specs.Search.{IsNearer, outer, passed, changed, skipped, reached, is_left}
+use Rattle.hum_engine.specs.Scene.{Scene, plan_of, moved, before_all}
+use Rattle.hum_engine.specs.Nets.{NetAt, AtEach, AreOver, GoesTo, IsChanged, Sees, IsRunning, MayAsk, MayStep}
+use Rattle.hum_engine.specs.Nets.{MayAdvance, HasPicked, IsNext, HasMoved, HasRested, HasWorked, HasStepped, HasAdvanced}
+use Rattle.hum_engine.specs.Nets.{IsCloser, MarksFailures, IsGoing, IsFront}
+use Rattle.hum_engine.proofs.Advancing.{pick_now, none_yet, then_at, marks_none}
+use Rattle.hum_engine.proofs.Flags.{IsTurn, touched_below, two_set}
+use Rattle.hum_engine.proofs.HeldUp.{held_by}
 use Rattle.hum_engine.proofs.Leaning.{leaning_choice}
-use Rattle.hum_engine.proofs.Netting.{is_at, unfailed_now, not_over}
-use Rattle.hum_engine.proofs.Running.{relisted, picked, some_actor_ready, no_rests, seen}
-use Rattle.hum_engine.proofs.Searching.{front_passed, passed_fewer, front_changed, front_skipped, moves_past, stays_past, others_as_ready}
+use Rattle.hum_engine.proofs.Moving.{nth}
+use Rattle.hum_engine.proofs.Netting.{is_at, not_over}
+use Rattle.hum_engine.proofs.Running.{at_some, relisted, picked, any_ready, now_unfailed, unfailed_at, no_rests, seen}
+use Rattle.hum_engine.proofs.Searching.{IsTaker, front_passed, passed_fewer, front_changed, front_skipped, moves_past}
+use Rattle.hum_engine.proofs.Searching.{stays_past, others_as_ready, reached_on, reached_over}
 
 -- a search, or none
 searches : (look : Option Search) → ((by : Search) × (look ≡ Some by)) ⊎ (look ≡ None)
 searches (Some by) = inl (by, refl)
 searches None = inr refl
 
--- where it stands is asked, and an order that leans to its side stays as it is
-pub asks : {O : Type 0} (order : Order O) (look : Option Search) (k : ℕ) (p q : O)
-    → IfSome look (λ by. (k ≡ by.from) × (q ≡ p))
-    → IfSome look (λ by. LeansTo by.side order.pick order.next p)
-    → (by : Search) → look ≡ Some by → (k ≡ by.from) × (q ≡ p) × LeansTo by.side order.pick order.next p
-asks {O} order (Some x) k p q from leans by is =
-    let e = same_Some x by is in (
-      from.0 ∙ ap (λ (b : Search). b.from) e,
-      from.1,
-      subst (λ (b : Search). LeansTo b.side order.pick order.next p) e leans,
-    )
-asks order None k p q from leans by is = absurd (none-some by is)
+each_some : {A : Type 0} (P : A → Type 0) (o : Option A) → ((x : A) → o ≡ Some x → P x) → IfSome o P
+each_some P (Some x) h = h x refl
+each_some P None h = tt
 
 -- what one knows
-pub front_of : {S R W : Type 0} (look : Option Search) (by : Search) (s : Scene) (now : Now Row) (net : Net S R W)
+pub front_of : {S R W : Type 0} {look : Option Search} {by : Search} (s : Scene) (now : Now Row) (net : Net S R W)
     → look ≡ Some by → Sees look s now net → IsFront by s now
-front_of look by s now net is sees = subst (λ l. Sees l s now net) is sees
+front_of s now net is sees = subst (λ l. Sees l s now net) is sees
 
-module _ {S R W : Type 0} (stands : Node S R → List ℕ → At → Type 0) (contents : W → Option (List ℕ))
-    (flushed : W → Bool) (look : Option Search) (net : Net S R W)
-    (may : MayStep stands contents flushed look net) where
-  -- where nothing more is to come
-  pub may_pick : MayPick stands contents flushed look net
-  may_pick =
-      let rests : ℕ → List ℕ = λ i. [] in
-      let over = no_rests net in
+-- The actor k that is asked: where a search stands, or else the order's pick.
+pub record Asked {S R W O : Type 0} (stands : Node S R → List ℕ → At → Type 0) (contents : W → Option (List ℕ)) (flushed : W → Bool)
+    (order : Order O) (look : Option Search) (k : ℕ) (p q : O) (net : Net S R W) : Type 0 where
+  pub may : MayStep stands contents flushed look net
+  pub here : (by : Search) → look ≡ Some by → (k ≡ by.from) × (q ≡ p) × LeansTo by.side order.pick order.next p
+  pub picked : look ≡ None → AtEach stands contents flushed net (λ start s now. result (plan_of s) now ≡ None
+      → Sees None s now net → HasPicked order (plan_of s) s.size p q now k)
+
+module _ {S R W O : Type 0} {stands : Node S R → List ℕ → At → Type 0} {contents : W → Option (List ℕ)} {flushed : W → Bool}
+    {order : Order O} {o : O} {look : Option Search} {net : Net S R W}
+    (may : MayAdvance stands contents flushed order o look net) where
+  pub search_few : {by : Search} → look ≡ Some by → (by.from < 256) × (by.behind < 257)
+  search_few is =
+      let m = pick_now may.step in
+      let front = front_of m.running.scene m.running.now net is m.sees in
+      (omega (arith, m.running.at.plan.few, front.within), omega (arith, m.running.at.plan.few, front.last))
+
+  pub asked : {p : O} {k : ℕ} → IsNext stands contents flushed order o p look net k
+      → Asked stands contents flushed order look k o p net
+  asked {p} {k} next = record {
+    may = may.step;
+    here = λ by is.
+        let at = at_some (λ b. (k ≡ b.from) × (p ≡ o)) look by is next.from in
+        (at.0, at.1, at_some (λ b. LeansTo b.side order.pick order.next o) look by is may.leans);
+    picked = next.picked;
+  }
+
+  -- by a search
+  pub asked_from : {by : Search} {k : ℕ} → look ≡ Some by → k ≡ by.from → Asked stands contents flushed order look k o o net
+  asked_from {by} is from = asked (record { from = rw is (from, refl); picked = λ isnt. absurd (none-some by (sym isnt ∙ is)) })
+
+module _ {S R W O : Type 0} {stands : Node S R → List ℕ → At → Type 0} {contents : W → Option (List ℕ)} {flushed : W → Bool}
+    {order : Order O} {look : Option Search} {k : ℕ} {p q : O} {net : Net S R W}
+    (a : Asked stands contents flushed order look k p q net) where
+  chosen_now : {start : Option (List ℕ)} {s : Scene} {now : Now Row} → look ≡ None → NetAt stands contents flushed start s net now
+      → result (plan_of s) now ≡ None → Sees look s now net → (k ≤ s.count) × (is_ready (plan_of s) s.size now k ≡ true)
+  chosen_now {start} {s} {now} isnt h none sees =
+      picked h (order.pick p (ready_list (plan_of s) s.size now)) none
+      (a.picked isnt start s now h none (subst (λ l. Sees l s now net) isnt sees)).choice
+
+  pub may_ask : MayAsk stands contents flushed k net
+  may_ask =
+      let m = pick_now a.may in
       record {
-        running = record {
-          start = may.start;
-          scene = may.scene rests over;
-          now = may.now rests over;
-          at = may.at rests over;
-        };
-        going = may.going rests over;
-        sees = may.sees rests over;
+        running = m.running;
+        going = m.going;
+        within = ⊎_elim
+            (λ is. omega (arith, (a.here is.0 is.1).0, (front_of m.running.scene m.running.now net is.1 m.sees).within))
+            (λ isnt. (chosen_now isnt m.running.at m.going m.sees).0)
+            (searches look);
       }
 
-  pub unfailed : net.failure ≡ None
-  unfailed =
-      let m = may_pick in
-      let w = m.running in
-      w.at.failure ∙ unfailed_now stands contents flushed w.start w.scene net w.now 0 w.at m.going
+  within_all : {start : Option (List ℕ)} {s : Scene} {now : Now Row} → NetAt stands contents flushed start s net now → k ≤ s.count
+  within_all h = omega (arith, may_ask.within, may_ask.running.at.actors, h.actors)
 
-module _ {S R W O : Type 0} (stands : Node S R → List ℕ → At → Type 0)
-    (remaining : R → Option (List ℕ)) (contents : W → Option (List ℕ))
-    (flushed : W → Bool) (order : Order O) (look : Option Search) (k : ℕ) (p q : O) (net : Net S R W)
-    (may : MayStep stands contents flushed look net) where
-  -- The actor that is asked: the order's pick, or where a search stands.
-  module _ (here : (by : Search) → look ≡ Some by
-      → (k ≡ by.from) × (q ≡ p) × LeansTo by.side order.pick order.next p)
-      (picked_by : look ≡ None → (start : Option (List ℕ)) (s : Scene) (now : Now Row)
-      → NetAt stands contents flushed start s net now → result (plan_of s) now ≡ None
-      → Sees None s now net → HasPicked order (plan_of s) s.size p q now k) where
-    chosen_now : look ≡ None → (start : Option (List ℕ)) (s : Scene) (now : Now Row)
+  pub leans_on : {by : Search} {to : Side} → look ≡ Some by → to ≡ by.side → LeansTo to order.pick order.next q
+  leans_on {by} is same = let w = a.here by is in rw (same, w.1) w.2
+
+  leans_still : IfSome look (λ by. LeansTo by.side order.pick order.next q)
+  leans_still = each_some (λ by. LeansTo by.side order.pick order.next q) look (λ by is. leans_on is refl)
+
+  -- It isn't ready, so there is a search.
+  module _ {new : Net S R W} (rests : HasRested stands contents flushed k net new) where
+    pub never_picked : look ≡ None → ⊥
+    never_picked isnt =
+        let m = pick_now a.may in
+        let ready = chosen_now isnt m.running.at m.going m.sees in
+        false≢true (sym (rests.idle m.running.start m.running.scene m.running.now m.running.at m.going ready.0) ∙ ready.1)
+
+    unready_at : {by : Search} {start : Option (List ℕ)} {s : Scene} {now : Now Row} → look ≡ Some by
         → NetAt stands contents flushed start s net now → result (plan_of s) now ≡ None
-        → Sees look s now net → (k ≤ s.count) × (is_ready (plan_of s) s.size now k ≡ true)
-    chosen_now isnt start s now h none sees =
-        let picks = picked_by isnt start s now h none (subst (λ l. Sees l s now net) isnt sees) in
-        let list = ready_list (plan_of s) s.size now in
-        picked stands contents flushed start s net now h list (order.pick p list) k none refl picks.choice
+        → is_ready (plan_of s) s.size now by.from ≡ false
+    unready_at {by} {start} {s} {now} is h none =
+        ap (is_ready (plan_of s) s.size now) (sym (a.here by is).0) ∙ rests.idle start s now h none (within_all h)
 
-    pub may_ask : MayAsk stands contents flushed k net
-    may_ask =
-        let m = may_pick stands contents flushed look net may in
-        let w = m.running in
+    -- The search goes on.
+    pub stepped_past : {remaining : R → Option (List ℕ)} {by after : Search} → look ≡ Some by → after ≡ passed by
+        → HasStepped stands remaining contents flushed order p q look (Some after) net new false
+    stepped_past {remaining} {by} {after} is to =
+        rw (to, rests.same) (record {
+          reads = λ i. [];
+          read = λ i. read_none _ _;
+          goes = λ start s now over h none sees. (
+            record { turns = []; to = now; driven = (still now, (a.here by is).1); at = h },
+            record {
+              tells = ap is_some (sym none);
+              sees = λ none. front_passed (front_of s now net is sees) (unready_at is h none) (any_ready h none);
+            },
+          );
+        })
+
+    pub past_advanced : {remaining : R → Option (List ℕ)} {failed : R → Bool} {broken : W → Bool} {by after : Search}
+        → look ≡ Some by → after ≡ passed by
+        → HasAdvanced stands remaining failed contents flushed broken order p q look (Some after) net new false
+    past_advanced is to = record {
+      stepped = stepped_past is to;
+      leans = leans_on is (ap (λ (b : Search). b.side) to);
+      marks = marks_none rests.same (none_yet a.may);
+    }
+
+    pub past_closer : {by after : Search} → look ≡ Some by → after ≡ passed by → IsCloser look (Some after) net new false
+    past_closer is to =
+        let m = pick_now a.may in
+        let at = m.running.at in
+        let front = front_of m.running.scene m.running.now net is m.sees in
+        let fewer = passed_fewer front (unready_at is at m.going) (any_ready at m.going) at.plan.few in
+        rw (to, is) (inr (inr (ap (λ (n : Net S R W). n.turns) rests.same, fewer)))
+
+  -- It was ready, and has had its turn.
+  module _ {remaining : R → Option (List ℕ)} {link : ℕ} {behind : Net S R W} {is_over : Bool}
+      (m : HasMoved stands remaining contents flushed k link net behind is_over) where
+    -- what has come of one moment
+    record Next (start : Option (List ℕ)) (s : Scene) (now : Now Row) : Type 0 where
+      going : result (plan_of s) now ≡ None
+      sees : Sees look s now net
+      picks : HasPicked order (plan_of s) s.size p q now k
+      within : k ≤ s.count
+      goes : GoesTo stands contents flushed start s k now behind is_over
+      link_is : IsChanged k (moved s now.links) behind.failure link
+
+    next_at : (start : Option (List ℕ)) (s : Scene) (now : Now Row) → AreOver behind.web.nodes.items s.rests
+        → NetAt stands contents flushed start (before_all m.turned.reads s) net now
+        → result (plan_of s) now ≡ None → Sees look s now net → Next start s now
+    next_at start s now over h none sees =
+        let mid : Scene = before_all m.turned.reads s in
+        let within : k ≤ s.count = within_all h in
+        let ready : is_ready (plan_of s) s.size now k ≡ true = m.ready start mid now h none in
         record {
-          running = w;
-          going = m.going;
-          within = ⊎_elim
+          going = none;
+          sees = sees;
+          picks = ⊎_elim
               (λ is.
-              let f = front_of look is.0 w.scene w.now net is.1 m.sees in
-              let at = (here is.0 is.1).0 in
-              let fits = f.within in
-              omega (arith, at, fits))
-              (λ isnt. (chosen_now isnt w.start w.scene w.now w.at m.going m.sees).0)
+              let at = a.here is.0 is.1 in
+              record {
+                choice = leaning_choice s now within ready order p is.0.side at.2 (λ j less near.
+                    (front_of s now net is.1 sees).nearer j less (subst (IsNearer is.0.side j) at.0 near));
+                next = at.1 ∙ sym (at.2.stays (ready_list (plan_of s) s.size now));
+              })
+              (λ isnt. a.picked isnt start mid now h none
+              (subst (λ l. Sees l mid now net) isnt (seen look s mid.rests now net sees)))
               (searches look);
+          within = within;
+          goes = m.turned.turns start s now over h within ready;
+          link_is = m.changes (moved mid now.links)
+              (record { at = is_at stands contents flushed start mid net now k h ready; within = within });
         }
 
-    -- It isn't ready, so there is a search.
-    module _ (unready : (start : Option (List ℕ)) (s : Scene) (now : Now Row)
-        → NetAt stands contents flushed start s net now → result (plan_of s) now ≡ None → k ≤ s.count
-        → is_ready (plan_of s) s.size now k ≡ false) where
-      pub never_picked : look ≡ None → ⊥
-      never_picked isnt =
-          let m = may_pick stands contents flushed look net may in
-          let w = m.running in
-          let ready = chosen_now isnt w.start w.scene w.now w.at m.going m.sees in
-          false≢true (sym (unready w.start w.scene w.now w.at m.going ready.0) ∙ ready.1)
+    module _ {start : Option (List ℕ)} {s : Scene} {now : Now Row} (n : Next start s now)
+        (goes : result (plan_of s) n.goes.to ≡ None) where
+      turn_of : IsTurn s k link now n.goes.to
+      turn_of = record {
+        plan = n.goes.at.plan;
+        turn = n.goes.turn;
+        going = n.going;
+        none = goes;
+        within = n.within;
+        link_is = ⊎_elim (λ is. is) (λ own. absurd (own.1 (unfailed_at n.goes.at goes))) n.link_is;
+      }
 
-      unready_at : (by : Search) → look ≡ Some by → (start : Option (List ℕ)) (s : Scene) (now : Now Row)
-          → NetAt stands contents flushed start s net now → result (plan_of s) now ≡ None → IsFront by s now
-          → is_ready (plan_of s) s.size now by.from ≡ false
-      unready_at by is start s now h none front =
-          let at = (here by is).0 in
-          ap (is_ready (plan_of s) s.size now) (sym at)
-          ∙ unready start s now h none (subst (λ i. i ≤ s.count) (sym at) front.within)
-
-      -- the search goes on
-      pub asks_fewer : (by : Search) → look ≡ Some by
-          → (by.behind < 256) × (left_to_ask by.side by.behind < left_to_ask by.side by.from)
-      asks_fewer by is =
-          let m = may_pick stands contents flushed look net may in
-          let w = m.running in
-          let s = w.scene in
-          let front = front_of look by s w.now net is m.sees in
-          let some = some_actor_ready stands contents flushed w.start s net w.now w.at m.going in
-          let isnt = unready_at by is w.start s w.now w.at m.going front in
-          let few = w.at.plan.few in
-          let fits = (front_passed by s w.now some.actor front isnt some.within some.is_ready).within in (
-            omega (arith, fits, few),
-            passed_fewer by s w.now some.actor front isnt some.within some.is_ready few,
-          )
-
-      pub stepped_past : (by : Search) → look ≡ Some by → (new : Net S R W) → new ≡ net
-          → HasStepped stands remaining contents flushed order p q look (Some (passed by)) net new false
-      stepped_past by is new same =
-          subst
-          (λ n. HasStepped stands remaining contents flushed order p q look (Some (passed by)) net n false)
-          (sym same) (record {
-            reads = λ i. [];
-            read = λ i. read_none _ _;
-            goes = λ start s now over h none sees.
-                let front = front_of look by s now net is sees in
-                let isnt = unready_at by is start s now h none front in
-                let some = some_actor_ready stands contents flushed start s net now h none in (
-                  record { turns = []; to = now; driven = (still now, (here by is).1); at = h },
-                  record {
-                    tells = ap is_some (sym none);
-                    sees = λ none. front_passed by s now some.actor front isnt some.within some.is_ready;
-                  },
-                );
-          })
-
-    -- It was ready, and has had its turn.
-    module _ (link : ℕ) (is_over : Bool) (behind : Net S R W)
-        (ready : (start : Option (List ℕ)) (s : Scene) (now : Now Row)
-        → NetAt stands contents flushed start s net now → result (plan_of s) now ≡ None → k ≤ s.count
-        → is_ready (plan_of s) s.size now k ≡ true)
-        (links : (s : Scene) → IsActor stands k net.web s → IsChanged k s behind.failure link)
-        (turned : HasTurned stands remaining contents flushed k net behind is_over) where
-      -- what has come of one moment
-      record Next (start : Option (List ℕ)) (s : Scene) (now : Now Row) : Type 0 where
-        picks : HasPicked order (plan_of s) s.size p q now k
-        within : k ≤ s.count
-        goes : GoesTo stands contents flushed start s k now behind is_over
-        link_is : IsChanged k (moved s now.links) behind.failure link
-
-      next_at : (start : Option (List ℕ)) (s : Scene) (now : Now Row) → AreOver behind.web.nodes.items s.rests
-          → NetAt stands contents flushed start (before_all turned.reads s) net now
-          → result (plan_of s) now ≡ None → Sees look s now net → Next start s now
-      next_at start s now over h none sees =
-          let mid : Scene = before_all turned.reads s in
-          let seen_mid = seen look s mid.rests now net sees in
-          let picks : HasPicked order (plan_of s) s.size p q now k = ⊎_elim
-          (λ is.
-          let by = is.0 in
-          let at = here by is.1 in
-          let front = front_of look by s now net is.1 sees in
-          let from = at.0 in
-          let fits = front.within in
-          let within : k ≤ s.count = omega (arith, from, fits) in
-          record {
-            choice = leaning_choice s now k within (ready start mid now h none within) order p by.side at.2
-                (λ j less near. front.nearer j less (subst (IsNearer by.side j) from near));
-            next = at.1 ∙ sym (at.2.stays (ready_list (plan_of s) s.size now));
-          })
-          (λ isnt. picked_by isnt start mid now h none (subst (λ l. Sees l mid now net) isnt seen_mid))
-          (searches look) in
-          let list = ready_list (plan_of s) s.size now in
-          let may = picked stands contents flushed start mid net now h list (order.pick p list) k none refl
-          picks.choice in
-          let at = is_at stands contents flushed start mid net now k h may.1 in
-          record {
-            picks = picks;
-            within = may.0;
-            goes = turned.turns start s now over h may.0 may.1;
-            link_is = links (moved mid now.links) (record { at = at; within = may.0 });
-          }
-
-      changed_is : (start : Option (List ℕ)) (s : Scene) (now : Now Row) → (n : Next start s now)
-          → result (plan_of s) n.goes.to ≡ None → link ≡ touched k (state (plan_of s) now.links k)
-      changed_is start s now n none = ⊎_elim (λ is. is)
-          (λ own. absurd (own.1 (n.goes.at.failure
-          ∙ unfailed_now stands contents flushed start s behind n.goes.to k n.goes.at none)))
-          n.link_is
-
-      link_within : (start : Option (List ℕ)) (s : Scene) (now : Now Row) → (n : Next start s now)
-          → result (plan_of s) n.goes.to ≡ None → link < s.count
-      link_within start s now n none =
-          let is = changed_is start s now n none in
-          let plan = n.goes.at.plan in
-          let low = touched_below s plan.ok k link now.links n.within is in
-          let within = n.within in
-          ⊎_elim
-          (λ (less : k < s.count). omega (arith, low, less))
+      link_within : link < s.count
+      link_within = ⊎_elim
+          (λ (less : k < s.count). omega (arith, touched_below turn_of, less))
           (λ (more : s.count ≤ k).
-          let at_last : link ≡ last (plan_of s) =
-          is ∙ ap (touched k) (sink_state (plan_of s) now.links k more) in
-          let top = last_less s.count plan.ok.some in
-          omega (arith, at_last, top))
+          let at_last : link ≡ last (plan_of s) = turn_of.link_is ∙ ap (touched k) (sink_state (plan_of s) now.links k more) in
+          omega (arith, at_last, last_less s.count n.goes.at.plan.ok.some))
           (cases_lt k s.count)
 
-      stepped_by : (after : Option Search) (new : Net S R W) → new ≡ record behind { actors = new.actors }
+      taker_of : {taker : ℕ} → slice_get behind.takers.items link ≡ Some taker → IsTaker s link taker
+      taker_of {taker} is =
+          let at = n.goes.at.takers.behind link taker is in
+          record { alone = λ j takes. n.goes.at.takers.alone link taker j is takes; behind = at.0; most = at.1 }
+
+    stepped_by : {after : Option Search} (flags : Vec Bool Global) → length flags.items ≡ length behind.actors.items
+        → ((start : Option (List ℕ)) (s : Scene) (now : Now Row) → (n : Next start s now)
+        → result (plan_of s) n.goes.to ≡ None → Sees after s n.goes.to (record behind { actors = flags }))
+        → HasStepped stands remaining contents flushed order p q look after net (record behind { actors = flags }) is_over
+    stepped_by flags len known = record {
+      reads = m.turned.reads;
+      read = m.turned.read;
+      goes = λ start s now over h none sees.
+          let n = next_at start s now over h none sees in (
+            record {
+              turns = k ∷ [];
+              to = n.goes.to;
+              driven = (n.goes.to, n.picks.choice, n.goes.turn, (still n.goes.to, n.picks.next));
+              at = relisted refl len n.goes.at;
+            },
+            record { tells = n.goes.tells; sees = λ goes. known start s now n goes },
+          );
+    }
+
+    -- and the run is over
+    pub stepped_out : is_over ≡ true → {after : Option Search}
+        → HasStepped stands remaining contents flushed order p q look after net behind is_over
+    stepped_out is = stepped_by behind.actors refl
+        (λ start s now n goes. absurd (false≢true (sym (n.goes.tells ∙ ap is_some goes) ∙ is)))
+
+    -- a moment of it, while the run goes on
+    next_now : is_over ≡ false → (start : Option (List ℕ)) × (s : Scene) × (now : Now Row)
+        × (n : Next start s now) × (result (plan_of s) n.goes.to ≡ None)
+    next_now not_yet =
+        let t = then_at a.may remaining behind m.turned.reads (λ i. []) m.turned.read (no_rests behind) in
+        let n = next_at a.may.start (record t.scene { rests = λ i. [] }) t.now (no_rests behind) t.at t.going t.sees in
+        (a.may.start, record t.scene { rests = λ i. [] }, t.now, n, not_over _ n.goes.tells not_yet)
+
+    pub link_few : is_over ≡ false → link < length behind.takers.items
+    link_few not_yet =
+        let t = next_now not_yet in
+        omega (arith, link_within t.3 t.4, t.3.goes.at.takers.many)
+
+    -- A search looks further, or the run is over.
+    searched : {by after : Search} → look ≡ Some by
+        → ((start : Option (List ℕ)) (s : Scene) (now : Now Row) → (n : Next start s now) → result (plan_of s) n.goes.to ≡ None
+        → k ≡ by.from → IsFront by s now → IsFront after s n.goes.to)
+        → HasStepped stands remaining contents flushed order p q look (Some after) net behind is_over
+    searched {by} is known = stepped_by behind.actors refl
+        (λ start s now n goes. known start s now n goes (a.here by is).0 (front_of s now net is n.sees))
+
+    searched_on : {by after : Search} → look ≡ Some by
+        → ((taker : ℕ) → slice_get behind.takers.items link ≡ Some taker
+        → (start : Option (List ℕ)) (s : Scene) (now : Now Row) → (n : Next start s now) → result (plan_of s) n.goes.to ≡ None
+        → k ≡ by.from → IsFront by s now → IsFront after s n.goes.to)
+        → HasStepped stands remaining contents flushed order p q look (Some after) net behind is_over
+    searched_on is known = ⊎_elim (λ over. stepped_out over) (λ on. searched is
+        (known (get_or behind.takers.items link 0) (slice_get-get_or behind.takers.items link 0 (link_few on))))
+        (cases_Bool is_over)
+
+    pub stepped_on : {by after : Search} → look ≡ Some by
+        → ((taker : ℕ) → slice_get behind.takers.items link ≡ Some taker → after ≡ changed by (outer by.side link taker))
+        → HasStepped stands remaining contents flushed order p q look (Some after) net behind is_over
+    stepped_on is to = searched_on is
+        (λ taker at start s now n goes here front.
+        subst (λ l. IsFront l s n.goes.to) (sym (to taker at)) (front_changed (turn_of n goes) (taker_of n goes at) here front))
+
+    pub moved_advanced : {failed : R → Bool} {broken : W → Bool} {by after : Search} → MarksFailures failed broken net behind
+        → look ≡ Some by → after.side ≡ by.side
+        → ((taker : ℕ) → slice_get behind.takers.items link ≡ Some taker → after ≡ changed by (outer by.side link taker))
+        → HasAdvanced stands remaining failed contents flushed broken order p q look (Some after) net behind is_over
+    moved_advanced marks is same to = record { stepped = stepped_on is to; leans = leans_on is same; marks = marks }
+
+    -- From the right it looks on from who takes from the actor's own link, and not at the actor, which isn't ready;
+    pub stepped_past_it : {by : Search} {taker : ℕ} → look ≡ Some by → by.side ≡ side.Right → k ≡ link → 0 < k
+        → slice_get behind.takers.items link ≡ Some taker
+        → AtEach stands contents flushed behind (λ start s now. result (plan_of s) now ≡ None
+        → is_ready (plan_of s) s.size now k ≡ false)
+        → HasStepped stands remaining contents flushed order p q look (Some (record by { from = taker })) net behind is_over
+    stepped_past_it is right own some at idle = searched is
+        (λ start s now n goes here front.
+        moves_past (turn_of n goes) (taker_of n goes at) here front right own some (idle start s n.goes.to n.goes.at goes))
+
+    -- or stays where it is, behind the turn of who takes from the link.
+    pub stepped_there : {by : Search} → look ≡ Some by → by.side ≡ side.Right → slice_get behind.takers.items link ≡ Some k
+        → AtEach stands contents flushed behind (λ start s now. result (plan_of s) now ≡ None → by.behind < link
+        → is_ready (plan_of s) s.size now link ≡ false)
+        → HasStepped stands remaining contents flushed order p q look (Some by) net behind is_over
+    stepped_there is right at idle = searched is
+        (λ start s now n goes here front.
+        stays_past (turn_of n goes) (taker_of n goes at) here front right refl (idle start s n.goes.to n.goes.at goes))
+
+-- A turn as it is told, and what the search makes of it.
+module _ {S R W O : Type 0} {stage : S → Moment → Type 0} {contents : W → Option (List ℕ)} {flushed : W → Bool}
+    {order : Order O} {look : Option Search} {k : ℕ} {p q : O} {net : Net S R W}
+    (a : Asked (StandsAs stage) contents flushed order look k p q net)
+    {remaining : R → Option (List ℕ)} {calls : R → ℕ} {failed : R → Bool} {broken : W → Bool} {writes : W → ℕ}
+    {behind : Net S R W} {turned : Turned}
+    (w : HasWorked (StandsAs stage) remaining calls failed contents flushed broken writes k net behind turned) where
+  abbrev pub Steps : Option Search → Net S R W → Bool → Type 0
+  Steps after new is_over = HasStepped (StandsAs stage) remaining contents flushed order p q look after net new is_over
+
+  abbrev pub Advances : Option Search → Net S R W → Bool → Type 0
+  Advances after new over = HasAdvanced (StandsAs stage) remaining failed contents flushed broken order p q look after net new over
+
+  pub worked : HasMoved (StandsAs stage) remaining contents flushed k turned.link net behind turned.is_over
+  worked = record {
+    ready = λ start s now h none. w.ready start s now h none (within_all a h);
+    turned = w.gone.turned;
+    changes = w.gone.link;
+    turns = w.gone.turns;
+  }
+
+  -- The run is over, or goes on.
+  module _ {is_over : Bool} (is_so : turned.is_over ≡ is_over) where
+    told_so : {after : Option Search} (flags : Vec Bool Global) → IfSome after (λ by. LeansTo by.side order.pick order.next q)
+        → Steps after (record behind { actors = flags }) turned.is_over → Advances after (record behind { actors = flags }) is_over
+    told_so {after} flags leans stepped = record {
+      stepped = subst (Steps after (record behind { actors = flags })) is_so stepped;
+      leans = leans;
+      marks = record { reads = w.gone.reads; writes = w.gone.writes; takers = w.gone.takers };
+    }
+
+    pub on_advanced : {by after : Search} → look ≡ Some by → after.side ≡ by.side
+        → ((taker : ℕ) → slice_get behind.takers.items turned.link ≡ Some taker
+        → after ≡ changed by (outer by.side turned.link taker)) → Advances (Some after) behind is_over
+    on_advanced is same to = told_so behind.actors (leans_on a is same) (stepped_on a worked is to)
+
+    pub over_advanced : {by after : Search} → turned.is_full ≡ true → look ≡ Some by → after.side ≡ by.side
+        → ((taker : ℕ) → slice_get behind.takers.items turned.link ≡ Some taker → after ≡ skipped by turned.link taker)
+        → Advances (Some after) behind is_over
+    over_advanced full is same to = told_so behind.actors (leans_on a is same) (searched_on a worked is
+        (λ taker at start s now n goes here front. subst (λ l. IsFront l s n.goes.to) (sym (to taker at))
+        (front_skipped (turn_of a worked n goes) (taker_of a worked n goes at) here front
+        (held_by n.goes.at goes n.within (w.gone.full full)) (any_ready n.goes.at goes))))
+
+    -- It has taken a record, and the search is from the left.
+    pub reached_advanced : {by after : Search} → turned.has_taken ≡ true → look ≡ Some by → is_left by.side ≡ true
+        → after ≡ reached by turned.link turned.is_full → Advances (Some after) behind is_over
+    reached_advanced {by} taken is left to =
+        let below : turned.link < by.from = omega (arith, (w.gone.room taken).0, (a.here by is).0) in
+        ⊎_elim
+        (λ full. over_advanced full is (ap (λ (b : Search). b.side) to)
+        (λ taker at. to ∙ ap (reached by turned.link) full ∙ reached_over by turned.link taker left below))
+        (λ isnt. on_advanced is (ap (λ (b : Search). b.side) to)
+        (λ taker at. to ∙ ap (reached by turned.link) isnt ∙ reached_on by turned.link taker left below))
+        (cases_Bool turned.is_full)
+
+  pub out_advanced : turned.is_over ≡ true → Advances look behind true
+  out_advanced over = told_so over behind.actors (leans_still a) (stepped_out a worked over)
+
+  -- The run goes on.
+  module _ (on : turned.is_over ≡ false) where
+    pub link_by : turned.link < length behind.takers.items
+    link_by = link_few a worked on
+
+    -- The two ends of the link may be asked,
+    module _ {taker : ℕ} (read : taker ≡ get_or behind.takers.items turned.link taker) where
+      taker_at : slice_get behind.takers.items turned.link ≡ Some taker
+      taker_at = nth behind.takers.items turned.link taker link_by read
+
+      pub ends_by : IsGoing (StandsAs stage) contents flushed turned.link behind
+          × IsGoing (StandsAs stage) contents flushed taker behind
+      ends_by =
+          let t = next_now a worked on in
+          let r : IsRunning (StandsAs stage) contents flushed behind =
+          record { start = t.0; scene = t.1; now = t.3.goes.to; at = t.3.goes.at } in (
+            record { running = r; going = now_unfailed r.at t.4; within = omega (arith, link_within a worked t.3 t.4) },
+            record { running = r; going = now_unfailed r.at t.4; within = (taker_of a worked t.3 t.4 taker_at).most },
+          )
+
+      -- and are, where there is no search.
+      pub else_advanced : {new : Net S R W} → look ≡ None → new ≡ record behind { actors = new.actors }
           → length new.actors.items ≡ length behind.actors.items
-          → ((start : Option (List ℕ)) (s : Scene) (now : Now Row) → (n : Next start s now)
-          → result (plan_of s) now ≡ None → Sees look s now net
-          → result (plan_of s) n.goes.to ≡ None → Sees after s n.goes.to new)
-          → HasStepped stands remaining contents flushed order p q look after net new is_over
-      stepped_by after new same len known =
-          let nodes : new.web.nodes ≡ behind.web.nodes = ap (λ (n : Net S R W). n.web.nodes) same in
-          record {
-            reads = turned.reads;
-            read = λ i.
-                subst
-                (λ v. HasRead (ended_at i net.web.nodes.items) (ended_at i v.items)
-                (remaining_at remaining i net.web.nodes.items) (remaining_at remaining i v.items) (turned.reads i))
-                (sym nodes) (turned.read i);
-            goes = λ start s now over h none sees.
-                let n = next_at start s now (subst (λ v. AreOver v.items s.rests) nodes over) h none sees in (
-                  record {
-                    turns = k ∷ [];
-                    to = n.goes.to;
-                    driven = (n.goes.to, n.picks.choice, n.goes.turn, (still n.goes.to, n.picks.next));
-                    at = relisted stands contents flushed start s behind new n.goes.to same len n.goes.at;
-                  },
-                  record {
-                    tells = n.goes.tells;
-                    sees = λ goes. known start s now n none sees goes;
-                  },
-                );
-          }
-
-      -- and the run is over
-      pub stepped_out : is_over ≡ true → (after : Option Search)
-          → HasStepped stands remaining contents flushed order p q look after net behind is_over
-      stepped_out is after =
-          stepped_by after behind refl refl
-          (λ start s now n none sees goes.
-          absurd (false≢true (sym (n.goes.tells ∙ ap is_some goes) ∙ is)))
-
-      pub stepped_over : is_over ≡ true
-          → HasStepped stands remaining contents flushed order p q look look net behind is_over
-      stepped_over is = stepped_out is look
-
-      -- a moment of it, while the run goes on
-      next_now : is_over ≡ false → (start : Option (List ℕ)) × (s : Scene) × (now : Now Row)
-          × (n : Next start s now) × (result (plan_of s) n.goes.to ≡ None)
-      next_now not_yet =
-          let rests : ℕ → List ℕ = λ i. turned.reads i ++ [] in
-          let over : AreOver net.web.nodes.items rests =
-          λ i e. ap (λ l. l ++ []) ((turned.read i).still e).0 in
-          let all = may.scene rests over in
-          let now = may.now rests over in
-          let s : Scene = record all { rests = λ i. [] } in
-          let at : NetAt stands contents flushed may.start (before_all turned.reads s) net now =
-          subst (λ f. NetAt stands contents flushed may.start (record all { rests = f }) net now)
-          (may.rests rests over) (may.at rests over) in
-          let n = next_at may.start s now (no_rests behind) at (may.going rests over)
-          (seen look all s.rests now net (may.sees rests over)) in
-          (may.start, s, now, n, not_over _ n.goes.tells not_yet)
-
-      pub link_few : is_over ≡ false → link < length behind.takers.items
-      link_few not_yet =
-          let m = next_now not_yet in
-          let n = m.3 in
-          let less = link_within m.0 m.1 m.2 n m.4 in
-          let many = n.goes.at.takers.many in
-          omega (arith, less, many)
-
-      -- a search looks further
-      pub stepped_on : is_over ≡ false → (by after : Search) → look ≡ Some by
-          → ((taker : ℕ) → slice_get behind.takers.items link ≡ Some taker
-          → after ≡ changed by (outer by.side link taker))
-          → HasStepped stands remaining contents flushed order p q look (Some after) net behind is_over
-      stepped_on not_yet by after is goes_to =
-          let few = link_few not_yet in
-          let list = behind.takers.items in
-          let taker = get_or list link 0 in
-          let taker_is : slice_get list link ≡ Some taker = slice_get-get_or list link 0 few in
-          stepped_by (Some after) behind refl refl
-          (λ start s now n none sees goes.
-          let takers = n.goes.at.takers in
-          let at = takers.behind link taker taker_is in
-          subst (λ l. IsFront l s n.goes.to) (sym (goes_to taker taker_is))
-          (front_changed s n.goes.at.plan k link taker now n.goes.to n.goes.turn goes none
-          (changed_is start s now n goes) n.within
-          (λ j takes. takers.alone link taker j taker_is takes)
-          by (here by is).0 at.0 at.1 (front_of look by s now net is sees)))
-
-      -- From the right it looks on from who takes from the actor's own link, and not at the actor, which isn't ready;
-      pub stepped_past_it : (by : Search) → look ≡ Some by → by.side ≡ side.Right → k ≡ link → 0 < k
-          → (taker : ℕ) → slice_get behind.takers.items link ≡ Some taker
-          → ((start : Option (List ℕ)) (s : Scene) (now : Now Row) → NetAt stands contents flushed start s behind now
-          → result (plan_of s) now ≡ None → is_ready (plan_of s) s.size now k ≡ false)
-          → HasStepped stands remaining contents flushed order p q look (Some (record by { from = taker })) net behind is_over
-      stepped_past_it by is right own some taker taker_is idle =
-          stepped_by (Some (record by { from = taker })) behind refl refl
-          (λ start s now n none sees goes.
-          let takers = n.goes.at.takers in
-          let at = takers.behind link taker taker_is in
-          moves_past s n.goes.at.plan k link taker now n.goes.to n.goes.turn goes none
-          (changed_is start s now n goes) n.within
-          (λ j takes. takers.alone link taker j taker_is takes)
-          by (here by is).0 at.0 at.1 (front_of look by s now net is sees) right own some
-          (idle start s n.goes.to n.goes.at goes))
-
-      -- or stays where it is, behind the turn of who takes from the link.
-      pub stepped_there : (by : Search) → look ≡ Some by → by.side ≡ side.Right
-          → (taker : ℕ) → slice_get behind.takers.items link ≡ Some taker → k ≡ taker
-          → ((start : Option (List ℕ)) (s : Scene) (now : Now Row) → NetAt stands contents flushed start s behind now
-          → result (plan_of s) now ≡ None → by.behind < link → is_ready (plan_of s) s.size now link ≡ false)
-          → HasStepped stands remaining contents flushed order p q look (Some by) net behind is_over
-      stepped_there by is right taker taker_is own idle =
-          stepped_by (Some by) behind refl refl
-          (λ start s now n none sees goes.
-          let takers = n.goes.at.takers in
-          let at = takers.behind link taker taker_is in
-          stays_past s n.goes.at.plan k link taker now n.goes.to n.goes.turn goes none
-          (changed_is start s now n goes) n.within
-          (λ j takes. takers.alone link taker j taker_is takes)
-          by (here by is).0 at.0 at.1 (front_of look by s now net is sees) right own
-          (idle start s n.goes.to n.goes.at goes))
-
-      -- and passes over the actor, where it is held up
-      pub stepped_over_it : is_over ≡ false → (by after : Search) → look ≡ Some by
-          → ((start : Option (List ℕ)) (s : Scene) (now : Now Row) → NetAt stands contents flushed start s behind now
-          → result (plan_of s) now ≡ None → k ≤ s.count → IsHeldUp s now.links k)
-          → ((taker : ℕ) → slice_get behind.takers.items link ≡ Some taker → after ≡ skipped by link taker)
-          → HasStepped stands remaining contents flushed order p q look (Some after) net behind is_over
-      stepped_over_it not_yet by after is held goes_to =
-          let few = link_few not_yet in
-          let list = behind.takers.items in
-          let taker = get_or list link 0 in
-          let taker_is : slice_get list link ≡ Some taker = slice_get-get_or list link 0 few in
-          stepped_by (Some after) behind refl refl
-          (λ start s now n none sees goes.
-          let takers = n.goes.at.takers in
-          let at = takers.behind link taker taker_is in
-          let some = some_actor_ready stands contents flushed start s behind n.goes.to n.goes.at goes in
-          subst (λ l. IsFront l s n.goes.to) (sym (goes_to taker taker_is))
-          (front_skipped s n.goes.at.plan k link taker now n.goes.to n.goes.turn goes none
-          (changed_is start s now n goes) n.within
-          (λ j takes. takers.alone link taker j taker_is takes)
-          by (here by is).0 at.0 at.1 (front_of look by s now net is sees)
-          (held start s n.goes.to n.goes.at goes n.within) some.actor some.within some.is_ready))
-
-      module _ (not_yet : is_over ≡ false) (taker : ℕ) (taker_is : slice_get behind.takers.items link ≡ Some taker) where
-        pub link_going : IsGoing stands contents flushed link behind
-        link_going =
-            let m = next_now not_yet in
-            let n = m.3 in
-            let less = link_within m.0 m.1 m.2 n m.4 in
-            record {
-              running = record { start = m.0; scene = m.1; now = n.goes.to; at = n.goes.at };
-              going = unfailed_now stands contents flushed m.0 m.1 behind n.goes.to 0 n.goes.at m.4;
-              within = omega (arith, less);
-            }
-
-        pub taker_going : IsGoing stands contents flushed taker behind
-        taker_going =
-            let m = next_now not_yet in
-            let n = m.3 in
-            record {
-              running = record { start = m.0; scene = m.1; now = n.goes.to; at = n.goes.at };
-              going = unfailed_now stands contents flushed m.0 m.1 behind n.goes.to 0 n.goes.at m.4;
-              within = (n.goes.at.takers.behind link taker taker_is).1;
-            }
-
-        -- of any other the two ends of the link are asked again
-        pub stepped_else : look ≡ None → (new : Net S R W) → behind.actors ≡ net.actors
-            → new ≡ record behind { actors = new.actors }
-            → length new.actors.items ≡ length behind.actors.items
-            → ((start : Option (List ℕ)) (s : Scene) (now : Now Row)
-            → NetAt stands contents flushed start s behind now → result (plan_of s) now ≡ None
-            → link ≤ s.count → taker ≤ s.count
-            → new.actors.items ≡ slice_set
-            (slice_set behind.actors.items link (is_ready (plan_of s) s.size now link))
-            taker (is_ready (plan_of s) s.size now taker))
-            → HasStepped stands remaining contents flushed order p q look look net new is_over
-        stepped_else isnt new flags same len asked =
-            stepped_by look new same len
-            (λ start s now n none sees goes.
-            let takers = n.goes.at.takers in
-            let at = takers.behind link taker taker_is in
-            let less = link_within start s now n goes in
-            let f = is_ready (plan_of s) s.size now in
-            let g = is_ready (plan_of s) s.size n.goes.to in
-            subst (λ l. Sees l s n.goes.to new) (sym isnt)
-            (asked start s n.goes.to n.goes.at goes (omega (arith, less)) at.1
-            ∙ ap (λ l. slice_set (slice_set l link (g link)) taker (g taker))
-            (ap (λ v. v.items) flags ∙ subst (λ l. Sees l s now net) isnt sees)
-            ∙ two_set f g (s.count + 1) link taker
-            (λ j low apart other.
-            others_as_ready s n.goes.at.plan k link taker now n.goes.to n.goes.turn goes none
-            (changed_is start s now n goes) n.within
-            (λ i takes. takers.alone link taker i taker_is takes)
-            j (omega (arith, low)) apart other)))
+          → AtEach (StandsAs stage) contents flushed behind (λ start s now. result (plan_of s) now ≡ None
+          → turned.link ≤ s.count → taker ≤ s.count → new.actors.items ≡ slice_set
+          (slice_set behind.actors.items turned.link (is_ready (plan_of s) s.size now turned.link))
+          taker (is_ready (plan_of s) s.size now taker))
+          → Advances look new false
+      else_advanced {new} isnt same len asked =
+          subst (λ n. Advances look n false) (sym same) (told_so on new.actors (leans_still a)
+          (stepped_by a worked new.actors len (λ start s now n goes.
+          let f = is_ready (plan_of s) s.size now in
+          let g = is_ready (plan_of s) s.size n.goes.to in
+          let who = taker_of a worked n goes taker_at in
+          subst (λ l. Sees l s n.goes.to (record behind { actors = new.actors })) (sym isnt)
+          (asked start s n.goes.to n.goes.at goes (omega (arith, link_within a worked n goes)) who.most
+          ∙ ap (λ l. slice_set (slice_set l turned.link (g turned.link)) taker (g taker))
+          (ap (λ v. v.items) w.gone.actors ∙ subst (λ l. Sees l s now net) isnt n.sees)
+          ∙ two_set f g (s.count + 1) turned.link taker
+          (λ j low apart other. others_as_ready (turn_of a worked n goes) who j (omega (arith, low)) apart other)))))

@@ -1,29 +1,29 @@
 -- Stages that wait until a record is taken from their own link, which is full.
-use Rattle.std.proofs.Common.{◌≡◌, ◌≢◌, ◌∙◌, ℕ, ◌<◌, ◌≤◌, Bool, true, false, List, [], ◌∷◌, map, inl, inr}
-use Rattle.std.proofs.Common.{None, refl, sym, ap, subst, arith, ⊎_elim, is_none, nat_lt, length, ◌&&◌}
+use Rattle.std.proofs.Common.{◌≡◌, ◌≢◌, ◌∙◌, ℕ, ◌<◌, ◌≤◌, Bool, true, false, List, map, inl, inr, None, refl, sym, ap, subst}
+use Rattle.std.proofs.Common.{arith, ⊎_elim, is_none, nat_lt, length, ◌&&◌}
 use Rattle.std.proofs.lemmas.Bool.{false≢true, cases_Bool, cases_eq, cases_lt, cond-true, cond-false}
+use Rattle.std.proofs.Math.Path.{fun_ext}
 use Rattle.hum_record.specs.Row.{Row}
 use Rattle.hum_turns.specs.Flow.{Flow}
 use Rattle.hum_turns.specs.Plan.{Plan, IsPlan}
 use Rattle.hum_turns.specs.Links.{Moment, view, has_room, inputs}
-use Rattle.hum_turns.specs.Turns.{State, Gives, Reads, Takes, Ends, stage_state, state, can, ready, is_source, Does, Turns, Step}
+use Rattle.hum_turns.specs.Turns.{State, Gives, Reads, Takes, Ends, stage_state, state, can, ready, is_source, Does, Turns}
+use Rattle.hum_turns.specs.Turns.{Step}
 use Rattle.hum_turns.specs.Near.{touched}
-use Rattle.hum_turns.proofs.States.{state_is, gives_less, last_less, wanted, sink_state, takes_same, source_less, source_takes, reads_source}
+use Rattle.hum_turns.proofs.States.{state_is, gives_less, last_less, wanted, sink_state, takes_same, source_less, source_takes}
+use Rattle.hum_turns.proofs.States.{reads_source, source_is}
 use Rattle.hum_turns.proofs.Near.{step_touches}
 use Rattle.hum_nodes.specs.declared.node.Readiness.TheVariants as kinds
 use Rattle.hum_nodes.specs.Doing.{Doing}
 use Rattle.hum_nodes.specs.Doing as does
-use Rattle.hum_nodes.specs.Nodes.{StandsAs, readiness_at}
-use Rattle.hum_nodes.specs.Nodes.{is_source as reads_node}
+use Rattle.hum_nodes.specs.Nodes.{StandsAs, readiness_at, is_source as reads_node}
 use Rattle.hum_nodes.proofs.Standing.{source_bytes}
 use Rattle.hum_stage.specs.Meaning as stage
-use Rattle.hum_turns.proofs.States.{source_is}
 use Rattle.hum_engine.proofs.Doings.{gives_of}
 use Rattle.hum_engine.proofs.Polling.{state_gives}
 use Rattle.std.proofs.lemmas.Option.{slice_get_within}
 use Rattle.std.specs.Prelude.{Option}
-use Rattle.hum_engine.specs.Scene.{Scene, plan_of, moved, Stands, IsFull}
-use Rattle.hum_engine.specs.declared.web.Web.{Web}
+use Rattle.hum_engine.specs.Scene.{Scene, plan_of, IsFull}
 use Rattle.hum_turns.specs.Failures.{Now, result}
 use Rattle.hum_engine.specs.declared.net.Net.{Net}
 use Rattle.hum_engine.specs.Nets.{IsHeldUp, NetAt}
@@ -49,48 +49,29 @@ held_unready s m k h = ⊎_elim
 module _ {R : Type 0} (plan : Plan R) (ok : IsPlan plan) (k : ℕ) where
   takes_lower : (m : Moment R) (t : ℕ) → state plan m k ≡ Takes t → k ≢ t
   takes_lower m t e same = ⊎_elim
-      (λ (less : k < plan.count).
-      let b = (wanted plan ok m k t less e).below in omega (arith, b, same))
+      (λ (less : k < plan.count). omega (arith, (wanted plan ok m k t less e).below, same))
       (λ (past : plan.count ≤ k).
-      let top = last_less plan.count ok.some in
-      let at = takes_same (sym e ∙ sink_state plan m k past) in
-      omega (arith, past, top, at, same))
+      omega (arith, past, last_less plan.count ok.some, takes_same (sym e ∙ sink_state plan m k past), same))
       (cases_lt k plan.count)
 
-  does_own : (st : State) (old new : Moment R) → state plan old k ≡ st → k ≡ touched k st → Does plan k st old new
+  does_own : (st : State) (old new : Moment R) → ((t : ℕ) → st ≡ Takes t → ⊥) → Does plan k st old new
       → view (new k) ≡ view (old k)
-  does_own Gives old new e own d = ap view d.becomes.here
-  does_own Reads old new e own d = ap view (d k)
-  does_own (Takes t) old new e own d = absurd (takes_lower old t e own)
-  does_own Ends old new e own d = ap view d.here
+  does_own Gives old new none d = ap view d.becomes.here
+  does_own Reads old new none d = ap view (d k)
+  does_own (Takes t) old new none d = absurd (none t refl)
+  does_own Ends old new none d = ap view d.here
 
-  source_own : (m : Moment R) → is_source plan k ≡ true → (st : State) → state plan m k ≡ st → k ≡ touched k st
-  source_own m src Gives e = refl
-  source_own m src Reads e = refl
-  source_own m src (Takes t) e = absurd (source_takes plan ok m k t src e)
-  source_own m src Ends e = refl
-
-  turns_own : (st : State) (old new : Moment R) → state plan old k ≡ st → k ≡ touched k st → Turns plan k st old new
+  turns_own : (st : State) (old new : Moment R) → state plan old k ≡ st → ((t : ℕ) → st ≡ Takes t → ⊥) → Turns plan k st old new
       → view (new k) ≡ view (old k)
-  turns_own Gives old new e own t = does_own Gives old new e own t
-  turns_own (Takes s) old new e own t = does_own (Takes s) old new e own t
-  turns_own Ends old new e own t = does_own Ends old new e own t
-  turns_own Reads old new e own t =
-      let src = reads_source plan ok old k e in
-      ⊎_elim
+  turns_own Gives old new e none t = does_own Gives old new none t
+  turns_own (Takes s) old new e none t = does_own (Takes s) old new none t
+  turns_own Ends old new e none t = does_own Ends old new none t
+  turns_own Reads old new e none t = ⊎_elim
       (λ stays. ap view (stays.1 k))
-      (λ does. does_own (state plan t.between k) t.between new refl
-      (source_own t.between src (state plan t.between k) refl) does)
+      (λ does. does_own (state plan t.between k) t.between new
+      (λ i is. source_takes plan ok t.between k i (reads_source plan ok old k e) is) does)
       t.does
       ∙ ap view t.reads.becomes.here
-
-views_same : {R : Type 0} (old new : Moment R) (ss : List ℕ)
-    → ((i : ℕ) → view (new i) ≡ view (old i))
-    → map (λ i. view (new i)) ss ≡ map (λ i. view (old i)) ss
-views_same old new [] h = refl
-views_same old new (i ∷ ss) h =
-    ap (λ (f : Flow _). f ∷ map (λ j. view (new j)) ss) (h i)
-    ∙ ap (λ l. view (old i) ∷ l) (views_same old new ss h)
 
 -- Another stage's turn that changes its own link leaves it as it was.
 pub held_stays : (s : Scene) → IsPlan (plan_of s) → (k j : ℕ) (old new : Moment Row)
@@ -102,7 +83,8 @@ held_stays s ok k j old new step own other h =
     λ i apart. step_touches plan ok s.size k old new step i (λ is. apart (is ∙ sym own)) in
     let views : (i : ℕ) → view (new i) ≡ view (old i) = λ i. ⊎_elim
     (λ (is : i ≡ k). subst (λ a. view (new a) ≡ view (old a)) (sym is)
-    (turns_own plan ok k (state plan old k) old new refl own step.turns))
+    (turns_own plan ok k (state plan old k) old new refl
+    (λ t takes. takes_lower plan ok k old t takes (own ∙ ap (touched k) takes)) step.turns))
     (λ apart. ap view (elsewhere i apart))
     (cases_eq i k) in
     record {
@@ -112,7 +94,7 @@ held_stays s ok k j old new step own other h =
           let st = plan.stage j in
           inr (state_is plan new j less
           ∙ ap (λ l. stage_state st l (inputs plan new j)) (elsewhere j other)
-          ∙ ap (stage_state st (old j)) (views_same old new st.sources views)
+          ∙ ap (λ (f : ℕ → Flow Row). stage_state st (old j) (map f st.sources)) (fun_ext views)
           ∙ sym (state_is plan old j less) ∙ gives))
           h.gives;
       full = ap (has_room s.size) (elsewhere j other) ∙ h.full;
@@ -127,9 +109,14 @@ held_less s m k h = ⊎_elim (λ src. (source_less (plan_of s) k src).0) (λ giv
 gives_by : (b : Bool) (d : Doing) → readiness_at b d ≡ kinds.Gives → b ≡ false → d ≡ does.Gives
 gives_by b d is other = gives_of d (subst (λ x. readiness_at x d ≡ kinds.Gives) other is)
 
-pub full_held : {S R : Type 0} (stands : S → stage.Moment → Type 0) (k : ℕ) (web : Web S R) (s : Scene)
-    → Stands (StandsAs stands) web s → k < s.count → IsFull k web → IsHeldUp s s.links k
-full_held stands k web s st less f =
+-- The actor of a net that a turn has left so, while the run goes on.
+pub held_by : {S R W : Type 0} {stands : S → stage.Moment → Type 0} {contents : W → Option (List ℕ)} {flushed : W → Bool}
+    {k : ℕ} {net : Net S R W} {start : Option (List ℕ)} {s : Scene} {now : Now Row}
+    → NetAt (StandsAs stands) contents flushed start s net now → result (plan_of s) now ≡ None → k ≤ s.count
+    → IsFull k net.web → IsHeldUp s now.links k
+held_by {S} {R} {W} {stands} {contents} {flushed} {k} {net} {start} {s} {now} h none within f =
+    let st = h.going (unfailed_now (StandsAs stands) contents flushed start s net now k h none) in
+    let less : k < s.count = omega (arith, slice_get_within net.web.nodes.items k f.node f.is, st.count) in
     let node = st.nodes k f.node f.is in
     let link = st.links k f.link f.its in
     let reads : reads_node f.node ≡ true → is_source (plan_of s) k ≡ true =
@@ -139,24 +126,10 @@ full_held stands k web s st less f =
           (λ src. inl (reads src))
           (λ is. ⊎_elim
           (λ src. inl (reads src))
-          (λ other. inr (state_gives s s.links k less
+          (λ other. inr (state_gives s now.links k less
           (gives_by (reads_node f.node) _ (sym node.knows ∙ is) other)))
           (cases_Bool (reads_node f.node)))
           f.gives;
-      full = sym (ap (nat_lt (length (s.links k).waiting)) link.capacity)
+      full = sym (ap (nat_lt (length (now.links k).waiting)) link.capacity)
           ∙ sym (ap (λ n. nat_lt n f.link.waiting.capacity) (ap length link.waiting)) ∙ f.full;
     }
-
--- The actor of a net that a turn has left so, while the run goes on.
-pub held_by : {S R W : Type 0} (stands : S → stage.Moment → Type 0) (contents : W → Option (List ℕ)) (flushed : W → Bool)
-    (k : ℕ) (net : Net S R W) (start : Option (List ℕ)) (s : Scene) (now : Now Row)
-    → NetAt (StandsAs stands) contents flushed start s net now → result (plan_of s) now ≡ None → k ≤ s.count
-    → IsFull k net.web → IsHeldUp s now.links k
-held_by stands contents flushed k net start s now h none within f =
-    let st = h.going (unfailed_now (StandsAs stands) contents flushed start s net now k h none) in
-    let less : k < s.count =
-    let few = slice_get_within net.web.nodes.items k f.node f.is in
-    let many = st.count in
-    omega (arith, few, many) in
-    let held = full_held stands k net.web (moved s now.links) st less f in
-    record { gives = held.gives; full = held.full }

@@ -1,6 +1,6 @@
 -- The actor that an order picks which leans to a side.
-use Rattle.std.proofs.Common.{◌≡◌, ◌∙◌, ℕ, zero, suc, ◌+◌, ◌<◌, ◌≤◌, Bool, true, false, List, [], ◌∷◌}
-use Rattle.std.proofs.Common.{get_or, refl, sym, ap, arith, ⊎_elim}
+use Rattle.std.proofs.Common.{◌≡◌, ◌∙◌, ℕ, zero, suc, ◌+◌, ◌<◌, ◌≤◌, Bool, true, false, List, [], ◌∷◌, get_or, refl, sym, ap}
+use Rattle.std.proofs.Common.{arith, ⊎_elim}
 use Rattle.std.proofs.lemmas.Bool.{false≢true, cases_Bool, cond-true, cond-false}
 use Rattle.hum_record.specs.Row.{Row}
 use Rattle.hum_turns.specs.declared.order.Side.{Side}
@@ -38,7 +38,7 @@ last_by (b ∷ bs) (suc k) h above =
     ∙ sym (cond-true _ _ _ (some_at bs k h))
 
 -- Who is ready, and nobody nearer to the side, is furthest to it.
-module _ (s : Scene) (now : Now Row) (k : ℕ) (within : k ≤ s.count)
+module _ (s : Scene) (now : Now Row) {k : ℕ} (within : k ≤ s.count)
     (is : is_ready (plan_of s) s.size now k ≡ true) where
   here : get_or (ready_list (plan_of s) s.size now) k false ≡ true
   here = entry (is_ready (plan_of s) s.size now) (s.count + 1) k (omega (arith, within)) ∙ is
@@ -55,8 +55,7 @@ module _ (s : Scene) (now : Now Row) (k : ℕ) (within : k ≤ s.count)
       (λ j more. ⊎_elim
       (λ set.
       let e = entry_is f (s.count + 1) j set in
-      let low = e.0 in
-      absurd (false≢true (sym (nobody j (omega (arith, low)) more) ∙ e.1)))
+      absurd (false≢true (sym (nobody j (omega (arith, e.0)) more) ∙ e.1)))
       (λ isnt. isnt)
       (cases_Bool (get_or (ready_list (plan_of s) s.size now) j false)))
 

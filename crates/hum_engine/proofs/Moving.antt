@@ -1,8 +1,7 @@
 -- Nodes and links after one of each has changed.
-use Rattle.std.proofs.Common.{◌≡◌, ◌≢◌, ℕ, zero, suc, ◌+◌, ◌<◌, ◌⊎◌}
-use Rattle.std.proofs.Common.{if◌then◌else◌, nat_eq, List, [], ◌∷◌, map, length, Some}
-use Rattle.std.proofs.Common.{slice_get, slice_set, get_or, refl, sym, ap, ◌∙◌, subst, ⊎_elim}
-use Rattle.std.proofs.Common.{inl, inr, arith, append_assoc, length-append, eq-eqb, ne_eqb}
+use Rattle.std.proofs.Common.{◌≡◌, ◌≢◌, ℕ, zero, suc, ◌+◌, ◌<◌, ◌⊎◌, if◌then◌else◌, nat_eq, List, [], ◌∷◌, map, length, Some}
+use Rattle.std.proofs.Common.{slice_get, slice_set, get_or, refl, sym, ap, ◌∙◌, subst, ⊎_elim, inl, inr, arith, append_assoc}
+use Rattle.std.proofs.Common.{length-append, eq-eqb, ne_eqb}
 use Rattle.std.proofs.lemmas.Bool.{cases_eq, cond-true, cond-false}
 use Rattle.std.proofs.lemmas.Option.{none-some, same_Some, slice_get_read}
 use Rattle.hum_record.specs.Row.{Row}
@@ -76,41 +75,31 @@ ins_of kinds m k = map (λ i. view (m i)) (kinds k).stage.sources
 pub at_same : (kinds : ℕ → Kind) (old new : Moment Row) (i : ℕ)
     → ins_of kinds new i ≡ ins_of kinds old i → (new i).read ≡ (old i).read
     → given (new i) ≡ given (old i) → at_of kinds new i ≡ at_of kinds old i
-at_same kinds old new i a r g =
-    ap (λ x. at_with (kinds i) x (new i).read (length (given (new i)))) a
-    ∙ ap (λ x. at_with (kinds i) (ins_of kinds old i) x (length (given (new i)))) r
-    ∙ ap (λ x. at_with (kinds i) (ins_of kinds old i) (old i).read (length x)) g
+at_same kinds old new i a r g = rw (a, r, g)
 
-map_each : {A B : Type 0} (f g : A → B) → ((s : A) → f s ≡ g s) → (ss : List A)
+pub map_each : {A B : Type 0} (f g : A → B) → ((s : A) → f s ≡ g s) → (ss : List A)
     → map f ss ≡ map g ss
 map_each f g h [] = refl
-map_each f g h (s ∷ ss) = ap (λ x. x ∷ map f ss) (h s) ∙ ap (λ l. g s ∷ l) (map_each f g h ss)
+map_each f g h (s ∷ ss) = rw (h s, map_each f g h ss)
+
+-- what a link shows that was changed, and others, where that shows the same
+pub shows_same : {R A : Type 0} (f : Link R → A) {l : Link R} {old new : ℕ → Link R} {k : ℕ} → Becomes k l old new
+    → f l ≡ f (old k) → (i : ℕ) → f (new i) ≡ f (old i)
+shows_same {R} {A} f {l} {old} {new} {k} d e i =
+    ⊎_elim (λ h. subst (λ j. f (new j) ≡ f (old j)) (sym h) (ap f d.here ∙ e)) (λ o. ap f (d.elsewhere i o)) (cases_eq i k)
 
 -- where one link changes but its reader's view doesn't, each stage has its inputs
 pub ins_same : (kinds : ℕ → Kind) (l : Link Row) (old new : Moment Row) (k : ℕ)
     → Becomes k l old new → view l ≡ view (old k) → (i : ℕ)
     → ins_of kinds new i ≡ ins_of kinds old i
 ins_same kinds l old new k d v i =
-    map_each (λ s. view (new s)) (λ s. view (old s))
-    (λ s. ⊎_elim (λ e. subst (λ j. view (new j) ≡ view (old j)) (sym e) (ap view d.here ∙ v))
-    (λ o. ap view (d.elsewhere s o)) (cases_eq s k))
-    (kinds i).stage.sources
-
-pub same_but : (kinds : ℕ → Kind) (l : Link Row) (old new : Moment Row) (k : ℕ)
-    → Becomes k l old new → view l ≡ view (old k) → (i : ℕ) → i ≢ k
-    → at_of kinds new i ≡ at_of kinds old i
-same_but kinds l old new k d v i o =
-    at_same kinds old new i (ins_same kinds l old new k d v i)
-    (ap (λ (l : Link Row). l.read) (d.elsewhere i o)) (ap given (d.elsewhere i o))
+    map_each (λ s. view (new s)) (λ s. view (old s)) (shows_same view d v) (kinds i).stage.sources
 
 -- the node of the link that changed
 pub at_here : (kinds : ℕ → Kind) (l : Link Row) (old new : Moment Row) (k : ℕ)
     → Becomes k l old new → view l ≡ view (old k)
     → at_of kinds new k ≡ at_with (kinds k) (ins_of kinds old k) l.read (length (given l))
-at_here kinds l old new k d v =
-    ap (λ a. at_with (kinds k) a (new k).read (length (given (new k))))
-    (ins_same kinds l old new k d v k)
-    ∙ ap (λ (j : Link Row). at_with (kinds k) (ins_of kinds old k) j.read (length (given j))) d.here
+at_here kinds l old new k d v = rw (ins_same kinds l old new k d v k, d.here)
 
 module _ {N : Type 0} (stands : N → List ℕ → At → Type 0) (s : Scene) where
   -- each node but one
@@ -132,7 +121,8 @@ module _ {N : Type 0} (stands : N → List ℕ → At → Type 0) (s : Scene) wh
       → Becomes k l old new → view l ≡ view (old k)
       → OthersStand k old nodes → OthersStand k new nodes
   others_kept l old new nodes k d v h i x o at =
-      subst (stands x (s.rests i)) (sym (same_but s.kinds l old new k d v i o)) (h i x o at)
+      subst (stands x (s.rests i)) (sym (at_same s.kinds old new i (ins_same s.kinds l old new k d v i)
+      (ap (λ (l : Link Row). l.read) (d.elsewhere i o)) (ap given (d.elsewhere i o)))) (h i x o at)
 
 pub links_set : (size : ℕ) (l : Link Row) (old new : Moment Row) (links : List port.Link) (k : ℕ)
     (link : port.Link) → LinksStand size old links → IsLink size link l → Becomes k l old new
@@ -149,18 +139,13 @@ pub links_read : (size : ℕ) (old new : Moment Row) (links : List port.Link) (k
     → LinksStand size old links → Becomes k (record (old k) { read = n }) old new
     → LinksStand size new links
 links_read size old new links k n h d i x at =
-    ⊎_elim
-    (λ e.
     let p = h i x at in
-    let q : IsLink size x (record (old i) { read = n }) = record {
-      waiting = p.waiting;
+    record {
+      waiting = p.waiting ∙ sym (shows_same (λ (l : Link Row). l.waiting) d refl i);
       capacity = p.capacity;
-      mark = p.mark;
-      heard = p.heard;
-    } in
-    subst (IsLink size x) (sym (subst (λ j. new j ≡ record (old j) { read = n }) (sym e) d.here)) q)
-    (λ o. subst (IsLink size x) (sym (d.elsewhere i o)) (h i x at))
-    (cases_eq i k)
+      mark = p.mark ∙ sym (shows_same (λ (l : Link Row). l.mark) d refl i);
+      heard = p.heard ∙ sym (shows_same (λ (l : Link Row). l.heard) d refl i);
+    }
 
 -- What is so after an actor has done this.
 pub record Did {N : Type 0} (stands : N → List ℕ → At → Type 0) (s : Scene) (k : ℕ) (doing : State)
@@ -173,6 +158,19 @@ pub record Did {N : Type 0} (stands : N → List ℕ → At → Type 0) (s : Sce
 module _ {N : Type 0} (stands : N → List ℕ → At → Type 0) (s : Scene) (k : ℕ) (m : Moment Row)
     (nodes : List N) (links : List port.Link) (others : OthersStand stands s k m nodes)
     (hl : LinksStand s.size m links) where
+  -- its link has become this, and shows its reader the same
+  changed : (l : Link Row) → view l ≡ view (m k) → (node : N) (after : port.Link)
+      → stands node (s.rests k) (at_with (s.kinds k) (ins_of s.kinds m k) l.read (length (given l))) → IsLink s.size after l
+      → NodesStand stands (moved s (put_at m k l)) (slice_set nodes k node)
+      × LinksStand s.size (put_at m k l) (slice_set links k after)
+  changed l v node after n p =
+      let new = put_at m k l in
+      let d = put_becomes m k l in (
+        nodes_set stands s new nodes k node (others_kept stands s l m new nodes k d v others)
+            (subst (stands node (s.rests k)) (sym (at_here s.kinds l m new k d v)) n),
+        links_set s.size l m new links k after hl p d,
+      )
+
   -- what the node gave goes onto its link
   pub did_give : (node : N) (after : port.Link) (x : Row)
       → slice_get (settled (plan_of s) m k) (length (given (m k))) ≡ Some x
@@ -180,22 +178,15 @@ module _ {N : Type 0} (stands : N → List ℕ → At → Type 0) (s : Scene) (k
       → IsLink s.size after (pushed (m k) x)
       → Did stands s k Gives m (slice_set nodes k node) (slice_set links k after)
   did_give node after x next n p =
-      let l : Link Row = pushed (m k) x in
-      let new : Moment Row = put_at m k l in
-      let d = put_becomes m k l in
-      let longer : length (given l) ≡ length (given (m k)) + 1 =
-      ap length (sym (append_assoc (m k).taken (m k).waiting (x ∷ [])))
-      ∙ length-append (given (m k)) (x ∷ []) in
-      let at : at_of s.kinds new k ≡ after_take (at_of s.kinds m k) =
-      at_here s.kinds l m new k d refl
-      ∙ ap (λ n. at_with (s.kinds k) (ins_of s.kinds m k) (m k).read n) longer in
+      let longer : length (given (pushed (m k) x)) ≡ length (given (m k)) + 1 =
+      ap length (sym (append_assoc (m k).taken (m k).waiting (x ∷ []))) ∙ length-append (given (m k)) (x ∷ []) in
+      let c = changed (pushed (m k) x) refl node after
+      (subst (λ g. stands node (s.rests k) (at_with (s.kinds k) (ins_of s.kinds m k) (m k).read g)) (sym longer) n) p in
       record {
-        new = new;
-        does = record { next = x; is_next = next; becomes = d };
-        at_nodes = nodes_set stands s new nodes k node
-            (others_kept stands s l m new nodes k d refl others)
-            (subst (stands node (s.rests k)) (sym at) n);
-        at_links = links_set s.size l m new links k after hl p d;
+        new = put_at m k (pushed (m k) x);
+        does = record { next = x; is_next = next; becomes = put_becomes m k (pushed (m k) x) };
+        at_nodes = c.0;
+        at_links = c.1;
       }
 
   -- the node sets its end
@@ -206,18 +197,8 @@ module _ {N : Type 0} (stands : N → List ℕ → At → Type 0) (s : Scene) (k
       → Did stands s k Ends m (slice_set nodes k node) (slice_set links k after)
   did_end node after e is n p =
       let l : Link Row = marked (plan_of s) m k in
-      let new : Moment Row = put_at m k l in
-      let d = put_becomes m k l in
-      let at : at_of s.kinds new k ≡ at_of s.kinds m k = at_here s.kinds l m new k d refl in
-      record {
-        new = new;
-        does = d;
-        at_nodes = nodes_set stands s new nodes k node
-            (others_kept stands s l m new nodes k d refl others)
-            (subst (stands node (s.rests k)) (sym at) n);
-        at_links = links_set s.size l m new links k after hl
-            (subst (λ f. IsLink s.size after (record (m k) { mark = Some f })) is p) d;
-      }
+      let c = changed l refl node after n (subst (λ f. IsLink s.size after (record (m k) { mark = Some f })) is p) in
+      record { new = put_at m k l; does = put_becomes m k l; at_nodes = c.0; at_links = c.1 }
 
   -- a source has read to n
   pub record ReadTo (n : ℕ) : Type 0 where

@@ -23,7 +23,7 @@ set_each_cases : (places : List ℕ) (k : ℕ) (list : List ℕ) (t r : ℕ)
 set_each_cases [] k list t r h = inr ((λ one. none one.0 one.1), h)
   where
     none : (place : ℕ) → slice_get [] place ≡ Some t → ⊥
-    none place e = let z = e in cc
+    none place e = cc
 set_each_cases (place ∷ places) k list t r h = ⊎_elim
     (λ hit. inl ((suc hit.0.0, hit.0.1), hit.1))
     (λ miss. ⊎_elim
@@ -48,7 +48,7 @@ module _ (s : Scene) (plan : IsNetPlan s.count s.kinds s.size) where
       → ((t r : ℕ) → slice_get takers t ≡ Some r → (t < s.count) × (r ≡ s.count)) → AreNoted 0 s takers
   none_noted takers many all = record {
     many = many;
-    behind = λ t r h. let e = all t r h in let less = e.0 in let is = e.1 in (omega (arith, less, is), omega (arith, is));
+    behind = λ t r h. let e = all t r h in (omega (arith, e.0, e.1), omega (arith, e.1));
     alone = λ t r j h less. absurd (omega (arith, less));
     sink = λ r h. (all (last (plan_of s)) r h).1;
   }
@@ -62,7 +62,7 @@ module _ (s : Scene) (plan : IsNetPlan s.count s.kinds s.size) where
       record {
         many = length-set_each sources k takers ∙ noted.many;
         behind = λ t r h. ⊎_elim
-            (λ hit. let b = lower t hit.0 in let e = hit.1 in (omega (arith, b, e), omega (arith, e, less)))
+            (λ hit. (omega (arith, lower t hit.0, hit.1), omega (arith, hit.1, less)))
             (λ miss. noted.behind t r miss.1)
             (set_each_cases sources k takers t r h);
         alone = λ t r j h to one. ⊎_elim
@@ -73,10 +73,7 @@ module _ (s : Scene) (plan : IsNetPlan s.count s.kinds s.size) where
             (cases_eq j k))
             (set_each_cases sources k takers t r h);
         sink = λ r h. ⊎_elim
-            (λ hit.
-            let b = lower (last (plan_of s)) hit.0 in
-            let top = last_next s.count plan.ok.some in
-            absurd (omega (arith, b, top, less)))
+            (λ hit. absurd (omega (arith, lower (last (plan_of s)) hit.0, last_next s.count plan.ok.some, less)))
             (λ miss. noted.sink r miss.1)
             (set_each_cases sources k takers (last (plan_of s)) r h);
       }
@@ -87,7 +84,7 @@ module _ (s : Scene) (plan : IsNetPlan s.count s.kinds s.size) where
     many = noted.many;
     behind = noted.behind;
     alone = λ t r j h takes. ⊎_elim
-        (λ w. let less = w.0 in noted.alone t r j h (omega (arith, less, all)) w.1)
+        (λ w. noted.alone t r j h (omega (arith, w.0, all)) w.1)
         (λ w. w.0 ∙ sym (noted.sink r (subst (λ i. slice_get takers i ≡ Some r) w.1 h)))
         takes;
   }

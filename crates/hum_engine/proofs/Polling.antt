@@ -1,15 +1,14 @@
 -- A turn of a source.
-use Rattle.std.proofs.Common.{◌≡◌, ℕ, ◌<◌, ◌≤◌, Bool, true, false, if◌then◌else◌}
-use Rattle.std.proofs.Common.{nat_lt, List, length, Option, Some, None}
-use Rattle.std.proofs.Common.{slice_get, slice_set, slice_index, refl, sym, ap, ◌∙◌, subst}
-use Rattle.std.proofs.Common.{⊎_elim, inl, arith, lt-ltb}
-use Rattle.std.proofs.lemmas.Bool.{false≢true}
-use Rattle.std.proofs.lemmas.Option.{none-some, same_Some, slice_get_within}
+use Rattle.std.proofs.Common.{◌≡◌, ℕ, ◌<◌, ◌≤◌, Bool, true, false, if◌then◌else◌, nat_lt, List, length, Some, slice_get}
+use Rattle.std.proofs.Common.{slice_set, slice_index, refl, sym, ap, ◌∙◌, subst, ⊎_elim, inl, arith, lt-ltb}
+use Rattle.std.proofs.lemmas.Bool.{cond-true}
+use Rattle.std.proofs.lemmas.Option.{slice_get_within}
 use Rattle.hum_record.specs.Row.{Row}
 use Rattle.hum_stage.specs.declared.faults.End.{End}
 use Rattle.hum_turns.specs.Plan.{Want, Bytes, Source, Nothing, end_of}
 use Rattle.hum_turns.specs.Links.{Moment, given}
-use Rattle.hum_turns.specs.Turns.{State, Gives, Reads, Takes, Ends, by_want, state, ready, Step, HasRead, ReadsAndDoes, Turns, pushed}
+use Rattle.hum_turns.specs.Turns.{State, Gives, Reads, Takes, Ends, by_want, state, ready, Step, HasRead, ReadsAndDoes, Turns}
+use Rattle.hum_turns.specs.Turns.{pushed}
 use Rattle.hum_turns.proofs.States.{state_is}
 use Rattle.hum_turns.proofs.Near.{step_does, step_reads}
 use Rattle.hum_nodes.specs.Doing.{Doing}
@@ -18,14 +17,14 @@ use Rattle.hum_read.specs.Reading.{Polled, Gave, ReadOn, Ended}
 use Rattle.hum_nodes.specs.At.{At, doing_by, doing_of, output_of, read_to}
 use Rattle.hum_nodes.specs.Polls.{GoesOn, PollsBy, Polls}
 use Rattle.hum_engine.specs.declared.link.Link as port
-use Rattle.hum_engine.specs.Links.{IsLink, Goes}
+use Rattle.hum_engine.specs.Links.{Goes}
 use Rattle.hum_engine.specs.Traffic.{ended}
 use Rattle.hum_engine.specs.Scene.{Scene, plan_of, moved, at_of, NodesStand, LinksStand}
 use Rattle.hum_engine.proofs.Moving.{OthersStand, Did, did_give, did_end, has_read, nodes_set, ins_of}
 
 -- The state that goes with what a node does.
 
-pub state_for : List ℕ → Doing → State
+abbrev pub state_for : List ℕ → Doing → State
 state_for ss does.Gives = Gives
 state_for ss does.Reads = Reads
 state_for ss (does.Wants p) = Takes (slice_index ss p)
@@ -33,13 +32,12 @@ state_for ss (does.Done e) = Ends
 
 states_agree : (ss : List ℕ) (b : Bool) (w : Want) (e : End)
     → state_for ss (if b then does.Gives else doing_by w e) ≡ (if b then Gives else by_want ss w)
-unfolding state_for
 states_agree ss true w e = refl
 states_agree ss false Bytes e = refl
 states_agree ss false (Source j) e = refl
 states_agree ss false Nothing e = refl
 
-pub state_when : (s : Scene) (m : Moment Row) (k : ℕ) → k < s.count
+state_when : (s : Scene) (m : Moment Row) (k : ℕ) → k < s.count
     → state (plan_of s) m k ≡ state_for (s.kinds k).stage.sources (doing_of (at_of s.kinds m k))
 state_when s m k less =
     let st = (s.kinds k).stage in
@@ -49,40 +47,20 @@ state_when s m k less =
     (nat_lt (length (given (m k))) (length (st.output (m k).read a)))
     (st.wants (m k).read a) (end_of st (m k).read a))
 
-pub state_gives : (s : Scene) (m : Moment Row) (k : ℕ) → k < s.count
-    → doing_of (at_of s.kinds m k) ≡ does.Gives → state (plan_of s) m k ≡ Gives
-unfolding state_for
-state_gives s m k less e = state_when s m k less ∙ ap (state_for (s.kinds k).stage.sources) e
+module _ (s : Scene) (m : Moment Row) (k : ℕ) where
+  pub state_at : {d : Doing} → k < s.count → doing_of (at_of s.kinds m k) ≡ d
+      → state (plan_of s) m k ≡ state_for (s.kinds k).stage.sources d
+  state_at less e = state_when s m k less ∙ ap (state_for (s.kinds k).stage.sources) e
 
-pub state_reads : (s : Scene) (m : Moment Row) (k : ℕ) → k < s.count
-    → doing_of (at_of s.kinds m k) ≡ does.Reads → state (plan_of s) m k ≡ Reads
-unfolding state_for
-state_reads s m k less e = state_when s m k less ∙ ap (state_for (s.kinds k).stage.sources) e
-
-pub state_takes : (s : Scene) (m : Moment Row) (k p : ℕ) → k < s.count
-    → doing_of (at_of s.kinds m k) ≡ does.Wants p
-    → state (plan_of s) m k ≡ Takes (slice_index (s.kinds k).stage.sources p)
-unfolding state_for
-state_takes s m k p less e = state_when s m k less ∙ ap (state_for (s.kinds k).stage.sources) e
-
-pub state_ends : (s : Scene) (m : Moment Row) (k : ℕ) (f : End) → k < s.count
-    → doing_of (at_of s.kinds m k) ≡ does.Done f → state (plan_of s) m k ≡ Ends
-unfolding state_for
-state_ends s m k f less e = state_when s m k less ∙ ap (state_for (s.kinds k).stage.sources) e
-
-done_at : Doing → Option End
-done_at does.Gives = None
-done_at does.Reads = None
-done_at (does.Wants p) = None
-done_at (does.Done e) = Some e
+  pub state_gives : k < s.count → doing_of (at_of s.kinds m k) ≡ does.Gives → state (plan_of s) m k ≡ Gives
+  state_gives less e = state_at less e
 
 done_cases : (b : Bool) (w : Want) (e f : End)
     → (if b then does.Gives else doing_by w e) ≡ does.Done f → f ≡ e
-unfolding done_at
-done_cases true w e f h = absurd (none-some f (ap done_at h))
-done_cases false Bytes e f h = absurd (none-some f (ap done_at h))
-done_cases false (Source j) e f h = absurd (none-some f (ap done_at h))
-done_cases false Nothing e f h = sym (same_Some e f (ap done_at h))
+done_cases true w e f h = cc
+done_cases false Bytes e f h = cc
+done_cases false (Source j) e f h = cc
+done_cases false Nothing e f h = cc
 
 pub done_end : (s : Scene) (m : Moment Row) (k : ℕ) (f : End)
     → doing_of (at_of s.kinds m k) ≡ does.Done f
@@ -93,58 +71,7 @@ done_end s m k f h =
     done_cases (nat_lt (length (given (m k))) (length (st.output (m k).read a)))
     (st.wants (m k).read a) (end_of st (m k).read a) f h
 
-is_reads : State → Bool
-is_reads Gives = false
-is_reads Reads = true
-is_reads (Takes s) = false
-is_reads Ends = false
-
-state_for_reads : (ss : List ℕ) (d : Doing) → state_for ss d ≡ Reads → d ≡ does.Reads
-unfolding state_for is_reads
-state_for_reads ss does.Gives h = absurd (false≢true (ap is_reads h))
-state_for_reads ss does.Reads h = refl
-state_for_reads ss (does.Wants p) h = absurd (false≢true (ap is_reads h))
-state_for_reads ss (does.Done e) h = absurd (false≢true (ap is_reads h))
-
-pub not_reads : (s : Scene) (m : Moment Row) (k : ℕ) → k < s.count
-    → (doing_of (at_of s.kinds m k) ≡ does.Reads → ⊥) → state (plan_of s) m k ≡ Reads → ⊥
-not_reads s m k less other e =
-    other (state_for_reads (s.kinds k).stage.sources (doing_of (at_of s.kinds m k))
-    (sym (state_when s m k less) ∙ e))
-
 -- What a source makes of what it has read.
-
-gives_less : (b : Bool) (w : Want) (e : End) → b ≡ true
-    → (if b then does.Gives else doing_by w e) ≡ does.Gives
-gives_less true w e h = refl
-gives_less false w e h = absurd (false≢true h)
-
--- A poll goes on by what has settled: the link of the source has this record more, or its end.
-abbrev pub Linked : ℕ → Moment Row → ℕ → Polled → port.Link → Type 0
-Linked size m k (Gave row) after = IsLink size after (pushed (m k) row)
-Linked size m k ReadOn after = IsLink size after (m k)
-Linked size m k (Ended e) after = IsLink size after (record (m k) { mark = Some e })
-
-module _ {N : Type 0} (stands : N → List ℕ → At → Type 0) (s : Scene) (k : ℕ) (m : Moment Row)
-    (nodes : List N) (links : List port.Link) (others : OthersStand stands s k m nodes)
-    (hl : LinksStand s.size m links) (less : k < s.count) (node : N) (after : port.Link) where
-  goes_on : (p : Polled) → GoesOn (at_of s.kinds m k) p (stands node (s.rests k))
-      → Linked s.size m k p after
-      → Did stands s k (state (plan_of s) m k) m (slice_set nodes k node) (slice_set links k after)
-  goes_on (Gave row) h l =
-      let t = at_of s.kinds m k in
-      let n = slice_get_within (output_of t) t.given row h.0 in
-      let st = (s.kinds k).stage in
-      let doing = gives_less (nat_lt t.given (length (output_of t))) (st.wants t.read t.inputs)
-      (end_of st t.read t.inputs) (lt-ltb _ _ n) in
-      subst (λ d. Did stands s k d m (slice_set nodes k node) (slice_set links k after))
-      (sym (state_gives s m k less doing))
-      (did_give stands s k m nodes links others hl node after row h.0 h.1 l)
-  goes_on ReadOn h l = absurd h
-  goes_on (Ended e) h l =
-      subst (λ d. Did stands s k d m (slice_set nodes k node) (slice_set links k after))
-      (sym (state_ends s m k e less h.0))
-      (did_end stands s k m nodes links others hl node after e (done_end s m k e h.0) h.1 l)
 
 -- what a poll has made of the link of its source, and of all links
 abbrev pub LinkGoes : Polled → port.Link → port.Link → Type 0
@@ -168,22 +95,25 @@ pub record Turned {N : Type 0} (stands : N → List ℕ → At → Type 0) (s : 
 module _ {N : Type 0} (stands : N → List ℕ → At → Type 0) (s : Scene) (k : ℕ) (nodes : List N)
     (links : List port.Link) (less : k < s.count) (node : N) (link after : port.Link)
     (at_link : slice_get links k ≡ Some link) where
+  -- it goes on by what has settled: the link of the source has this record more, or its end
   moves_on : (p : Polled) (m : Moment Row) → OthersStand stands s k m nodes
       → LinksStand s.size m links
       → GoesOn (at_of s.kinds m k) p (stands node (s.rests k)) → LinkGoes p link after
       → Did stands s k (state (plan_of s) m k) m (slice_set nodes k node) (links_by p links k after)
   moves_on (Gave row) m others hl h l =
-      goes_on stands s k m nodes links others hl less node after (Gave row) h
-      (l s.size (m k) (hl k link at_link))
+      let t = at_of s.kinds m k in
+      let n = slice_get_within (output_of t) t.given row h.0 in
+      rw (state_gives s m k less (cond-true _ _ _ (lt-ltb _ _ n)))
+      (did_give stands s k m nodes links others hl node after row h.0 h.1 (l s.size (m k) (hl k link at_link)))
   moves_on ReadOn m others hl h l = absurd h
   moves_on (Ended e) m others hl h l =
-      goes_on stands s k m nodes links others hl less node after (Ended e) h
-      (l s.size (m k) (hl k link at_link))
+      rw (state_at s m k less h.0)
+      (did_end stands s k m nodes links others hl node after e (done_end s m k e h.0) h.1 (l s.size (m k) (hl k link at_link)))
 
   module _ (others : OthersStand stands s k s.links nodes) (hl : LinksStand s.size s.links links)
       (is_ready : ready (plan_of s) s.size s.links k ≡ true) where
     -- where it doesn't read
-    at_once : (p : Polled) → (doing_of (at_of s.kinds s.links k) ≡ does.Reads → ⊥)
+    at_once : (p : Polled) → (state (plan_of s) s.links k ≡ Reads → ⊥)
         → GoesOn (at_of s.kinds s.links k) p (stands node (s.rests k)) → LinkGoes p link after
         → Turned stands s k (slice_set nodes k node) (links_by p links k after)
     at_once p other h l =
@@ -191,7 +121,7 @@ module _ {N : Type 0} (stands : N → List ℕ → At → Type 0) (s : Scene) (k
         record {
           new = d.new;
           step = step_does (plan_of s) s.size k (state (plan_of s) s.links k) s.links d.new
-              (omega (arith, less)) is_ready refl (not_reads s s.links k less other) d.does;
+              (omega (arith, less)) is_ready refl other d.does;
           at_nodes = d.at_nodes;
           at_links = d.at_links;
         }
@@ -209,7 +139,7 @@ module _ {N : Type 0} (stands : N → List ℕ → At → Type 0) (s : Scene) (k
         record {
           new = d.new;
           step = step_reads (plan_of s) s.size k s.links r.mid d.new (omega (arith, less)) is_ready
-              (state_reads s s.links k less e)
+              (state_at s s.links k less e)
               (record { upto = n; more = more; within = within; becomes = r.becomes }) d.does;
           at_nodes = d.at_nodes;
           at_links = d.at_links;
@@ -239,20 +169,12 @@ module _ {N : Type 0} (stands : N → List ℕ → At → Type 0) (s : Scene) (k
             within = omega (arith, less);
             is_ready = is_ready;
             turns = subst (λ d. Turns (plan_of s) k d s.links r.mid)
-                (sym (state_reads s s.links k less e)) turns;
+                (sym (state_at s s.links k less e)) turns;
           };
           at_nodes = nodes_set stands s r.mid nodes k node r.near
               (subst (stands node (s.rests k)) (sym r.at) h);
           at_links = r.at_links;
         }
-
-    only_nothing : (p : Polled) (n : ℕ) → (s.links k).read < n → n < (s.kinds k).stage.bytes
-        → doing_of (at_of s.kinds s.links k) ≡ does.Reads → p ≡ ReadOn
-        → stands node (s.rests k) (read_to n (at_of s.kinds s.links k))
-        → Turned stands s k (slice_set nodes k node) (links_by p links k after)
-    only_nothing (Gave row) n more less_than e h st = cc
-    only_nothing ReadOn n more less_than e h st = reads_only n more less_than e st
-    only_nothing (Ended f) n more less_than e h st = cc
 
     by_doing : (p : Polled) (d : Doing) → doing_of (at_of s.kinds s.links k) ≡ d
         → PollsBy d (at_of s.kinds s.links k) p (stands node (s.rests k)) → LinkGoes p link after
@@ -260,11 +182,12 @@ module _ {N : Type 0} (stands : N → List ℕ → At → Type 0) (s : Scene) (k
     by_doing p does.Reads e h l =
         ⊎_elim
         (λ goes. reads_on p h.upto h.more h.within e goes l)
-        (λ stays. only_nothing p h.upto h.more stays.1 e stays.0 stays.2)
+        (λ stays. subst (λ q. Turned stands s k (slice_set nodes k node) (links_by q links k after)) (sym stays.0)
+        (reads_only h.upto h.more stays.1 e stays.2))
         h.goes
-    by_doing p does.Gives e h l = at_once p (λ r. cc) h l
-    by_doing p (does.Wants place) e h l = at_once p (λ r. cc) h l
-    by_doing p (does.Done end) e h l = at_once p (λ r. cc) h l
+    by_doing p does.Gives e h l = at_once p (λ r. let w = sym (state_at s s.links k less e) ∙ r in cc) h l
+    by_doing p (does.Wants place) e h l = at_once p (λ r. let w = sym (state_at s s.links k less e) ∙ r in cc) h l
+    by_doing p (does.Done end) e h l = at_once p (λ r. let w = sym (state_at s s.links k less e) ∙ r in cc) h l
 
     pub polls : (p : Polled)
         → Polls (at_of s.kinds s.links k) p (stands node (s.rests k)) → LinkGoes p link after

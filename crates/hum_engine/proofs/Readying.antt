@@ -1,6 +1,6 @@
 -- What a web tells of who is ready.
-use Rattle.std.proofs.Common.{◌≡◌, ◌∙◌, ℕ, ◌<◌, ◌≤◌, Bool, true, false, List, length, Some, ◌&&◌}
-use Rattle.std.proofs.Common.{is_none, is_some, ◌||◌, nat_lt, None, sym, ap, subst, arith, slice_get, slice_index, get_or}
+use Rattle.std.proofs.Common.{◌≡◌, ◌∙◌, ℕ, ◌<◌, Bool, true, false, List, length, Some, ◌&&◌, is_none, is_some, ◌||◌, nat_lt}
+use Rattle.std.proofs.Common.{None, sym, ap, ap₂, subst, arith, slice_get, slice_index, get_or}
 use Rattle.hum_turns.specs.Links.{has_room, has_some}
 use Rattle.hum_turns.specs.Turns.{state, can, ready}
 use Rattle.hum_turns.proofs.Near.{ready_reader}
@@ -14,112 +14,112 @@ use Rattle.hum_nodes.specs.Nodes.{is_source, StandsAs}
 use Rattle.hum_engine.specs.declared.link.Link as port
 use Rattle.hum_engine.specs.Links.{Tells}
 use Rattle.hum_engine.specs.declared.web.Web.{Web}
-use Rattle.hum_engine.specs.Scene.{Scene, plan_of, at_of, IsAt, IsAbout}
+use Rattle.hum_engine.specs.Scene.{Scene, plan_of, at_of, IsAt, IsAbout, IsActor, HasActor, IsKind, HasRoom, MayTurn}
+use Rattle.hum_engine.specs.Scene.{Somewhere, Stands}
 use Rattle.hum_engine.proofs.Moving.{nth}
 use Rattle.hum_turns.specs.Near.{touched}
-use Rattle.hum_engine.proofs.Polling.{state_gives, state_reads, state_takes, state_ends}
+use Rattle.hum_engine.proofs.Polling.{state_gives, state_at}
 use Rattle.hum_stage.specs.Meaning.{Moment}
 use Rattle.hum_nodes.proofs.Standing.{source_bytes}
-use Rattle.hum_engine.proofs.Feeding.{link_at}
+use Rattle.hum_engine.proofs.Feeding.{room_same, link_at, node_of, within}
 use Rattle.hum_engine.proofs.Taking.{wants_at}
 
-module _ {S R : Type 0} (stands : Node S R → List ℕ → At → Type 0) (k : ℕ) (web : Web S R)
-    (doing : Doing) (s : Scene) (a : IsAbout stands k doing web s) where
-  pub about_link : (link : port.Link) → link ≡ get_or web.links.items k link
-      → slice_get web.links.items k ≡ Some link
-  about_link link e = link_at stands k web s link a.less a.at.stand e
-
-  pub room_gives : (link : port.Link) (b : Bool) → doing ≡ does.Gives
+module _ {S R : Type 0} {stands : Node S R → List ℕ → At → Type 0} {k : ℕ} {web : Web S R} {s : Scene} where
+  pub room_gives : {link : port.Link} {b : Bool} → IsAbout stands k does.Gives web s
       → link ≡ get_or web.links.items k link → Tells link b has_room
       → b ≡ can s.size s.links k (state (plan_of s) s.links k)
-  room_gives link b is e tells =
-      tells s.size (s.links k) (a.at.stand.links k link (about_link link e))
-      ∙ sym (ap (can s.size s.links k) (state_gives s s.links k a.less (a.does ∙ is)))
+  room_gives {link} a e tells =
+      tells s.size (s.links k) (a.at.stand.links k link (link_at a.less a.at.stand e))
+      ∙ sym (ap (can s.size s.links k) (state_gives s s.links k a.less a.does))
 
-  pub unset_ends : (link : port.Link) (b : Bool) (end : End) → doing ≡ does.Done end
+  pub unset_ends : {link : port.Link} {b : Bool} {end : End} → IsAbout stands k (does.Done end) web s
       → link ≡ get_or web.links.items k link → Tells link b (λ size l. is_none l.mark)
       → b ≡ can s.size s.links k (state (plan_of s) s.links k)
-  unset_ends link b end is e tells =
-      tells s.size (s.links k) (a.at.stand.links k link (about_link link e))
-      ∙ sym (ap (can s.size s.links k) (state_ends s s.links k end a.less (a.does ∙ is)))
+  unset_ends {link} {b} {end} a e tells =
+      tells s.size (s.links k) (a.at.stand.links k link (link_at a.less a.at.stand e))
+      ∙ sym (ap (can s.size s.links k) (state_at s s.links k a.less a.does))
 
-  pub within_links : (place i : ℕ) → doing ≡ does.Wants place
-      → i ≡ slice_index (s.kinds k).stage.sources place → i < length web.links.items
-  within_links place i is e =
-      let w = (wants_at s k place a.at.reached.ok a.less (a.does ∙ is)).lower in
-      let n = a.at.stand.as_many in
-      let less = a.less in
-      omega arith
+  module _ {place i : ℕ} where
+    pub within_links : IsAbout stands k (does.Wants place) web s
+        → i ≡ slice_index (s.kinds k).stage.sources place → i < length web.links.items
+    within_links a e = omega (arith, (wants_at s k place a.at.reached.ok a.less a.does).lower, a.at.stand.as_many, a.less, e)
 
-  pub some_takes : (place i : ℕ) (link : port.Link) (b : Bool) → doing ≡ does.Wants place
-      → i ≡ slice_index (s.kinds k).stage.sources place
-      → link ≡ get_or web.links.items i link
-      → Tells link b (λ size l. nat_lt 0 (length l.waiting) || is_some l.mark)
-      → b ≡ can s.size s.links k (state (plan_of s) s.links k)
-  some_takes place i link b is e value tells =
-      let at = nth web.links.items i link (within_links place i is e) value in
-      let takes = state_takes s s.links k place a.less (a.does ∙ is) in
-      let unheard : (s.links i).heard ≡ None =
-      subst (λ j. (s.links j).heard ≡ None) (sym e)
-      (wanted (plan_of s) a.at.reached.ok s.links k (slice_index (s.kinds k).stage.sources place) a.less takes).unheard in
-      tells s.size (s.links i) (a.at.stand.links i link at)
-      ∙ sym (ap (λ o. is_none o && (nat_lt 0 (length (s.links i).waiting) || is_some (s.links i).mark)) unheard)
-      ∙ ap (λ j. has_some (s.links j)) e
-      ∙ sym (ap (can s.size s.links k) (state_takes s s.links k place a.less (a.does ∙ is)))
+    pub some_takes : {link : port.Link} {b : Bool} → IsAbout stands k (does.Wants place) web s
+        → i ≡ slice_index (s.kinds k).stage.sources place → link ≡ get_or web.links.items i link
+        → Tells link b (λ size l. nat_lt 0 (length l.waiting) || is_some l.mark)
+        → b ≡ can s.size s.links k (state (plan_of s) s.links k)
+    some_takes {link} a e value tells =
+        let takes = state_at s s.links k a.less a.does in
+        let unheard : (s.links i).heard ≡ None =
+        subst (λ j. (s.links j).heard ≡ None) (sym e)
+        (wanted (plan_of s) a.at.reached.ok s.links k (slice_index (s.kinds k).stage.sources place) a.less takes).unheard in
+        tells s.size (s.links i) (a.at.stand.links i link (nth web.links.items i link (within_links a e) value))
+        ∙ sym (ap (λ o. is_none o && (nat_lt 0 (length (s.links i).waiting) || is_some (s.links i).mark)) unheard)
+        ∙ ap (λ j. has_some (s.links j)) e
+        ∙ sym (ap (can s.size s.links k) takes)
+
+    pub touched_takes : IsAbout stands k (does.Wants place) web s
+        → i ≡ slice_index (s.kinds k).stage.sources place → i ≡ touched k (state (plan_of s) s.links k)
+    touched_takes a e = e ∙ sym (ap (touched k) (state_at s s.links k a.less a.does))
 
   -- it never reads
-  pub never : doing ≡ does.Reads → ⊥
-  never is =
-      let n = reads_bytes (plan_of s) a.at.reached.ok s.links k a.less (state_reads s s.links k a.less (a.does ∙ is)) in
-      let none = a.bytes in
-      omega (arith, n, none)
+  pub never : IsAbout stands k does.Reads web s → ⊥
+  never a =
+      let n = reads_bytes (plan_of s) a.at.reached.ok s.links k a.less (state_at s s.links k a.less a.does) in
+      omega (arith, n, a.bytes)
 
-  pub touched_gives : doing ≡ does.Gives → k ≡ touched k (state (plan_of s) s.links k)
-  touched_gives is = sym (ap (touched k) (state_gives s s.links k a.less (a.does ∙ is)))
+  pub touched_gives : IsAbout stands k does.Gives web s → k ≡ touched k (state (plan_of s) s.links k)
+  touched_gives a = sym (ap (touched k) (state_gives s s.links k a.less a.does))
 
-  pub touched_ends : (end : End) → doing ≡ does.Done end
-      → k ≡ touched k (state (plan_of s) s.links k)
-  touched_ends end is = sym (ap (touched k) (state_ends s s.links k end a.less (a.does ∙ is)))
+  pub touched_ends : {end : End} → IsAbout stands k (does.Done end) web s → k ≡ touched k (state (plan_of s) s.links k)
+  touched_ends {end} a = sym (ap (touched k) (state_at s s.links k a.less a.does))
 
-  pub touched_takes : (place i : ℕ) → doing ≡ does.Wants place
-      → i ≡ slice_index (s.kinds k).stage.sources place
-      → i ≡ touched k (state (plan_of s) s.links k)
-  touched_takes place i is e =
-      e ∙ sym (ap (touched k) (state_takes s s.links k place a.less (a.does ∙ is)))
+  -- A link that has room has room in the plan.
+  pub room_in : Stands stands web s → HasRoom k web → has_room s.size (s.links k) ≡ true
+  room_in st r = sym (room_same k st r.its) ∙ r.room
 
--- Of an actor.
+  pub room_stage : IsAt stands web s → HasRoom k web → HasActor stands k web s
+  room_stage at r = record { at = at; less = within web.links.items k s.count r.link at.stand.as_many r.its }
 
-pub below : (k n l count : ℕ) → k ≤ count → l ≡ count → n ≡ l → (k ≡ n → ⊥) → k < count
-below k n l count h e f other = omega arith
+  -- An actor that isn't the sink is a stage.
+  pub below : {n : ℕ} → IsActor stands k web s → n ≡ length web.nodes.items → (k ≡ n → ⊥) → HasActor stands k web s
+  below a e other = record { at = a.at; less = omega (arith, a.within, a.at.stand.count, e, other) }
 
-module _ {S R : Type 0} (stage : S → Moment → Type 0) (k : ℕ)
-    (web : Web S R) (s : Scene) where
-  pub source_ready : (node : Node S R) (link : port.Link)
-      → IsAt (StandsAs stage) web s → k < s.count
-      → slice_get web.nodes.items k ≡ Some node → is_source node ≡ true
-      → ready (plan_of s) s.size s.links k ≡ (is_none (s.links k).mark && has_room s.size (s.links k))
-  source_ready node link at less there kind =
-      ready_reader (plan_of s) s.size k s.links less
-      (source_bytes stage node (s.rests k) (at_of s.kinds s.links k) kind
-      (at.stand.nodes k node there))
+pub below_some : {S R : Type 0} {stands : Node S R → List ℕ → At → Type 0} {k : ℕ} {web : Web S R} {n : ℕ}
+    → Somewhere (IsActor stands k web) → n ≡ length web.nodes.items → (k ≡ n → ⊥) → Somewhere (HasActor stands k web)
+below_some h e other = record { scene = h.scene; holds = below h.holds e other }
 
-  pub by_room : (a b : Bool) (link one : port.Link) → IsAt (StandsAs stage) web s
-      → k < s.count
-      → ready (plan_of s) s.size s.links k ≡ (is_none (s.links k).mark && has_room s.size (s.links k))
-      → link ≡ get_or web.links.items k link → Tells link a (λ size l. is_none l.mark) → a ≡ true
-      → one ≡ get_or web.links.items k one → Tells one b has_room
+-- Of a source.
+
+pub source_ready : {S R : Type 0} (stage : S → Moment → Type 0) (k : ℕ) (web : Web S R) (s : Scene)
+    (node : Node S R) (link : port.Link) → IsAt (StandsAs stage) web s → k < s.count
+    → slice_get web.nodes.items k ≡ Some node → is_source node ≡ true
+    → ready (plan_of s) s.size s.links k ≡ (is_none (s.links k).mark && has_room s.size (s.links k))
+source_ready stage k web s node link at less there kind =
+    ready_reader (plan_of s) s.size k s.links less
+    (source_bytes stage node (s.rests k) (at_of s.kinds s.links k) kind (at.stand.nodes k node there))
+
+module _ {S R : Type 0} {stage : S → Moment → Type 0} {k : ℕ} {web : Web S R} {s : Scene} {a : Bool} {link : port.Link}
+    (h : HasActor (StandsAs stage) k web s) (kind : IsKind true k web)
+    (e : link ≡ get_or web.links.items k link) (tells : Tells link a (λ size l. is_none l.mark)) where
+  -- by whether its end is unset
+  by_unset : ready (plan_of s) s.size s.links k ≡ (a && has_room s.size (s.links k))
+  by_unset =
+      let node = node_of (StandsAs stage) k web s h.less h.at.stand in
+      source_ready stage k web s node.0 link h.at h.less node.1 (kind node.0 node.1)
+      ∙ ap (λ c. c && has_room s.size (s.links k))
+      (sym (tells s.size (s.links k) (h.at.stand.links k link (link_at h.less h.at.stand e))))
+
+  pub by_room : {b : Bool} {one : port.Link} → a ≡ true → one ≡ get_or web.links.items k one → Tells one b has_room
       → b ≡ ready (plan_of s) s.size s.links k
-  by_room a b link one at less is e tells set f told =
-      let stands : Node S R → List ℕ → At → Type 0 = StandsAs stage in
-      let x = tells s.size (s.links k) (at.stand.links k link (link_at stands k web s link less at.stand e)) in
-      let y = told s.size (s.links k) (at.stand.links k one (link_at stands k web s one less at.stand f)) in
-      y ∙ sym (is ∙ ap (λ c. c && has_room s.size (s.links k)) (sym x ∙ set))
+  by_room {b} {one} set f told =
+      told s.size (s.links k) (h.at.stand.links k one (link_at h.less h.at.stand f))
+      ∙ sym (by_unset ∙ ap (λ c. c && has_room s.size (s.links k)) set)
 
-  pub by_mark : (a : Bool) (link : port.Link) → IsAt (StandsAs stage) web s → k < s.count
-      → ready (plan_of s) s.size s.links k ≡ (is_none (s.links k).mark && has_room s.size (s.links k))
-      → link ≡ get_or web.links.items k link → Tells link a (λ size l. is_none l.mark) → a ≡ false
-      → a ≡ ready (plan_of s) s.size s.links k
-  by_mark a link at less is e tells unset =
-      let stands : Node S R → List ℕ → At → Type 0 = StandsAs stage in
-      let x = tells s.size (s.links k) (at.stand.links k link (link_at stands k web s link less at.stand e)) in
-      unset ∙ sym (is ∙ ap (λ c. c && has_room s.size (s.links k)) (sym x ∙ unset))
+  pub by_mark : a ≡ false → a ≡ ready (plan_of s) s.size s.links k
+  by_mark unset = unset ∙ sym (by_unset ∙ ap (λ c. c && has_room s.size (s.links k)) unset)
+
+  -- one whose end isn't set, and whose link has room, is ready
+  pub source_turn : HasRoom k web → a ≡ true → MayTurn (StandsAs stage) k web s
+  source_turn room set =
+      record { at = h.at; less = h.less; ready = by_unset ∙ ap₂ (λ c d. c && d) set (room_in h.at.stand room) }

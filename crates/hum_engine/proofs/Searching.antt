@@ -1,42 +1,34 @@
 -- Who is known not to be ready once an actor was asked.
-use Rattle.std.proofs.Common.{◌≡◌, ◌≢◌, ◌∙◌, ◌⊎◌, ℕ, ◌+◌, ◌<◌, ◌≤◌, Bool, true, false, List, Option, None, Some}
+use Rattle.std.proofs.Common.{◌≡◌, ◌≢◌, ◌∙◌, ◌⊎◌, ℕ, ◌+◌, ◌<◌, ◌≤◌, Bool, true, false, List, Option, None, Some, is_none, ◌&&◌}
+use Rattle.std.proofs.Common.{refl, sym, ap, subst, arith, inl, inr, ⊎_elim}
 use Rattle.std.specs.Prelude.{IfSome}
-use Rattle.std.proofs.Common.{is_none, ◌&&◌, refl, sym, ap, subst, arith, inl, inr, ⊎_elim}
-use Rattle.std.proofs.lemmas.Bool.{false≢true, cases_eq, cases_lt, cond-true, cond-false, eq-eqb, ne_eqb}
-use Rattle.hum_record.specs.Row.{Row, text_of}
+use Rattle.std.proofs.lemmas.Bool.{false≢true, cases_eq, cond-true, cond-false, eq-eqb, ne_eqb}
+use Rattle.hum_record.specs.Row.{Row}
 use Rattle.hum_turns.specs.declared.order.Side.{Side}
 use Rattle.hum_turns.specs.declared.order.Side.TheVariants as side
-use Rattle.hum_turns.specs.Failures.{Now, is_ready, result, Turn}
+use Rattle.hum_turns.specs.Failures.{Now, is_ready}
 use Rattle.hum_turns.specs.Orders.{ready_list, LeansTo}
-use Rattle.hum_turns.specs.Turns.{state, ready}
-use Rattle.hum_turns.specs.Near.{LooksAt, touched}
+use Rattle.hum_turns.specs.Turns.{ready}
+use Rattle.hum_turns.specs.Near.{LooksAt}
 use Rattle.hum_turns.proofs.Near.{ready_untouched}
-use Rattle.hum_engine.specs.Search.{IsNearer, away, outer, end_of, beginning, passed, changed, left_to_ask}
-use Rattle.hum_engine.specs.Search.{kept_behind, skipped_left, skipped_to, skipped}
+use Rattle.hum_engine.specs.Search.{IsNearer, away, outer, end_of, beginning, passed, changed, left_to_ask, is_left}
+use Rattle.hum_engine.specs.Search.{kept_behind, skipped_to, skipped, reached}
 use Rattle.hum_engine.specs.declared.search.Search.{Search}
-use Rattle.hum_engine.specs.Scene.{Scene, plan_of, IsNetPlan, TakesFrom}
+use Rattle.hum_engine.specs.Scene.{Scene, plan_of, TakesFrom}
 use Rattle.hum_engine.specs.declared.net.Net.{Net}
 use Rattle.hum_engine.specs.Nets.{IsFront, IsHeldUp, Sees, still_to_ask}
 use Rattle.hum_engine.proofs.HeldUp.{held_unready, held_stays, held_less}
-use Rattle.hum_engine.proofs.Flags.{moves, took, touched_below}
+use Rattle.hum_engine.proofs.Flags.{IsTurn, moves, took}
 
 -- Nearer and further, as numbers.
 
 nearer_or : (to : Side) (a b : ℕ) → IsNearer to a b ⊎ ((a ≡ b) ⊎ IsNearer to b a)
-nearer_or side.Left a b = ⊎_elim inl
-    (λ (more : b ≤ a). ⊎_elim (λ e. inr (inl e)) (λ other. inr (inr (omega (arith, more, other)))) (cases_eq a b))
-    (cases_lt a b)
-nearer_or side.Right a b = ⊎_elim inl
-    (λ (more : a ≤ b). ⊎_elim (λ e. inr (inl e)) (λ other. inr (inr (omega (arith, more, other)))) (cases_eq a b))
-    (cases_lt b a)
+nearer_or side.Left a b = grind arith
+nearer_or side.Right a b = grind arith
 
 nearer_all : (to : Side) (a b c : ℕ) → IsNearer to a b → IsNearer to b c → IsNearer to a c
 nearer_all side.Left a b c ab bc = omega (arith, ab, bc)
 nearer_all side.Right a b c ab bc = omega (arith, ab, bc)
-
-not_both : (to : Side) (a b : ℕ) → IsNearer to a b → IsNearer to b a → ⊥
-not_both side.Left a b near far = absurd (omega (arith, near, far))
-not_both side.Right a b near far = absurd (omega (arith, near, far))
 
 away_none : (to : Side) (a j : ℕ) → IsNearer to a j → IsNearer to j (away to a) → ⊥
 away_none side.Left a j near far = absurd (omega (arith, near, far))
@@ -47,9 +39,8 @@ away_more side.Left a j near = omega arith
 away_more side.Right a j near = omega (arith, near)
 
 within_next : (to : Side) (from behind some count : ℕ) → from ≤ count → some ≤ count → IsNearer to from behind
-    → (behind ≡ some) ⊎ IsNearer to behind some → behind ≤ count
-within_next side.Left from behind some count a b near at =
-    ⊎_elim (λ e. omega (arith, b, e)) (λ less. omega (arith, b, less)) at
+    → (some ≡ behind) ⊎ IsNearer to behind some → behind ≤ count
+within_next side.Left from behind some count a b near at = omega (arith, b, at)
 within_next side.Right from behind some count a b near at = omega (arith, a, near)
 
 outer_within : (to : Side) (link taker count : ℕ) → link < taker → taker ≤ count → outer to link taker ≤ count
@@ -65,21 +56,15 @@ nearer_apart side.Right link taker j less near = (λ e. absurd (omega (arith, le
 -- Who is one of the two ends and isn't the outer one is the other, and the outer one nearer.
 outer_nearer : (to : Side) (link taker k : ℕ) → link < taker → (k ≡ link) ⊎ (k ≡ taker)
     → outer to link taker ≢ k → IsNearer to (outer to link taker) k
-outer_nearer side.Left link taker k less one other =
-    ⊎_elim (λ e. absurd (other (sym e))) (λ e. omega (arith, less, e)) one
-outer_nearer side.Right link taker k less one other =
-    ⊎_elim (λ e. omega (arith, less, e)) (λ e. absurd (other (sym e))) one
+outer_nearer side.Left link taker k less one other = omega (arith, less, one, other)
+outer_nearer side.Right link taker k less one other = omega (arith, less, one, other)
 
 between_apart : (to : Side) (link taker j k : ℕ) → (k ≡ link) ⊎ (k ≡ taker) → link < taker
     → IsNearer to (outer to link taker) j → IsNearer to j k → (j ≢ link) × (j ≢ taker)
-between_apart side.Left link taker j k one less past low = (
-  λ e. absurd (omega (arith, past, e)),
-  λ e. ⊎_elim (λ f. absurd (omega (arith, less, low, e, f))) (λ f. absurd (omega (arith, low, e, f))) one,
-)
-between_apart side.Right link taker j k one less past low = (
-  λ e. ⊎_elim (λ f. absurd (omega (arith, low, e, f))) (λ f. absurd (omega (arith, less, low, e, f))) one,
-  λ e. absurd (omega (arith, past, e)),
-)
+between_apart side.Left link taker j k one less past low =
+    (λ e. absurd (omega (arith, past, e)), λ e. absurd (omega (arith, less, low, e, one)))
+between_apart side.Right link taker j k one less past low =
+    (λ e. absurd (omega (arith, less, low, e, one)), λ e. absurd (omega (arith, past, e)))
 
 -- the steps of a search come to an end
 fewer_ask : (to : Side) (a b count : ℕ) → count < 256 → a ≤ count → b ≤ count → IsNearer to a b
@@ -95,12 +80,7 @@ away_few : (to : Side) (a count : ℕ) → a ≤ count → away to a ≤ count +
 away_few side.Left a count few = omega (arith, few)
 away_few side.Right a count few = omega (arith, few)
 
-is_left : Side → Bool
-is_left side.Left = true
-is_left side.Right = false
-
 right_left : side.Right ≡ side.Left → ⊥
-unfolding is_left
 right_left e = false≢true (ap is_left e)
 
 none_left : (to : Side) (a j : ℕ) → to ≡ side.Left → a < j → j < away to a → ⊥
@@ -111,24 +91,23 @@ none_left side.Right a j e past low = absurd (right_left e)
 front_at : Side → ℕ → Search
 front_at to sink = record { side = to; from = end_of to sink; behind = away to (end_of to sink) }
 
+-- Of nobody further from the side than the actor that is asked next anything is known.
+front_away : {s : Scene} {now : Now Row} (to : Side) (from : ℕ) → from ≤ s.count
+    → ((j : ℕ) → j ≤ s.count → IsNearer to j from → is_ready (plan_of s) s.size now j ≡ false)
+    → IsFront (record { side = to; from = from; behind = away to from }) s now
+front_away {s} {now} to from within nearer = record {
+  within = within;
+  nearer = nearer;
+  between = λ j less past near. absurd (away_none to from j past near);
+  beyond = λ j less past. away_more to from j past;
+  last = away_few to from s.count within;
+  waits = λ j left past low. absurd (none_left to from j left past low);
+}
+
 front_first : (to : Side) (s : Scene) (now : Now Row) → IsFront (front_at to s.count) s now
 unfolding front_at
-front_first side.Left s now = record {
-  within = omega arith;
-  nearer = λ j most near. absurd (omega (arith, near));
-  between = λ j most past low. absurd (omega (arith, past, low));
-  beyond = λ j most near. omega arith;
-  last = omega arith;
-  waits = λ j left past low. absurd (omega (arith, past, low));
-}
-front_first side.Right s now = record {
-  within = omega arith;
-  nearer = λ j most near. absurd (omega (arith, most, near));
-  between = λ j most past low. absurd (omega (arith, past, low));
-  beyond = λ j most near. omega (arith, near);
-  last = omega arith;
-  waits = λ j left past low. absurd (right_left left);
-}
+front_first side.Left s now = front_away side.Left 0 (omega arith) (λ j most near. absurd (omega (arith, near)))
+front_first side.Right s now = front_away side.Right s.count (omega arith) (λ j most near. absurd (omega (arith, most, near)))
 
 pub sees_first : {S R W : Type 0} (to : Option Side) (sink : ℕ) (s : Scene) (now : Now Row) (net : Net S R W)
     → sink ≡ s.count → net.actors.items ≡ ready_list (plan_of s) s.size now → Sees (beginning to sink) s now net
@@ -147,57 +126,85 @@ pub few_still : (look : Option Search) → still_to_ask look ≤ 256
 few_still None = omega arith
 few_still (Some look) = few_ask look.side look.from
 
+-- What a search from the left does behind a turn that has changed a link.
+module _ (look : Search) (link taker : ℕ) (left : is_left look.side ≡ true) where
+  left_side : look.side ≡ side.Left
+  left_side = by look.side left
+    where
+      by : (s : Side) → is_left s ≡ true → s ≡ side.Left
+      by side.Left h = refl
+      by side.Right h = absurd (false≢true h)
+
+  -- To the left of its actor, which has taken a record from there and is held up, or isn't;
+  pub reached_over : link < look.from → reached look link true ≡ skipped look link taker
+  reached_over less = sym (ap (λ s. skipped_to s look link taker) left_side
+      ∙ cond-false _ _ _ (ne_eqb link look.from (λ e. absurd (omega (arith, less, e)))))
+
+  pub reached_on : link < look.from → reached look link false ≡ changed look (outer look.side link taker)
+  reached_on less = sym (ap (λ s. changed look (outer s link taker)) left_side
+      ∙ cond-false _ _ _ (ne_eqb link look.from (λ e. absurd (omega (arith, less, e)))))
+
+  -- the own one of its actor, which is held up, or isn't: then it stands where it stood.
+  pub passes_own : link ≡ look.from → passed look ≡ skipped look link taker
+  passes_own own = sym (ap (λ s. skipped_to s look link taker) left_side ∙ cond-true _ _ _ (eq-eqb link look.from own))
+
+  pub stays_there : link ≡ look.from → look ≡ changed look (outer look.side link taker)
+  stays_there own = sym (cond-true _ _ _ (eq-eqb _ look.from (ap (λ s. outer s link taker) left_side ∙ own))
+      ∙ ap (λ s. record look { behind = kept_behind s look }) left_side)
+
+-- some actor that is ready
+pub record AnyReady (s : Scene) (now : Now Row) : Type 0 where
+  pub actor : ℕ
+  pub within : actor ≤ s.count
+  pub is_ready : is_ready (plan_of s) s.size now actor ≡ true
+
+-- Nobody is ready who stands nearer than the actor that is asked behind, but for the one that is asked.
+quiet : {look : Search} {s : Scene} {now : Now Row} → IsFront look s now → (j : ℕ) → j ≤ s.count
+    → IsNearer look.side j look.behind → j ≢ look.from → is_ready (plan_of s) s.size now j ≡ false
+quiet {look} front j less near other = ⊎_elim
+    (λ nearer. front.nearer j less nearer)
+    (λ rest. ⊎_elim (λ here. absurd (other here)) (λ past. front.between j less past near) rest)
+    (nearer_or look.side j look.from)
+
 -- Behind an actor that isn't ready, where someone else is.
-module _ (look : Search) (s : Scene) (now : Now Row) (some : ℕ) (front : IsFront look s now)
-    (isnt : is_ready (plan_of s) s.size now look.from ≡ false) (most : some ≤ s.count)
-    (is : is_ready (plan_of s) s.size now some ≡ true) where
+module _ {look : Search} {s : Scene} {now : Now Row} (front : IsFront look s now)
+    (isnt : is_ready (plan_of s) s.size now look.from ≡ false) (some : AnyReady s now) where
   passed_by : (j : ℕ) → j ≤ s.count → IsNearer look.side j look.behind → is_ready (plan_of s) s.size now j ≡ false
   passed_by j less near = ⊎_elim
-      (λ nearer. front.nearer j less nearer)
-      (λ rest. ⊎_elim
       (λ (here : j ≡ look.from). ap (is_ready (plan_of s) s.size now) here ∙ isnt)
-      (λ past. front.between j less past near)
-      rest)
-      (nearer_or look.side j look.from)
+      (λ other. quiet front j less near other)
+      (cases_eq j look.from)
 
-  further : IsNearer look.side look.from some
+  -- who is ready is no actor of which that is known
+  other : is_ready (plan_of s) s.size now some.actor ≡ false → ⊥
+  other unready = false≢true (sym unready ∙ some.is_ready)
+
+  further : IsNearer look.side look.from some.actor
   further = ⊎_elim
-      (λ nearer. absurd (false≢true (sym (front.nearer some most nearer) ∙ is)))
-      (λ rest. ⊎_elim
-      (λ (here : some ≡ look.from).
-      absurd (false≢true (sym (ap (is_ready (plan_of s) s.size now) here ∙ isnt) ∙ is)))
-      (λ past. past)
-      rest)
-      (nearer_or look.side some look.from)
+      (λ nearer. absurd (other (front.nearer some.actor some.within nearer)))
+      (λ rest. ⊎_elim (λ here. absurd (other (ap (is_ready (plan_of s) s.size now) here ∙ isnt))) (λ past. past) rest)
+      (nearer_or look.side some.actor look.from)
 
   behind_within : look.behind ≤ s.count
-  behind_within = within_next look.side look.from look.behind some s.count front.within most
-      (front.beyond some most further)
-      (⊎_elim
-      (λ near. absurd (false≢true (sym (passed_by some most near) ∙ is)))
-      (λ rest. ⊎_elim (λ e. inl (sym e)) (λ past. inr past) rest)
-      (nearer_or look.side some look.behind))
+  behind_within = within_next look.side look.from look.behind some.actor s.count front.within some.within
+      (front.beyond some.actor some.within further)
+      (⊎_elim (λ near. absurd (other (passed_by some.actor some.within near))) (λ rest. rest)
+      (nearer_or look.side some.actor look.behind))
 
   pub front_passed : IsFront (passed look) s now
-  front_passed = record {
-    within = behind_within;
-    nearer = passed_by;
-    between = λ j less past near. absurd (away_none look.side look.behind j past near);
-    beyond = λ j less past. away_more look.side look.behind j past;
-    last = away_few look.side look.behind s.count behind_within;
-    waits = λ j left past low. absurd (none_left look.side look.behind j left past low);
-  }
+  front_passed = front_away look.side look.behind behind_within passed_by
 
   pub passed_fewer : s.count < 256 → left_to_ask look.side look.behind < left_to_ask look.side look.from
   passed_fewer few = fewer_ask look.side look.from look.behind s.count few front.within behind_within
-      (front.beyond some most further)
+      (front.beyond some.actor some.within further)
 
--- A turn of an actor, which changes this link, from which nobody but the taker takes.
-module _ (s : Scene) (plan : IsNetPlan s.count s.kinds s.size) (k link taker : ℕ) (old new : Now Row)
-    (turn : Turn (plan_of s) s.size text_of k old new) (none : result (plan_of s) new ≡ None)
-    (going : result (plan_of s) old ≡ None)
-    (link_is : link ≡ touched k (state (plan_of s) old.links k)) (within : k ≤ s.count)
-    (alone : (j : ℕ) → TakesFrom s.count s.kinds j link → j ≡ taker) where
+-- who alone takes from a link
+pub record IsTaker (s : Scene) (link taker : ℕ) : Type 0 where
+  pub alone : (j : ℕ) → TakesFrom s.count s.kinds j link → j ≡ taker
+  pub behind : link < taker
+  pub most : taker ≤ s.count
+
+module _ {s : Scene} {k link taker : ℕ} {old new : Now Row} (t : IsTurn s k link old new) (u : IsTaker s link taker) where
   -- Who neither gives onto the link nor takes from it is as ready as before,
   apart_as_ready : (j : ℕ) → j ≤ s.count → j ≢ link → (TakesFrom s.count s.kinds j link → ⊥)
       → is_ready (plan_of s) s.size new j ≡ is_ready (plan_of s) s.size old j
@@ -206,22 +213,15 @@ module _ (s : Scene) (plan : IsNetPlan s.count s.kinds s.size) (k link taker : �
       (λ w. ⊎_elim (λ (own : link ≡ j). apart (sym own)) (λ one. other (inl (w.0, one))) w.1)
       (λ w. let p = w.0 in other (inr (omega (arith, p, less), w.1)))
       looks in
-      let same = ready_untouched (plan_of s) plan.ok s.size k old.links new.links
-      (moves s plan k link old new turn none going link_is) j
-      (subst (λ i. LooksAt (plan_of s) j i → ⊥) link_is far) in
-      ap (λ o. is_none o && ready (plan_of s) s.size new.links j) none
-      ∙ same ∙ sym (ap (λ o. is_none o && ready (plan_of s) s.size old.links j) going)
+      ap (λ o. is_none o && ready (plan_of s) s.size new.links j) t.none
+      ∙ ready_untouched (plan_of s) t.plan.ok s.size k old.links new.links (moves t) j
+      (subst (λ i. LooksAt (plan_of s) j i → ⊥) t.link_is far)
+      ∙ sym (ap (λ o. is_none o && ready (plan_of s) s.size old.links j) t.going)
 
   -- and so is who isn't the link's taker.
   pub others_as_ready : (j : ℕ) → j ≤ s.count → j ≢ link → j ≢ taker
       → is_ready (plan_of s) s.size new j ≡ is_ready (plan_of s) s.size old j
-  others_as_ready j less apart other = apart_as_ready j less apart (λ takes. other (alone j takes))
-
-  below : link ≤ k
-  below = touched_below s plan.ok k link old.links within link_is
-
-  by_taker : k ≢ link → k ≡ taker
-  by_taker apart = alone k (took s plan.ok k link old.links within link_is apart)
+  others_as_ready j less apart other = apart_as_ready j less apart (λ takes. other (u.alone j takes))
 
   before : (j : ℕ) → j ≤ s.count → (j ≢ link) × (j ≢ taker) → is_ready (plan_of s) s.size old j ≡ false
       → is_ready (plan_of s) s.size new j ≡ false
@@ -230,241 +230,166 @@ module _ (s : Scene) (plan : IsNetPlan s.count s.kinds s.size) (k link taker : �
   -- Who is held up isn't ready.
   held_isnt : (j : ℕ) → IsHeldUp s new.links j → is_ready (plan_of s) s.size new j ≡ false
   held_isnt j held =
-      ap (λ o. is_none o && ready (plan_of s) s.size new.links j) none ∙ held_unready s new.links j held
+      ap (λ o. is_none o && ready (plan_of s) s.size new.links j) t.none ∙ held_unready s new.links j held
+
+  one : (k ≡ link) ⊎ (k ≡ taker)
+  one = ⊎_elim inl (λ apart. inr (u.alone k (took t apart))) (cases_eq k link)
 
   -- It was the actor that was asked.
-  module _ (look : Search) (here : k ≡ look.from) (behind : link < taker) (most : taker ≤ s.count)
-      (front : IsFront look s old) where
-    one : (look.from ≡ link) ⊎ (look.from ≡ taker)
-    one = ⊎_elim
-        (λ (own : k ≡ link). inl (sym here ∙ own))
-        (λ apart. inr (sym here ∙ by_taker apart))
-        (cases_eq k link)
+  module _ {from behind : ℕ} (here : k ≡ from) where
+    -- Nobody nearer than the outer end is ready, where that is no further than the actor.
+    nearer_isnt : (to : Side) → IsFront (record { side = to; from = from; behind = behind }) s old → (j : ℕ) → j ≤ s.count
+        → IsNearer to j (outer to link taker) → IsNearer to j from → is_ready (plan_of s) s.size new j ≡ false
+    nearer_isnt to front j less near nearer =
+        before j less (nearer_apart to link taker j u.behind near) (front.nearer j less nearer)
 
-    -- Where it changed its own link on the left, who is held up behind it stays so,
-    module _ (left : look.side ≡ side.Left) (own : link ≡ look.from) where
-      own_link : k ≡ link
-      own_link = here ∙ sym own
-
-      waits_on : (j : ℕ) → look.from < j → j < look.behind
-          → (TakesFrom s.count s.kinds j look.from → ⊥) ⊎ IsHeldUp s new.links j
-      waits_on j past low = ⊎_elim inl
-          (λ held. inr (held_stays s plan.ok k j old.links new.links
-          (moves s plan k link old new turn none going link_is) (own_link ∙ link_is)
-          (λ e. absurd (omega (arith, past, e, here))) held))
-          (front.waits j left past low)
-
-      -- and nobody is ready who wasn't.
-      kept_isnt : (j : ℕ) → j ≤ s.count → look.from < j → j < look.behind
-          → is_ready (plan_of s) s.size old j ≡ false → is_ready (plan_of s) s.size new j ≡ false
-      kept_isnt j less past low isnt = ⊎_elim
-          (λ far. apart_as_ready j less (λ e. absurd (omega (arith, past, e, own)))
-          (subst (λ i. TakesFrom s.count s.kinds j i → ⊥) (sym own) far) ∙ isnt)
-          (λ held. held_isnt j held)
-          (waits_on j past low)
-
-    -- The outer end is the actor itself.
-    stays_front : (to : Side) → look.side ≡ to → outer to link taker ≡ look.from
-        → IsFront (record look { behind = kept_behind to look }) s new
-    stays_front side.Left is own = record {
-      within = front.within;
-      nearer = λ j less near.
-          before j less (nearer_apart side.Left link taker j behind (subst (IsNearer side.Left j) (sym own) (subst (λ t. IsNearer t j look.from) is near)))
-          (front.nearer j less near);
-      between = λ j less past low.
-          kept_isnt is own j less (subst (λ t. IsNearer t look.from j) is past) (subst (λ t. IsNearer t j look.behind) is low)
-          (front.between j less past low);
-      beyond = front.beyond;
-      last = front.last;
-      waits = λ j left past low. waits_on is own j past low;
-    }
-    stays_front side.Right is own = record {
-      within = front.within;
-      nearer = λ j less near.
-          before j less (nearer_apart side.Right link taker j behind (subst (IsNearer side.Right j) (sym own) (subst (λ t. IsNearer t j look.from) is near)))
-          (front.nearer j less near);
-      between = λ j less past low. absurd (away_none look.side look.from j past low);
-      beyond = λ j less past. away_more look.side look.from j past;
-      last = away_few look.side look.from s.count front.within;
-      waits = λ j left past low. absurd (right_left (sym is ∙ left));
-    }
-
-    -- It is another actor.
-    moves_front : outer look.side link taker ≢ look.from
-        → IsFront (record look { from = outer look.side link taker; behind = look.from }) s new
-    moves_front other =
-        let to = look.side in
-        let end = outer to link taker in
-        let nearer = outer_nearer to link taker look.from behind one other in
+    -- On the left it changed its own link: who is held up behind it stays so, and nobody is ready who wasn't.
+    stays_left : IsFront (record { side = side.Left; from = from; behind = behind }) s old → link ≡ from
+        → IsFront (record { side = side.Left; from = from; behind = behind }) s new
+    stays_left front own =
+        let waits : (j : ℕ) → from < j → j < behind → (TakesFrom s.count s.kinds j from → ⊥) ⊎ IsHeldUp s new.links j =
+        λ j past low. ⊎_elim inl
+        (λ held. inr (held_stays s t.plan.ok k j old.links new.links (moves t) (here ∙ sym own ∙ t.link_is)
+        (λ e. absurd (omega (arith, past, e, here))) held))
+        (front.waits j refl past low) in
         record {
-          within = outer_within to link taker s.count behind most;
-          nearer = λ j less near.
-              before j less (nearer_apart to link taker j behind near)
-              (front.nearer j less (nearer_all to j end look.from near nearer));
-          between = λ j less past low.
-              before j less (between_apart to link taker j look.from one behind past low) (front.nearer j less low);
-          beyond = λ j less past. nearer;
-          last = let few = front.within in omega (arith, few);
-          waits = λ j left past low. inl (λ takes.
-              let is = alone j (subst (λ t. TakesFrom s.count s.kinds j (outer t link taker)) left takes) in
-              ⊎_elim
-              (λ own. other (subst (λ t. outer t link taker ≡ look.from) (sym left) (sym own)))
-              (λ from. omega (arith, low, is, from))
-              one);
+          within = front.within;
+          nearer = λ j less near. nearer_isnt side.Left front j less (subst (λ i. j < i) (sym own) near) near;
+          between = λ j less past low. ⊎_elim
+              (λ far. apart_as_ready j less (λ e. absurd (omega (arith, past, e, own)))
+              (subst (λ i. TakesFrom s.count s.kinds j i → ⊥) (sym own) far) ∙ front.between j less past low)
+              (λ held. held_isnt j held)
+              (waits j past low);
+          beyond = front.beyond;
+          last = front.last;
+          waits = λ j left. waits j;
         }
 
-    pub front_changed : IsFront (changed look (outer look.side link taker)) s new
-    front_changed = ⊎_elim
-        (λ (is : outer look.side link taker ≡ look.from).
-        subst (λ to. IsFront to s new) (sym (cond-true _ _ _ (eq-eqb _ look.from is))) (stays_front look.side refl is))
-        (λ (other : outer look.side link taker ≢ look.from).
-        subst (λ to. IsFront to s new) (sym (cond-false _ _ _ (ne_eqb _ look.from other))) (moves_front other))
-        (cases_eq (outer look.side link taker) look.from)
+    -- The outer end is the actor itself, or another actor.
+    stays_front : (to : Side) → IsFront (record { side = to; from = from; behind = behind }) s old → outer to link taker ≡ from
+        → let by : Search = record { side = to; from = from; behind = behind } in
+        IsFront (record by { behind = kept_behind to by }) s new
+    stays_front side.Left front own = stays_left front own
+    stays_front side.Right front own = front_away side.Right from front.within
+        (λ j less near. nearer_isnt side.Right front j less (subst (λ i. i < j) (sym own) near) near)
+
+    moves_front : (to : Side) → IsFront (record { side = to; from = from; behind = behind }) s old → outer to link taker ≢ from
+        → IsFront (record { side = to; from = outer to link taker; behind = from }) s new
+    moves_front to front other =
+        let end = subst (λ i. (i ≡ link) ⊎ (i ≡ taker)) here one in
+        let nearer = outer_nearer to link taker from u.behind end other in
+        record {
+          within = outer_within to link taker s.count u.behind u.most;
+          nearer = λ j less near. nearer_isnt to front j less near (nearer_all to j (outer to link taker) from near nearer);
+          between = λ j less past low.
+              before j less (between_apart to link taker j from end u.behind past low) (front.nearer j less low);
+          beyond = λ j less past. nearer;
+          last = omega (arith, front.within);
+          waits = λ j left past low. inl (λ takes.
+              let is = u.alone j (subst (λ t. TakesFrom s.count s.kinds j (outer t link taker)) left takes) in
+              let apart : link ≢ from = subst (λ t. outer t link taker ≢ from) left other in
+              omega (arith, low, is, apart, end));
+        }
+
+    changed_front : (to : Side) → IsFront (record { side = to; from = from; behind = behind }) s old
+        → IsFront (changed (record { side = to; from = from; behind = behind }) (outer to link taker)) s new
+    changed_front to front = ⊎_elim
+        (λ (is : outer to link taker ≡ from).
+        subst (λ l. IsFront l s new) (sym (cond-true _ _ _ (eq-eqb _ from is))) (stays_front to front is))
+        (λ (other : outer to link taker ≢ from).
+        subst (λ l. IsFront l s new) (sym (cond-false _ _ _ (ne_eqb _ from other))) (moves_front to front other))
+        (cases_eq (outer to link taker) from)
 
     -- On the left, where it is held up itself: it changed its own link, or took from one to its left.
-    module _ (held : IsHeldUp s new.links k) (left : look.side ≡ side.Left) where
-      not_again : is_ready (plan_of s) s.size new look.from ≡ false
-      not_again = subst (λ i. is_ready (plan_of s) s.size new i ≡ false) here (held_isnt k held)
-
-      to_left : (a b : ℕ) → IsNearer look.side a b → a < b
-      to_left a b near = subst (λ t. IsNearer t a b) left near
-
-      as_left : (a b : ℕ) → a < b → IsNearer look.side a b
-      as_left a b less = subst (λ t. IsNearer t a b) (sym left) less
-
-      skips_own : (some : ℕ) → some ≤ s.count → is_ready (plan_of s) s.size new some ≡ true → link ≡ look.from
-          → IsFront (passed look) s new
-      skips_own some within_some is own = front_passed look s new some (stays_front side.Left left own) not_again within_some is
-
-      module _ (other : link ≢ look.from) where
-        from_taker : look.from ≡ taker
-        from_taker = ⊎_elim (λ own. absurd (other (sym own))) (λ from. from) one
-
-        lower : link < look.from
-        lower = let e = from_taker in omega (arith, behind, e)
-
-        past_from : look.from < look.behind
-        past_from =
-            let less = held_less s new.links k held in
-            to_left look.from look.behind
-            (front.beyond s.count (omega arith) (as_left look.from s.count (omega (arith, less, here))))
-
-        by_place : (j : ℕ) → (j < look.from) ⊎ ((j ≡ look.from) ⊎ (look.from < j))
-        by_place j = nearer_or side.Left j look.from
-
-        apart_both : (j : ℕ) → link < j → j ≢ look.from → (j ≢ link) × (j ≢ taker)
-        apart_both j past isnt =
-            (λ e. absurd (omega (arith, past, e)), λ e. isnt (e ∙ sym from_taker))
-
-        skips_front : IsFront (record look { from = link }) s new
-        skips_front = record {
-          within = omega (arith, behind, most);
-          nearer = λ j less near.
-              let low = to_left j link near in
-              let high = lower in
-              before j less (nearer_apart side.Left link taker j behind low)
-              (front.nearer j less (as_left j look.from (omega (arith, low, high))));
-          between = λ j less past low.
-              let above = to_left link j past in
-              ⊎_elim
-              (λ near. before j less (apart_both j above (λ e. absurd (omega (arith, near, e))))
-              (front.nearer j less (as_left j look.from near)))
-              (λ rest. ⊎_elim
-              (λ is. subst (λ i. is_ready (plan_of s) s.size new i ≡ false) (sym is) not_again)
-              (λ far. before j less (apart_both j above (λ e. absurd (omega (arith, far, e))))
-              (front.between j less (as_left look.from j far) low))
-              rest)
-              (by_place j);
-          beyond = λ j less past.
-              let low = lower in
-              let high = past_from in
-              as_left link look.behind (omega (arith, low, high));
+    skips_left : IsFront (record { side = side.Left; from = from; behind = behind }) s old → IsHeldUp s new.links k → link ≢ from
+        → IsFront (record { side = side.Left; from = link; behind = behind }) s new
+    skips_left front held other =
+        let taken : from ≡ taker = ⊎_elim (λ own. absurd (other (sym own ∙ here))) (λ is. sym here ∙ is) one in
+        let past : from < behind = front.beyond s.count (omega arith) (omega (arith, held_less s new.links k held, here)) in
+        record {
+          within = omega (arith, u.behind, u.most);
+          nearer = λ j less near. nearer_isnt side.Left front j less near (omega (arith, near, u.behind, taken));
+          between = λ j less above low. ⊎_elim
+              (λ (is : j ≡ from). held_isnt j (subst (λ i. IsHeldUp s new.links i) (here ∙ sym is) held))
+              (λ apart. before j less (λ e. absurd (omega (arith, above, e)), λ e. apart (e ∙ sym taken))
+              (quiet front j less low apart))
+              (cases_eq j from);
+          beyond = λ j less far. omega (arith, u.behind, taken, past);
           last = front.last;
           waits = λ j is_left above low. ⊎_elim
               (λ (is : j ≡ k). inr (subst (λ i. IsHeldUp s new.links i) (sym is) held))
-              (λ (isnt : j ≢ k). inl (λ takes. isnt (alone j takes ∙ sym from_taker ∙ sym here)))
+              (λ (isnt : j ≢ k). inl (λ takes. isnt (u.alone j takes ∙ sym taken ∙ sym here)))
               (cases_eq j k);
         }
 
-      skipped_front : (some : ℕ) → some ≤ s.count → is_ready (plan_of s) s.size new some ≡ true
-          → IsFront (skipped_left look link) s new
-      skipped_front some within_some is = ⊎_elim
-          (λ (own : link ≡ look.from).
-          subst (λ to. IsFront to s new) (sym (cond-true _ _ _ (eq-eqb link look.from own)))
-          (skips_own some within_some is own))
-          (λ (other : link ≢ look.from).
-          subst (λ to. IsFront to s new) (sym (cond-false _ _ _ (ne_eqb link look.from other)))
-          (skips_front other))
-          (cases_eq link look.from)
+    skipped_front : (to : Side) → IsFront (record { side = to; from = from; behind = behind }) s old → IsHeldUp s new.links k
+        → AnyReady s new → IsFront (skipped_to to (record { side = to; from = from; behind = behind }) link taker) s new
+    skipped_front side.Left front held some = ⊎_elim
+        (λ (own : link ≡ from). subst (λ l. IsFront l s new) (sym (cond-true _ _ _ (eq-eqb link from own)))
+        (front_passed (stays_left front own) (subst (λ i. is_ready (plan_of s) s.size new i ≡ false) here (held_isnt k held)) some))
+        (λ (apart : link ≢ from). subst (λ l. IsFront l s new) (sym (cond-false _ _ _ (ne_eqb link from apart)))
+        (skips_left front held apart))
+        (cases_eq link from)
+    skipped_front side.Right front held some = changed_front side.Right front
 
-    skipped_by : (to : Side) → look.side ≡ to → IsHeldUp s new.links k → (some : ℕ) → some ≤ s.count
-        → is_ready (plan_of s) s.size new some ≡ true → IsFront (skipped_to to look link taker) s new
-    skipped_by side.Left is held some within_some ready = skipped_front held is some within_some ready
-    skipped_by side.Right is held some within_some ready =
-        subst (λ t. IsFront (changed look (outer t link taker)) s new) is front_changed
+  pub front_changed : {look : Search} → k ≡ look.from → IsFront look s old
+      → IsFront (changed look (outer look.side link taker)) s new
+  front_changed {look} here front = changed_front here look.side front
 
-    pub front_skipped : IsHeldUp s new.links k → (some : ℕ) → some ≤ s.count
-        → is_ready (plan_of s) s.size new some ≡ true → IsFront (skipped look link taker) s new
-    front_skipped = skipped_by look.side refl
+  pub front_skipped : {look : Search} → k ≡ look.from → IsFront look s old → IsHeldUp s new.links k → AnyReady s new
+      → IsFront (skipped look link taker) s new
+  front_skipped {look} here front = skipped_front here look.side front
 
-    -- From the right.
-    module _ (right : look.side ≡ side.Right) where
-      from_right : (a b : ℕ) → IsNearer look.side a b → b < a
-      from_right a b near = subst (λ t. IsNearer t a b) right near
-
-      as_right : (a b : ℕ) → b < a → IsNearer look.side a b
-      as_right a b less = subst (λ t. IsNearer t a b) (sym right) less
-
-      none_waits : (j : ℕ) → look.side ≡ side.Left → ⊥
-      none_waits j left = right_left (sym right ∙ left)
-
-      -- It gave onto its own link and isn't ready any more: whoever was to be asked behind it is still.
-      pub moves_past : k ≡ link → 0 < k → is_ready (plan_of s) s.size new k ≡ false
-          → IsFront (record look { from = taker }) s new
-      moves_past own some isnt =
-          let low : look.behind < look.from =
-          from_right look.from look.behind (front.beyond 0 (omega arith) (as_right look.from 0 (omega (arith, some, here)))) in
-          record {
-            within = most;
-            nearer = λ j less near.
-                let high = from_right j taker near in
-                before j less (λ e. absurd (omega (arith, high, behind, e)), λ e. absurd (omega (arith, high, e)))
-                (front.nearer j less (as_right j look.from (omega (arith, high, behind, own, here))));
-            between = λ j less past near.
-                let under = from_right taker j past in
-                ⊎_elim
-                (λ nearer. let over = from_right j look.from nearer in
-                before j less (λ e. absurd (omega (arith, over, own, here, e)), λ e. absurd (omega (arith, under, e)))
-                (front.nearer j less nearer))
-                (λ rest. ⊎_elim
-                (λ (is : j ≡ look.from). subst (λ i. is_ready (plan_of s) s.size new i ≡ false) (here ∙ sym is) isnt)
-                (λ far. let over = from_right look.from j far in
-                before j less (λ e. absurd (omega (arith, over, own, here, e)), λ e. absurd (omega (arith, under, e)))
-                (front.between j less far near))
-                rest)
-                (nearer_or look.side j look.from);
-            beyond = λ j less past. as_right taker look.behind (omega (arith, low, behind, own, here));
-            last = front.last;
-            waits = λ j left past near. absurd (none_waits j left);
-          }
-
-      -- It took from the link, whose stage isn't ready, if that stands before whoever is to be asked behind it.
-      pub stays_past : k ≡ taker → (look.behind < link → is_ready (plan_of s) s.size new link ≡ false)
-          → IsFront look s new
-      stays_past own isnt = record {
-        within = front.within;
+-- From the right.
+module _ {s : Scene} {k link taker : ℕ} {old new : Now Row} (t : IsTurn s k link old new) (u : IsTaker s link taker)
+    {from behind : ℕ} (here : k ≡ from) (front : IsFront (record { side = side.Right; from = from; behind = behind }) s old) where
+  moves_right : k ≡ link → 0 < k → is_ready (plan_of s) s.size new k ≡ false
+      → IsFront (record { side = side.Right; from = taker; behind = behind }) s new
+  moves_right own some isnt =
+      let low = u.behind in
+      let below : behind < from = front.beyond 0 (omega arith) (omega (arith, some, here)) in
+      record {
+        within = u.most;
         nearer = λ j less near.
-            let high = from_right j look.from near in
-            before j less (λ e. absurd (omega (arith, high, own, here, behind, e)), λ e. absurd (omega (arith, high, own, here, e)))
-            (front.nearer j less near);
-        between = λ j less past near.
-            let under = from_right look.from j past in
-            let over = from_right j look.behind near in
-            ⊎_elim
-            (λ (is : j ≡ link). subst (λ i. is_ready (plan_of s) s.size new i ≡ false) (sym is) (isnt (omega (arith, over, is))))
-            (λ other. before j less (other, λ e. absurd (omega (arith, under, own, here, e))) (front.between j less past near))
-            (cases_eq j link);
-        beyond = front.beyond;
+            before t u j less (λ e. absurd (omega (arith, near, low, e)), λ e. absurd (omega (arith, near, e)))
+            (front.nearer j less (omega (arith, near, low, own, here)));
+        between = λ j less past near. ⊎_elim
+            (λ (is : j ≡ from). subst (λ i. is_ready (plan_of s) s.size new i ≡ false) (here ∙ sym is) isnt)
+            (λ other. before t u j less (λ e. other (e ∙ sym own ∙ here), λ e. absurd (omega (arith, past, e)))
+            (quiet front j less near other))
+            (cases_eq j from);
+        beyond = λ j less past. omega (arith, below, low, own, here);
         last = front.last;
-        waits = λ j left past near. absurd (none_waits j left);
+        waits = λ j left past near. absurd (right_left left);
       }
+
+  stays_right : k ≡ taker → (behind < link → is_ready (plan_of s) s.size new link ≡ false)
+      → IsFront (record { side = side.Right; from = from; behind = behind }) s new
+  stays_right own isnt = record {
+    within = front.within;
+    nearer = λ j less near.
+        let low = u.behind in
+        before t u j less (λ e. absurd (omega (arith, near, own, here, low, e)), λ e. absurd (omega (arith, near, own, here, e)))
+        (front.nearer j less near);
+    between = λ j less past near. ⊎_elim
+        (λ (is : j ≡ link). subst (λ i. is_ready (plan_of s) s.size new i ≡ false) (sym is) (isnt (omega (arith, near, is))))
+        (λ other. before t u j less (other, λ e. absurd (omega (arith, past, own, here, e))) (front.between j less past near))
+        (cases_eq j link);
+    beyond = front.beyond;
+    last = front.last;
+    waits = λ j left past near. absurd (right_left left);
+  }
+
+module _ {s : Scene} {k link taker : ℕ} {old new : Now Row} (t : IsTurn s k link old new) (u : IsTaker s link taker)
+    {look : Search} (here : k ≡ look.from) (front : IsFront look s old) (right : look.side ≡ side.Right) where
+  -- It gave onto its own link and isn't ready any more: whoever was to be asked behind it is still.
+  pub moves_past : k ≡ link → 0 < k → is_ready (plan_of s) s.size new k ≡ false → IsFront (record look { from = taker }) s new
+  moves_past own some isnt =
+      subst (λ to. IsFront (record look { side = to; from = taker }) s new) (sym right) (moves_right t u here
+      (subst (λ to. IsFront (record look { side = to }) s old) right front) own some isnt)
+
+  -- It took from the link, whose stage isn't ready, if that stands before whoever is to be asked behind it.
+  pub stays_past : k ≡ taker → (look.behind < link → is_ready (plan_of s) s.size new link ≡ false) → IsFront look s new
+  stays_past own isnt =
+      subst (λ to. IsFront (record look { side = to }) s new) (sym right) (stays_right t u here
+      (subst (λ to. IsFront (record look { side = to }) s old) right front) own isnt)

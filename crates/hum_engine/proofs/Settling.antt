@@ -1,87 +1,197 @@
 -- A turn of a stage, which a net counts.
-use Rattle.std.proofs.Common.{◌≡◌, ◌∙◌, ℕ, ◌+◌, ◌||◌, Bool, true, false, List, length, Option, Some, None, Result, Ok, Err, refl, sym, ap, inl, inr, arith}
-use Rattle.std.proofs.lemmas.Bool.{false≢true, eq-eqb, ne_eqb}
-use Rattle.std.proofs.lemmas.Option.{none-some}
+use Rattle.std.proofs.Common.{◌≡◌, ◌≢◌, ◌∙◌, ℕ, ◌+◌, ◌<◌, ◌≤◌, ◌||◌, Bool, true, false, List, length, Option, Some, None, Result, Ok, Err}
+use Rattle.std.proofs.Common.{refl, sym, ap, inl, inr, arith, ⊎_elim, eq-eqb, ne_eqb}
+use Rattle.std.specs.Prelude.{OnOk, is_some}
+use Rattle.std.proofs.lemmas.Bool.{false≢true, cases_eq}
+use Rattle.std.proofs.Math.Bool.{or-false}
+use Rattle.std.proofs.lemmas.Option.{none-some, slice_get_within}
 use Rattle.hum_read.specs.declared.ReadError.{ReadError}
 use Rattle.hum_read.specs.declared.ReadError.TheVariants as error
 use Rattle.hum_stage.specs.Meaning.{Moment as StageMoment}
+use Rattle.hum_turns.specs.declared.result.RunResult.{RunResult}
 use Rattle.hum_turns.specs.declared.result.RunResult.TheVariants as ends
+use Rattle.hum_turns.specs.Failures.{is_ready, result}
+use Rattle.hum_turns.specs.Links.{has_some}
+use Rattle.hum_turns.specs.Plan.{last}
+use Rattle.hum_turns.specs.Turns.{ready}
+use Rattle.hum_turns.proofs.Near.{ready_sink}
+use Rattle.hum_nodes.specs.At.{At}
 use Rattle.hum_nodes.specs.Nodes.{StandsAs}
+use Rattle.hum_nodes.specs.Polls.{is_failed_read}
+use Rattle.hum_nodes.proofs.Standing.{reads_few}
+use Rattle.hum_nodes.specs.declared.node.Node.{Node}
 use Rattle.hum_engine.specs.declared.net.Net.{Net}
+use Rattle.hum_engine.specs.declared.net.Turned.{Turned}
 use Rattle.hum_engine.specs.declared.web.Moved.{Moved}
+use Rattle.hum_engine.specs.declared.web.Web.{Web}
 use Rattle.hum_engine.specs.Readers.{failed_at, is_read_of, is_write}
-use Rattle.hum_engine.specs.Told.{HasTold}
-use Rattle.hum_engine.specs.Nets.{HasGone, AsksLittle, failed_by, turned_by}
-use Rattle.hum_engine.proofs.Netting.{is_at, marks_by, or_false, source_here, stage_turned}
+use Rattle.hum_engine.specs.Scene.{Scene, plan_of, moved, Somewhere, IsAt, HasActor, IsKind, HasRoom, Fed}
+use Rattle.hum_engine.specs.Told.{HasTold, AsksOne}
+use Rattle.hum_engine.specs.Nets.{AtEach, MayAsk, HasTurned, HasGone, HasWorked, MarksFailures, failed_by, turned_by}
+use Rattle.hum_engine.proofs.Bounds.{turns_few}
+use Rattle.hum_engine.proofs.Netting.{at_now, ready_at, unfailed_at, unheard_at, ready_result, source_here, stage_turned}
 use Rattle.hum_engine.proofs.Showing.{shows_alike}
 
-module _ {S R W : Type 0} (stage : S → StageMoment → Type 0) (remaining : R → Option (List ℕ))
-    (calls : R → ℕ) (failed : R → Bool) (contents : W → Option (List ℕ)) (flushed broken : W → Bool)
-    (k : ℕ) (old new : Net S R W) (other : k ≡ length old.web.nodes.items → ⊥) (none : old.failure ≡ None)
-    (sink : new.sink ≡ old.sink) (turns : new.turns ≡ old.turns + 1) (actors : new.actors ≡ old.actors)
-    (takers : new.takers ≡ old.takers) where
-  pub settled : (told : Result Moved ReadError)
-      → HasTold (StandsAs stage) remaining calls failed k old.web new.web told
-      → new.failure ≡ failed_by k told old.failure
-      → HasGone (StandsAs stage) remaining failed contents flushed broken k old new (turned_by k told)
-  settled (Ok moved) h failure =
-      let fine : new.failure ≡ None = failure ∙ none in
-      record {
-        turned = stage_turned (StandsAs stage) remaining contents flushed k old new false None refl other (λ e. h.turned) tt tt
-            h.others sink fine turns actors takers;
-        link = λ s a. inl (h.link s a);
-        reads = marks_by failed k old.web.nodes.items new.web.nodes.items new.failure h.others
-            (h.marks ∙ ap (λ b. failed_at failed k old.web.nodes.items || b) (sym (ap (is_read_of k) fine)))
-            (λ i o. ap (is_read_of i) fine);
-        writes = ap broken sink ∙ or_false _ ∙ ap (λ b. broken old.sink || b) (sym (ap is_write fine));
-        turns = turns;
-        actors = actors;
-        takers = takers;
-        full = h.full;
-        room = h.room;
-      }
-  settled (Err error.Read) h failure = record {
-    turned = stage_turned (StandsAs stage) remaining contents flushed k old new true (Some (ends.Read (k + 1))) refl other
-        (λ e. absurd (none-some _ (sym e)))
-        (λ s may. (source_here stage k old.web s may (h.read refl), refl, refl)) h.stays
-        h.others sink failure turns actors takers;
-    link = λ s a. inr (refl, λ e. none-some _ (sym e ∙ failure));
-    reads = marks_by failed k old.web.nodes.items new.web.nodes.items new.failure h.others
-        (h.marks ∙ ap (λ b. failed_at failed k old.web.nodes.items || b)
-        (sym (ap (is_read_of k) failure ∙ eq-eqb (k + 1) (k + 1) refl)))
-        (λ i o. ap (is_read_of i) failure ∙ ne_eqb (k + 1) (i + 1) (λ e. o (omega (arith, e))));
-    writes = ap broken sink ∙ or_false _ ∙ ap (λ b. broken old.sink || b) (sym (ap is_write failure));
-    turns = turns;
-    actors = actors;
-    takers = takers;
-    full = λ full. absurd (false≢true full);
-    room = λ taken. absurd (false≢true taken);
+-- An actor that may be asked.
+module _ {S R W : Type 0} {stage : S → StageMoment → Type 0} {contents : W → Option (List ℕ)} {flushed : W → Bool}
+    {k : ℕ} {net : Net S R W} (m : MayAsk (StandsAs stage) contents flushed k net) where
+  pub asked_at : IsAt (StandsAs stage) net.web (moved m.running.scene m.running.now.links)
+  asked_at = at_now m.running.at m.going
+
+  pub asked_web : Somewhere (IsAt (StandsAs stage) net.web)
+  asked_web = record { scene = _; holds = asked_at }
+
+  pub asked_stage : k ≢ length net.web.nodes.items → Somewhere (HasActor (StandsAs stage) k net.web)
+  asked_stage other =
+      record { scene = _; holds = record { at = asked_at; less = omega (arith, asked_at.stand.count, m.within, other) } }
+
+  pub asked_unfailed : net.failure ≡ None
+  asked_unfailed = m.running.at.failure ∙ unfailed_at m.running.at m.going
+
+  -- a stage whose link has room
+  pub asked_room : HasRoom k net.web → k < length net.web.nodes.items
+  asked_room r = omega (arith, slice_get_within net.web.links.items k r.link r.its, asked_at.stand.count, asked_at.stand.as_many)
+
+  pub asked_number : length net.web.nodes.items < 256
+  asked_number = omega (arith, m.running.at.plan.few, asked_at.stand.count)
+
+  pub asked_few : net.turns < 9223372036854775808
+  asked_few =
+      let r = m.running in
+      let few = turns_few (StandsAs stage) contents flushed r.start r.scene net r.now (reads_few stage) r.at
+      (unfailed_at r.at m.going) in
+      omega (arith, r.at.counted, few)
+
+-- Whether a stage is ready, as its web tells.
+pub stage_ready : {S R W : Type 0} {stands : Node S R → List ℕ → At → Type 0} {contents : W → Option (List ℕ)} {flushed : W → Bool}
+    {k : ℕ} {net : Net S R W} {b is : Bool} → k ≢ length net.web.nodes.items
+    → ((s : Scene) → HasActor stands k net.web s → b ≡ ready (plan_of s) s.size s.links k) → b ≡ is
+    → AtEach stands contents flushed net (λ start s now. result (plan_of s) now ≡ None → k ≤ s.count
+    → is_ready (plan_of s) s.size now k ≡ is)
+stage_ready {k = k} other tells told start s now h none within =
+    let at = at_now h none in
+    let less : k < s.count = omega (arith, at.stand.count, within, other) in
+    sym (ready_at h none k (sym told ∙ tells (moved s now.links) (record { at = at; less = less })))
+
+-- Whether the sink is, as what it takes from tells.
+pub sink_ready : {S R W : Type 0} {stands : Node S R → List ℕ → At → Type 0} {contents : W → Option (List ℕ)} {flushed : W → Bool}
+    {k : ℕ} {net : Net S R W} {b is : Bool} → k ≡ length net.web.nodes.items
+    → ((s : Scene) → IsAt stands net.web s → (s.links (last (plan_of s))).heard ≡ None
+    → b ≡ has_some (s.links (last (plan_of s)))) → b ≡ is
+    → AtEach stands contents flushed net (λ start s now. result (plan_of s) now ≡ None → is_ready (plan_of s) s.size now k ≡ is)
+sink_ready {k = k} here tells told start s now h none =
+    let at = at_now h none in
+    sym (ready_at h none k (sym told ∙ tells (moved s now.links) at (unheard_at h none)
+    ∙ sym (ready_sink (plan_of s) s.size k now.links (omega (arith, here, at.stand.count)))))
+
+-- How a run has failed by what a stage k has told, if it has.
+abbrev pub fault : ℕ → ReadError → RunResult
+fault k error.Read = ends.Read (k + 1)
+fault k error.Memory = ends.Memory
+
+abbrev pub fault_of : {A : Type 0} → ℕ → Result A ReadError → Option RunResult
+fault_of k (Ok x) = None
+fault_of k (Err e) = Some (fault k e)
+
+failed_so : (k : ℕ) (told : Result Moved ReadError) → failed_by k told None ≡ fault_of k told
+failed_so k (Ok moved) = refl
+failed_so k (Err error.Read) = refl
+failed_so k (Err error.Memory) = refl
+
+-- The marks of all readers, where it marks its own or none.
+told_marks : {S R A : Type 0} {remaining : R → Option (List ℕ)} {calls : R → ℕ} {failed : R → Bool} {k : ℕ} {old new : Web S R}
+    (told : Result A ReadError) → AsksOne remaining calls failed k old new told
+    → (i : ℕ) → failed_at failed i new.nodes.items ≡ (failed_at failed i old.nodes.items || is_read_of i (fault_of k told))
+told_marks {A = A} {failed = failed} {k} {old} {new} told a i = ⊎_elim
+    (λ (is : i ≡ k). rw (is, here told) a.marks)
+    (λ (o : i ≢ k). rw (a.others i o, apart told (λ e. o (omega (arith, e))), or-false) refl)
+    (cases_eq i k)
+  where
+    here : (told : Result A ReadError) → is_read_of k (fault_of k told) ≡ is_failed_read told
+    here (Ok x) = refl
+    here (Err error.Read) = eq-eqb (k + 1) (k + 1) refl
+    here (Err error.Memory) = refl
+
+    apart : (told : Result A ReadError) → (k + 1 ≡ i + 1 → ⊥) → is_read_of i (fault_of k told) ≡ false
+    apart (Ok x) o = refl
+    apart (Err error.Read) o = ne_eqb (k + 1) (i + 1) o
+    apart (Err error.Memory) o = refl
+
+unwritten : {A : Type 0} (k : ℕ) (told : Result A ReadError) → is_write (fault_of k told) ≡ false
+unwritten k (Ok x) = refl
+unwritten k (Err error.Read) = refl
+unwritten k (Err error.Memory) = refl
+
+module _ {S R W A : Type 0} {stage : S → StageMoment → Type 0} {remaining : R → Option (List ℕ)} {calls : R → ℕ} {failed : R → Bool}
+    {contents : W → Option (List ℕ)} {flushed : W → Bool} {k : ℕ} {old : Net S R W} {web : Web S R} where
+  pub told_turned : (told : Result A ReadError) → (k ≡ length old.web.nodes.items → ⊥)
+      → OnOk told (Fed (StandsAs stage) remaining k old.web web) → (told ≡ Err error.Read → IsKind true k old.web)
+      → AsksOne remaining calls failed k old.web web told
+      → HasTurned (StandsAs stage) remaining contents flushed k old
+      (record old { web = web; turns = old.turns + 1; failure = fault_of k told }) (is_some (fault_of k told))
+  told_turned (Ok x) other fed kind a = stage_turned None other a.others fed
+  told_turned (Err error.Memory) other fed kind a =
+      stage_turned (Some ends.Memory) other a.others ((λ s at less. refl), a.stays)
+  told_turned (Err error.Read) other fed kind a = stage_turned (Some (ends.Read (k + 1))) other a.others
+      ((λ s at less. (source_here stage k old.web s at less (kind refl), refl, refl)), a.stays)
+
+pub told_marked : {S R W A : Type 0} {remaining : R → Option (List ℕ)} {calls : R → ℕ} {failed : R → Bool} {broken : W → Bool}
+    {k n : ℕ} {old new : Net S R W} {web : Web S R} {answer told : Result A ReadError} → answer ≡ told
+    → AsksOne remaining calls failed k old.web web answer → new ≡ record old { web = web; turns = n; failure = fault_of k told }
+    → MarksFailures failed broken old new
+told_marked {broken = broken} {k = k} {old = old} {told = told} is a net = rw net (record {
+  reads = told_marks told (rw is at a);
+  writes = rw (unwritten k told, or-false) refl;
+  takers = refl;
+})
+
+module _ {S R W : Type 0} {stage : S → StageMoment → Type 0} {remaining : R → Option (List ℕ)} {calls : R → ℕ} {failed : R → Bool}
+    {contents : W → Option (List ℕ)} {flushed broken : W → Bool} {k : ℕ} {old : Net S R W} {web : Web S R}
+    (other : k ≡ length old.web.nodes.items → ⊥) where
+  gone : (told : Result Moved ReadError) → HasTold (StandsAs stage) remaining calls failed k old.web web told
+      → HasGone (StandsAs stage) remaining failed contents flushed broken k old
+      (record old { web = web; turns = old.turns + 1; failure = fault_of k told }) (turned_by k told)
+  gone (Ok moved) h = record {
+    turned = told_turned (Ok moved) other h.turned h.read h.asked;
+    link = λ s a. inl (h.link s a);
+    reads = told_marks (Ok moved) h.asked;
+    writes = rw or-false refl;
+    turns = refl;
+    actors = refl;
+    takers = refl;
+    full = h.full;
+    room = h.room;
   }
-  settled (Err error.Memory) h failure = record {
-    turned = stage_turned (StandsAs stage) remaining contents flushed k old new true (Some ends.Memory) refl other
-        (λ e. absurd (none-some _ (sym e))) (λ s may. refl) h.stays
-        h.others sink failure turns actors takers;
-    link = λ s a. inr (refl, λ e. none-some _ (sym e ∙ failure));
-    reads = marks_by failed k old.web.nodes.items new.web.nodes.items new.failure h.others
-        (h.marks ∙ ap (λ b. failed_at failed k old.web.nodes.items || b) (sym (ap (is_read_of k) failure)))
-        (λ i o. ap (is_read_of i) failure);
-    writes = ap broken sink ∙ or_false _ ∙ ap (λ b. broken old.sink || b) (sym (ap is_write failure));
-    turns = turns;
-    actors = actors;
-    takers = takers;
+  gone (Err e) h = record {
+    turned = told_turned (Err e) other tt h.read h.asked;
+    link = λ s a. inr (refl, λ none. none-some _ (sym none));
+    reads = told_marks (Err e) h.asked;
+    writes = rw (unwritten {A = Moved} k (Err e), or-false) refl;
+    turns = refl;
+    actors = refl;
+    takers = refl;
     full = λ full. absurd (false≢true full);
     room = λ taken. absurd (false≢true taken);
   }
 
-  -- It asks for no more than it may.
-  pub settled_little : (asked : W → ℕ) (told : Result Moved ReadError)
-      → HasTold (StandsAs stage) remaining calls failed k old.web new.web told
-      → AsksLittle (StandsAs stage) remaining calls failed contents flushed asked k old new
-  settled_little asked told h = record {
-    once = h.calls;
-    others = λ i o. shows_alike remaining calls failed old.web.nodes.items new.web.nodes.items i (h.others i o);
-    sink = λ start s now n ready here.
-        let at = is_at (StandsAs stage) contents flushed start s old now k n ready in
-        absurd (other (here ∙ sym at.stand.count));
-    unasked = λ apart. sink;
-  }
+  -- It is ready and has had its turn, in which it asks for no more than it may.
+  pub settled : {asked : W → ℕ} {told : Result Moved ReadError} {new : Net S R W} {answer : Turned}
+      → MayAsk (StandsAs stage) contents flushed k old
+      → AtEach (StandsAs stage) contents flushed old (λ start s now. result (plan_of s) now ≡ None → k ≤ s.count
+      → is_ready (plan_of s) s.size now k ≡ true)
+      → HasTold (StandsAs stage) remaining calls failed k old.web web told → answer ≡ turned_by k told
+      → new ≡ record old { web = web; turns = old.turns + 1; failure = failed_by k told old.failure }
+      → HasWorked (StandsAs stage) remaining calls failed contents flushed broken asked k old new answer
+  settled {told = told} m ready h turned net =
+      let so = ap (failed_by k told) (asked_unfailed m) ∙ failed_so k told in
+      rw (turned, net ∙ ap (λ f. record old { web = web; turns = old.turns + 1; failure = f }) so) (record {
+        ready = ready;
+        gone = gone told h;
+        little = record {
+          once = h.asked.once;
+          others = λ i o. shows_alike old.web.nodes.items web.nodes.items i (h.asked.others i o);
+          sink = λ start s now n r here.
+              absurd (other (here ∙ sym (at_now n (ready_result n k r)).stand.count));
+          unasked = λ apart. refl;
+        };
+      })

@@ -1,16 +1,14 @@
 -- What sources show where they stay as they were, and where no byte was read.
-use Rattle.std.proofs.Common.{◌≡◌, ℕ, Bool, false, List, [], Option, None, sym}
-use Rattle.std.proofs.Common.{ap, subst, slice_get}
+use Rattle.std.proofs.Common.{◌≡◌, ℕ, Bool, false, List, [], Option, None}
+use Rattle.std.proofs.Common.{ap, slice_get}
 use Rattle.hum_nodes.specs.declared.node.Node.{Node}
-use Rattle.hum_engine.specs.declared.web.Web.{Web}
 use Rattle.hum_nodes.specs.Nodes.{remaining_of, ended_of, calls_of, failed_of}
 use Rattle.hum_nodes.specs.Polls.{HasRead}
 use Rattle.hum_nodes.proofs.Followed.{read_none}
 use Rattle.hum_engine.specs.Readers.{ShowsSame, or_none, remaining_at, ended_at}
 use Rattle.hum_engine.specs.Scene.{only}
 
-module _ {S R : Type 0} (remaining : R → Option (List ℕ)) (calls : R → ℕ)
-    (failed : R → Bool) where
+module _ {S R : Type 0} {remaining : R → Option (List ℕ)} {calls : R → ℕ} {failed : R → Bool} where
   -- a node that is as it was shows what it showed
   pub shows_alike : (old new : List (Node S R)) (i : ℕ) → slice_get new i ≡ slice_get old i
       → ShowsSame remaining calls failed old new i
@@ -21,25 +19,7 @@ module _ {S R : Type 0} (remaining : R → Option (List ℕ)) (calls : R → ℕ
     mark = ap (or_none false (failed_of failed)) e;
   }
 
-  pub shows_nodes : (old new : Web S R) (i : ℕ) → new.nodes ≡ old.nodes
-      → ShowsSame remaining calls failed old.nodes.items new.nodes.items i
-  shows_nodes old new i e = shows_alike old.nodes.items new.nodes.items i (ap (λ nodes. slice_get nodes.items i) e)
-
   -- no byte was read
-  pub shows_read : (k : ℕ) (old new : List (Node S R)) (i : ℕ)
-      → ShowsSame remaining calls failed old new i → only k [] i ≡ []
-      → HasRead (ended_at i old) (ended_at i new) (remaining_at remaining i old)
-      (remaining_at remaining i new) (only k [] i)
-  shows_read k old new i h none =
-      subst
-      (λ b. HasRead (ended_at i old) b (remaining_at remaining i old) (remaining_at remaining i new)
-      (only k [] i))
-      (sym h.ends)
-      (subst
-      (λ r. HasRead (ended_at i old) (ended_at i old) (remaining_at remaining i old) r
-      (only k [] i))
-      (sym h.remains)
-      (subst
-      (HasRead (ended_at i old) (ended_at i old) (remaining_at remaining i old)
-      (remaining_at remaining i old))
-      (sym none) (read_none _ _)))
+  pub shows_read : (k : ℕ) {old new : List (Node S R)} (i : ℕ) → ShowsSame remaining calls failed old new i → only k [] i ≡ []
+      → HasRead (ended_at i old) (ended_at i new) (remaining_at remaining i old) (remaining_at remaining i new) (only k [] i)
+  shows_read k {old} i h none = rw (h.ends, h.remains, none) (read_none (ended_at i old) (remaining_at remaining i old))

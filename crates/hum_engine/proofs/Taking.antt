@@ -1,8 +1,7 @@
 -- What is taken from a link, by a stage or by the sink.
-use Rattle.std.proofs.Common.{◌≡◌, ◌≢◌, ◌∙◌, ℕ, zero, suc, ◌+◌, ◌<◌, Bool, true, false}
-use Rattle.std.proofs.Common.{◌||◌, if◌then◌else◌, nat_lt, List, [], ◌∷◌, ◌++◌, map, length, Option, Some, None}
-use Rattle.std.proofs.Common.{is_some, slice_get, slice_set, slice_index, refl, sym, ap, subst}
-use Rattle.std.proofs.Common.{⊎_elim, arith, append_assoc}
+use Rattle.std.proofs.Common.{◌≡◌, ◌≢◌, ◌∙◌, ℕ, zero, suc, ◌+◌, ◌<◌, Bool, true, false, ◌||◌, if◌then◌else◌, nat_lt, List, []}
+use Rattle.std.proofs.Common.{◌∷◌, ◌++◌, map, length, Option, Some, None, is_some, slice_get, slice_set, slice_index, refl}
+use Rattle.std.proofs.Common.{sym, ap, subst, ⊎_elim, arith, append_assoc}
 use Rattle.std.specs.List.{AllByRecursion}
 use Rattle.std.proofs.lemmas.Bool.{cases_eq, false≢true, and_parts}
 use Rattle.std.proofs.lemmas.Option.{none-some, same_Some, slice_get_within, slice_get-get_or}
@@ -22,15 +21,12 @@ use Rattle.hum_turns.proofs.Every.{reached}
 use Rattle.hum_nodes.specs.Doing.{Doing}
 use Rattle.hum_nodes.specs.Doing as does
 use Rattle.hum_nodes.specs.Fine.{fine}
-use Rattle.hum_nodes.specs.At.{At, doing_by, doing_of, change_at, after_change, MayChange}
-use Rattle.hum_nodes.specs.At.{with_record, with_end}
+use Rattle.hum_nodes.specs.At.{At, doing_by, doing_of, change_at, after_change, MayChange, with_record, with_end}
 use Rattle.hum_engine.specs.declared.link.Link as port
 use Rattle.hum_engine.specs.Links.{Goes, next_of}
 use Rattle.hum_engine.specs.Writing.{IsFront}
-use Rattle.hum_engine.specs.Scene.{Scene, plan_of, at_of, NodesStand, LinksStand, IsTree}
-use Rattle.hum_engine.specs.Scene.{IsReached}
-use Rattle.hum_engine.proofs.Moving.{Did, put_at, put_becomes, at_with, ins_of, at_same}
-use Rattle.hum_engine.proofs.Moving.{nodes_set, links_set}
+use Rattle.hum_engine.specs.Scene.{Scene, plan_of, at_of, NodesStand, LinksStand, IsTree, IsReached}
+use Rattle.hum_engine.proofs.Moving.{Did, put_at, put_becomes, ins_of, at_same, shows_same, nodes_set, links_set}
 
 -- What comes next from a link.
 
@@ -38,20 +34,15 @@ pub popped_read : (l : Link Row) (ws : List Row) → (popped l ws).read ≡ l.re
 popped_read l [] = refl
 popped_read l (x ∷ ws) = refl
 
-pub popped_given : (l : Link Row) (ws : List Row) → l.waiting ≡ ws → given (popped l ws) ≡ given l
+pub popped_given : {R : Type 0} (l : Link R) (ws : List R) → l.waiting ≡ ws → given (popped l ws) ≡ given l
 popped_given l [] w = refl
 popped_given l (x ∷ ws) w =
     append_assoc l.taken (x ∷ []) ws ∙ ap (λ v. l.taken ++ v) (sym w)
 
-abbrev flow_of : List Row → Option End → Flow Row
-flow_of xs o = record { items = xs; end = o }
-
 pub next_record : (l : Link Row) (ws : List Row) (x : Row) → Some x ≡ next_of ws
     → view (popped l ws) ≡ with_record x (view l)
 next_record l [] x h = absurd (none-some x (sym h))
-next_record l (y ∷ ws) x h =
-    let e = same_Some x y h in
-    ap (λ i. flow_of (l.taken ++ i ∷ []) l.heard) (sym e)
+next_record l (y ∷ ws) x h = rw (same_Some x y h)
 
 -- a prefix of the record is one of what is written next
 pub next_front : (ws : List Row) (x : Row) → Some x ≡ next_of ws
@@ -64,7 +55,7 @@ next_front (y ∷ ws) x h bytes front =
 pub next_end : (l : Link Row) (ws : List Row) (e : End) → None ≡ next_of ws → l.mark ≡ Some e
     → view (popped l ws) ≡ with_end e (view l)
 next_end l (y ∷ ws) e h is = absurd (none-some y h)
-next_end l [] e h is = ap (λ o. flow_of l.taken o) is
+next_end l [] e h is = rw is
 
 mark_of : (o : Option End) → is_some o ≡ true → (e : End) × (o ≡ Some e)
 mark_of None h = absurd (false≢true h)
@@ -83,8 +74,7 @@ pub map_other : (f g : ℕ → Flow Row) (s : ℕ) → ((i : ℕ) → i ≢ s �
     → ((j : ℕ) → slice_get ss j ≡ Some s → ⊥) → map f ss ≡ map g ss
 map_other f g s same [] never = refl
 map_other f g s same (t ∷ ss) never =
-    ap (λ x. x ∷ map f ss) (same t (λ e. never 0 (ap Some e)))
-    ∙ ap (λ l. g t ∷ l) (map_other f g s same ss (λ j h. never (suc j) h))
+    rw (same t (λ e. never 0 (ap Some e)), map_other f g s same ss (λ j h. never (suc j) h))
 
 map_change : (f g : ℕ → Flow Row) (s : ℕ) (change : Flow Row → Flow Row)
     → ((i : ℕ) → i ≢ s → f i ≡ g i) → f s ≡ change (g s) → (ss : List ℕ) (p : ℕ)
@@ -92,14 +82,15 @@ map_change : (f g : ℕ → Flow Row) (s : ℕ) (change : Flow Row → Flow Row)
     → map f ss ≡ change_at change p (map g ss)
 map_change f g s change same here [] p at once = absurd (none-some s at)
 map_change f g s change same here (t ∷ ss) zero at once =
-    let e = same_Some t s at in
-    ap (λ x. x ∷ map f ss) (subst (λ i. f i ≡ change (g i)) (sym e) here)
-    ∙ ap (λ l. change (g t) ∷ l)
-    (map_other f g s same ss (λ j h. let z = once (suc j) h in absurd (omega arith)))
+    rw (
+      subst (λ i. f i ≡ change (g i)) (sym (same_Some t s at)) here,
+      map_other f g s same ss (λ j h. let z = once (suc j) h in absurd (omega arith)),
+    )
 map_change f g s change same here (t ∷ ss) (suc p) at once =
-    ap (λ x. x ∷ map f ss) (same t (λ e. let z = once 0 (ap Some e) in absurd (omega arith)))
-    ∙ ap (λ l. g t ∷ l)
-    (map_change f g s change same here ss p at (λ j h. let z = once (suc j) h in omega arith))
+    rw (
+      same t (λ e. let z = once 0 (ap Some e) in absurd (omega arith)),
+      map_change f g s change same here ss p at (λ j h. let z = once (suc j) h in omega arith),
+    )
 
 each_at : (P : ℕ → Type 0) (ss : List ℕ) (j s : ℕ) → AllByRecursion P ss
     → slice_get ss j ≡ Some s → P s
@@ -132,12 +123,8 @@ module _ (s : Scene) (i : ℕ) where
       at_same s.kinds s.links taken j
       (map_other (λ t. view (taken t)) (λ t. view (s.links t)) i others_view
       (s.kinds j).stage.sources never)
-      (⊎_elim (λ e. subst (λ t. (taken t).read ≡ (s.links t).read) (sym e)
-      (ap (λ (t : Link Row). t.read) d.here ∙ popped_read l l.waiting))
-      (λ o. ap (λ (t : Link Row). t.read) (d.elsewhere j o)) (cases_eq j i))
-      (⊎_elim (λ e. subst (λ t. given (taken t) ≡ given (s.links t)) (sym e)
-      (ap given d.here ∙ popped_given l l.waiting refl))
-      (λ o. ap given (d.elsewhere j o)) (cases_eq j i))
+      (shows_same (λ (t : Link Row). t.read) d (popped_read l l.waiting) j)
+      (shows_same given d (popped_given l l.waiting refl) j)
 
   -- what its reader has then
   pub ins_taken : (k place : ℕ) (change : Flow Row → Flow Row) → k < s.count → IsTree s
@@ -168,10 +155,7 @@ module _ (s : Scene) (i : ℕ) where
     did_take k place node change tree less lower at v n =
         let d = taken_becomes in
         let here : at_of s.kinds taken k ≡ after_change change place (at_of s.kinds s.links k) =
-        ap (λ a. at_with (s.kinds k) a (taken k).read (length (given (taken k))))
-        (ins_taken k place change less tree at v)
-        ∙ ap (λ (t : Link Row). at_with (s.kinds k) (change_at change place (ins_of s.kinds s.links k))
-        t.read (length (given t))) (d.elsewhere k (λ e. absurd (omega arith))) in
+        rw (ins_taken k place change less tree at v, d.elsewhere k (λ e. absurd (omega arith))) in
         record {
           new = taken;
           does = d;
@@ -230,26 +214,15 @@ may_change s k place i change r less lower at some v wants =
           ((are_inputs plan s.size r.ok new each k less).each);
     }
 
-wants_place : Doing → ℕ
-wants_place does.Gives = 0
-wants_place does.Reads = 0
-wants_place (does.Wants p) = suc p
-wants_place (does.Done e) = 0
-
 wants_cases : (b : Bool) (w : Want) (e : End) (p : ℕ)
     → (if b then does.Gives else doing_by w e) ≡ does.Wants p → (b ≡ false) × (w ≡ Source p)
-unfolding wants_place
-wants_cases true w e p h = let z = ap wants_place h in absurd (omega arith)
-wants_cases false Bytes e p h = let z = ap wants_place h in absurd (omega arith)
-wants_cases false Nothing e p h = let z = ap wants_place h in absurd (omega arith)
-wants_cases false (Source j) e p h =
-    let z : suc j ≡ suc p = ap wants_place h in
-    let y : j ≡ p = omega arith in
-    (refl, ap Source y)
+wants_cases true w e p h = absurd cc
+wants_cases false Bytes e p h = absurd cc
+wants_cases false Nothing e p h = absurd cc
+wants_cases false (Source j) e p h = (refl, cc)
 
 -- A node that wants from a place wants from a lower stage.
 pub record WantsAt (s : Scene) (k place : ℕ) : Type 0 where
-  pub within : place < length (s.kinds k).stage.sources
   pub is_there : slice_get (s.kinds k).stage.sources place
       ≡ Some (slice_index (s.kinds k).stage.sources place)
   pub lower : slice_index (s.kinds k).stage.sources place < k
@@ -269,7 +242,6 @@ wants_at s k place ok less h =
     let w = slice_get_within a place x.input x.is_there in
     let within : place < length st.sources = omega arith in
     record {
-      within = within;
       is_there = slice_get-get_or st.sources place 0 within;
       lower = f.0;
     }

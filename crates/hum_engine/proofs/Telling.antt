@@ -1,69 +1,61 @@
--- Runs of sources that tell their bytes.
-use Rattle.std.proofs.Common.{◌≡◌, ◌∙◌, ℕ, Bool, true, List, [], ◌∷◌, ◌++◌, length, Option, Some, None}
-use Rattle.std.proofs.Common.{false, refl, sym, ap, subst, arith, inl, inr, ⊎_elim, slice_get}
+-- What a run has come to, also of sources that tell their bytes.
+use Rattle.std.proofs.Common.{◌≡◌, ◌∙◌, ◌||◌, ℕ, ◌+◌, ◌-◌, ◌*◌, ◌<◌, Bool, true, List, [], ◌∷◌, ◌++◌, length, Option, Some}
+use Rattle.std.proofs.Common.{None, Vec, Global, false, refl, sym, ap, subst, arith, inl, inr, ⊎_elim, slice_get}
+use Rattle.std.specs.Prelude.{is_some, IfSome}
 use Rattle.std.proofs.lemmas.Bool.{cases_Bool, false≢true}
 use Rattle.std.proofs.lemmas.Option.{none-some, same_Some}
 use Rattle.hum_record.specs.Row.{Row}
+use Rattle.hum_turns.specs.declared.order.Side.{Side}
 use Rattle.hum_turns.specs.declared.result.RunResult.{RunResult}
-use Rattle.hum_turns.specs.Failures.{Now}
-use Rattle.hum_turns.specs.Orders.{Order}
+use Rattle.hum_turns.specs.Plan.{last}
+use Rattle.hum_turns.specs.Failures.{Now, ended_by, result}
+use Rattle.hum_turns.specs.Orders.{Order, LeansTo, ready_list}
+use Rattle.hum_turns.proofs.Writing.{still}
 use Rattle.hum_stage.specs.Meaning.{Moment}
 use Rattle.hum_nodes.specs.At.{At}
 use Rattle.hum_nodes.specs.declared.node.Node.{Node}
 use Rattle.hum_nodes.specs.Nodes.{StandsAs, is_source, remaining_of}
-use Rattle.hum_nodes.proofs.Standing.{any_rest}
+use Rattle.hum_nodes.proofs.Followed.{read_none}
+use Rattle.hum_nodes.proofs.Standing.{any_rest, reads_few}
 use Rattle.hum_engine.specs.declared.net.Net.{Net}
-use Rattle.hum_engine.specs.Readers.{or_none, remaining_at, ended_at}
-use Rattle.hum_engine.specs.Scene.{Scene, at_of}
-use Rattle.hum_engine.specs.Nets.{NetAt, HasRun, Tells, HasRunOn}
+use Rattle.hum_engine.specs.declared.search.Search.{Search}
+use Rattle.hum_engine.specs.Readers.{or_none, remaining_at, ended_at, failed_at, is_read_of, is_write}
+use Rattle.hum_engine.specs.Scene.{Scene, plan_of, at_of, before_all}
+use Rattle.hum_engine.specs.Search.{beginning}
+use Rattle.hum_engine.specs.Nets.{NetAt, AtEach, IsNet, IsRunning, MayAdvance, HasAdvanced, MarksFailures, IsCloser}
+use Rattle.hum_engine.specs.Nets.{still_to_ask, Sees, HasRun, Tells, HasRunOn, RunsBy}
+use Rattle.hum_engine.proofs.Advancing.{pick_now, led_on, running_on, marks_none, advanced_none, advanced_twice, may_then}
+use Rattle.hum_engine.proofs.Bounds.{turns_few}
+use Rattle.hum_engine.proofs.Netting.{ends_alike, has_told, not_over}
+use Rattle.hum_engine.proofs.Running.{first_running, now_unfailed, unfailed_at, relisted, restated, runs_to, seen, told_marks}
+use Rattle.hum_engine.proofs.Running.{no_rests}
+use Rattle.hum_engine.proofs.Searching.{sees_first, leans_first, few_still}
 
 second_nil : (xs ys : List ℕ) → xs ++ ys ≡ [] → ys ≡ []
 second_nil [] ys h = h
 second_nil (x ∷ xs) ys h = let z = ap length h in absurd (omega (arith, z))
 
-module _ {S R W O : Type 0} (stage : S → Moment → Type 0)
-    (remaining : R → Option (List ℕ)) (contents : W → Option (List ℕ))
-    (flushed : W → Bool) (order : Order O) where
-  -- what is still to come of a node that isn't a source is nothing that it stands for
-  stands_alike : (n : Node S R) (a b : List ℕ) (t : At)
-      → (is_source n ≡ true → a ≡ b) → StandsAs stage n a t → StandsAs stage n b t
-  stands_alike n a b t same h = ⊎_elim
-      (λ is. subst (λ r. StandsAs stage n r t) (same is) h)
-      (λ isnt. any_rest stage n isnt a b t h)
-      (cases_Bool (is_source n))
-
-  rested : (start : Option (List ℕ)) (s : Scene) (net : Net S R W) (now : Now Row)
-      (rests : ℕ → List ℕ)
-      → ((i : ℕ) (n : Node S R) → slice_get net.web.nodes.items i ≡ Some n → is_source n ≡ true
-      → s.rests i ≡ rests i)
+module _ {S R W : Type 0} {stage : S → Moment → Type 0} {contents : W → Option (List ℕ)} {flushed : W → Bool} where
+  -- What is still to come of a node that isn't a source is nothing that it stands for.
+  rested : {start : Option (List ℕ)} {s : Scene} {net : Net S R W} {now : Now Row} {rests : ℕ → List ℕ}
+      → ((i : ℕ) (n : Node S R) → slice_get net.web.nodes.items i ≡ Some n → is_source n ≡ true → s.rests i ≡ rests i)
       → NetAt (StandsAs stage) contents flushed start s net now
       → NetAt (StandsAs stage) contents flushed start (record s { rests = rests }) net now
-  rested start s net now rests same h = record {
-    plan = h.plan;
-    first = h.first;
-    turns = h.turns;
-    begin = h.begin;
-    walk = h.walk;
-    counted = h.counted;
-    actors = h.actors;
-    takers = h.takers;
-    going = λ e.
-        let st = h.going e in
-        record {
-          count = st.count;
-          as_many = st.as_many;
-          nodes = λ i n at. stands_alike n (s.rests i) (rests i) (at_of s.kinds now.links i)
-              (same i n at) (st.nodes i n at);
-          links = st.links;
-        };
-    failure = h.failure;
-    written = h.written;
-    is_flushed = h.is_flushed;
-  }
+  rested {start} {s} {net} {now} {rests} same h = restated net.actors rests refl (λ e.
+      let st = h.going e in
+      record {
+        count = st.count;
+        as_many = st.as_many;
+        nodes = λ i n at. ⊎_elim
+            (λ is. subst (λ r. StandsAs stage n r (at_of s.kinds now.links i)) (same i n at is) (st.nodes i n at))
+            (λ isnt. any_rest stage n isnt (s.rests i) (rests i) (at_of s.kinds now.links i) (st.nodes i n at))
+            (cases_Bool (is_source n));
+        links = st.links;
+      }) h
 
-  module _ (o p : O) (old new : Net S R W) (by : RunResult)
+  module _ {O : Type 0} {remaining : R → Option (List ℕ)} {order : Order O} {o p : O} {old new : Net S R W} {by : RunResult}
       (ran : HasRun (StandsAs stage) remaining contents flushed order o p old new by)
-      (rests : ℕ → List ℕ) (tells : Tells remaining old.web.nodes.items rests) where
+      {rests : ℕ → List ℕ} (tells : Tells remaining old.web.nodes.items rests) where
     -- what is left of the bytes of a source
     Left : ℕ → Option (Node S R) → Type 0
     Left i o = (left : List ℕ)
@@ -96,16 +88,184 @@ module _ {S R W O : Type 0} (stage : S → Moment → Type 0)
     abbrev left_at : (i : ℕ) → Left i (slice_get old.web.nodes.items i)
     left_at i = left_by i (slice_get old.web.nodes.items i) refl
 
-    pub run_on : (start : Option (List ℕ)) (s : Scene) (now : Now Row) → s.rests ≡ rests
+    run_on : {start : Option (List ℕ)} {s : Scene} {now : Now Row} → s.rests ≡ rests
         → NetAt (StandsAs stage) contents flushed start s old now
         → HasRunOn (StandsAs stage) contents flushed order o p start s now new by
     unfolding Left
-    run_on start s now is h =
-        let left : ℕ → List ℕ = λ i. (left_at i).0 in
-        record {
-          left = left;
-          runs = ran.runs start (record s { rests = left }) now
-              (λ i over. (left_at i).2 over)
-              (rested start s old now (λ i. ran.reads i ++ left i)
-              (λ i n at src. ap (λ (r : ℕ → List ℕ). r i) is ∙ (left_at i).1 n at src) h);
+    run_on {start} {s} {now} is h = record {
+      left = λ i. (left_at i).0;
+      runs = ran.runs start (record s { rests = λ i. (left_at i).0 }) now (λ i over. (left_at i).2 over)
+          (rested (λ i n at src. ap (λ (r : ℕ → List ℕ). r i) is ∙ (left_at i).1 n at src) h);
+    }
+
+-- A run goes on. It began with these flags, by which so much was known of who is ready, and has come to this net.
+pub record Ran {S R W O : Type 0} (stands : Node S R → List ℕ → At → Type 0) (remaining : R → Option (List ℕ)) (failed : R → Bool)
+    (contents : W → Option (List ℕ)) (flushed broken : W → Bool) (order : Order O) (o p : O) (look : Option Search)
+    (old new : Net S R W) : Type 0 where
+  pub before : Option Search
+  pub flags : Vec Bool Global
+  pub len : length flags.items ≡ length old.actors.items
+  pub going : AtEach stands contents flushed old (λ start s now. result (plan_of s) now ≡ None)
+  pub sees : AtEach stands contents flushed old (λ start s now. Sees before s now (record old { actors = flags }))
+  pub leans : IfSome before (λ by. LeansTo by.side order.pick order.next o)
+  pub advanced : HasAdvanced stands remaining failed contents flushed broken order o p before look
+      (record old { actors = flags }) new false
+
+module _ {S R W O : Type 0} {stands : Node S R → List ℕ → At → Type 0} {remaining : R → Option (List ℕ)} {failed : R → Bool}
+    {contents : W → Option (List ℕ)} {flushed broken : W → Bool} {order : Order O} {o : O} {old : Net S R W}
+    (r : IsNet stands contents flushed old) where
+  pub begun : {look : Option Search} {new : Net S R W} (to : Option Side) {sink : ℕ} {over : Bool}
+      → AtEach stands contents flushed old (λ start s now. over ≡ is_some (result (plan_of s) now)) → over ≡ false
+      → new ≡ record old { actors = new.actors } → length new.actors.items ≡ length old.actors.items
+      → AtEach stands contents flushed old (λ start s now. new.actors.items ≡ ready_list (plan_of s) s.size now)
+      → IfSome to (λ side. LeansTo side order.pick order.next o) → sink ≡ length new.web.nodes.items → look ≡ beginning to sink
+      → Ran stands remaining failed contents flushed broken order o o look old new
+  begun {look} {new} to {sink} {over} tells on same len list leans count is =
+      let going : AtEach stands contents flushed old (λ start s now. result (plan_of s) now ≡ None) =
+      λ start s now h. not_over _ (tells start s now h) on in
+      let leans_so : IfSome look (λ by. LeansTo by.side order.pick order.next o) =
+      rw is (leans_first to sink order.pick order.next o leans) in
+      let first = first_running r in
+      record {
+        before = look;
+        flags = new.actors;
+        len = len;
+        going = going;
+        sees = λ start s now h. rw is (sees_first to sink s now (record old { actors = new.actors })
+            (count ∙ ap (λ (n : Net S R W). length n.web.nodes.items) same ∙ (h.going (now_unfailed h (going start s now h))).count)
+            (list start s now h));
+        leans = leans_so;
+        advanced = advanced_none leans_so (unfailed_at first.at (going first.start first.scene first.now first.at)) same;
+      }
+
+  module _ {p : O} {look : Option Search} {net : Net S R W}
+      (ran : Ran stands remaining failed contents flushed broken order o p look old net) where
+    may_begin : MayAdvance stands contents flushed order o ran.before (record old { actors = ran.flags })
+    may_begin = record {
+      step = record {
+        start = r.start;
+        scene = λ rests over. r.scene rests;
+        now = λ rests over. r.now rests;
+        rests = λ rests over. r.rests rests;
+        at = λ rests over. relisted refl ran.len (r.at rests over);
+        going = λ rests over. ran.going r.start (r.scene rests) (r.now rests) (r.at rests over);
+        sees = λ rests over. ran.sees r.start (r.scene rests) (r.now rests) (r.at rests over);
+      };
+      leans = ran.leans;
+    }
+
+    pub may_go : MayAdvance stands contents flushed order p look net
+    may_go = may_then may_begin ran.advanced
+
+    -- A step more.
+    module _ {q : O} {after : Option Search} {new : Net S R W} {is_over : Bool}
+        (more : HasAdvanced stands remaining failed contents flushed broken order p q look after net new is_over) where
+      all : HasAdvanced stands remaining failed contents flushed broken order o q ran.before after
+          (record old { actors = ran.flags }) new is_over
+      all = advanced_twice may_begin ran.advanced more
+
+      pub ran_on : is_over ≡ false → Ran stands remaining failed contents flushed broken order o q after old new
+      ran_on on = record {
+        before = ran.before;
+        flags = ran.flags;
+        len = ran.len;
+        going = ran.going;
+        sees = ran.sees;
+        leans = ran.leans;
+        advanced = subst (HasAdvanced stands remaining failed contents flushed broken order o q ran.before after
+            (record old { actors = ran.flags }) new) on all;
+      }
+
+      -- Its net stands for a moment still,
+      pub runs_on : IsRunning stands contents flushed new
+      runs_on = running_on may_go.step more.stepped (λ i. []) (no_rests new)
+
+      -- and it is over, as told.
+      module _ {by : RunResult} (over : is_over ≡ true)
+          (told : AtEach stands contents flushed new (λ start s now. (e : RunResult)
+          → result (plan_of s) now ≡ Some e → by ≡ e)) where
+        ends : AtEach stands contents flushed new (λ start s now. result (plan_of s) now ≡ Some by)
+        ends start s now h =
+            let l = led_on may_go.step more.stepped (λ i. []) (no_rests new) in
+            has_told _ by (l.1.tells
+            ∙ ap is_some (ends_alike stands contents flushed new may_go.step.start start _ s l.0.to now l.0.at h))
+            over (told start s now h)
+
+        has_run : HasRun stands remaining contents flushed order o q old new by
+        has_run = record {
+          reads = all.stepped.reads;
+          read = all.stepped.read;
+          runs = λ start s now over h.
+              let then : Scene = before_all all.stepped.reads s in
+              let d = (all.stepped.goes start s now over (relisted refl ran.len h) (ran.going start then now h)
+              (seen ran.before then s.rests now (record old { actors = ran.flags }) (ran.sees start then now h))).0 in
+              runs_to d (ends start s d.to d.at);
         }
+
+module _ {S R W O : Type 0} {stage : S → Moment → Type 0} {remaining : R → Option (List ℕ)} {failed : R → Bool}
+    {contents : W → Option (List ℕ)} {flushed broken : W → Bool} {order : Order O} {o : O} {old : Net S R W} where
+  -- What is said of a run whose end is told.
+  runs_by : {p : O} {new : Net S R W} {by : RunResult} → HasRun (StandsAs stage) remaining contents flushed order o p old new by
+      → IsRunning (StandsAs stage) contents flushed new
+      → AtEach (StandsAs stage) contents flushed new (λ start s now. result (plan_of s) now ≡ Some by)
+      → (old.failure ≡ None → MarksFailures failed broken old new)
+      → AtEach (StandsAs stage) contents flushed old (λ start s now. (e : RunResult) → result (plan_of s) now ≡ Some e
+      → (by ≡ e) × (new ≡ old) × (p ≡ o))
+      → RunsBy (StandsAs stage) remaining failed contents flushed broken order o p old new by
+  runs_by {p} {new} {by} ran w ends marks again =
+      let heard = (w.now.links (last (plan_of w.scene))).heard in
+      let told : (i : ℕ) → (is_read_of i new.failure ≡ is_read_of i (Some by)) × (is_write new.failure ≡ is_write (Some by)) =
+      λ i. told_marks i new.failure heard by (ap (λ f. ended_by f heard) w.at.failure ∙ ends w.start w.scene w.now w.at) in
+      record {
+        ran = ran;
+        whole = λ start s now tells h. run_on ran tells refl h;
+        reads = λ none i. (marks none).reads i ∙ ap (λ b. failed_at failed i old.web.nodes.items || b) (told i).0;
+        writes = λ none. (marks none).writes ∙ ap (λ b. broken old.sink || b) (told 0).1;
+        again = again;
+      }
+
+  -- It was over already.
+  pub ran_already : {over : Bool} {by : RunResult} → IsNet (StandsAs stage) contents flushed old
+      → AtEach (StandsAs stage) contents flushed old (λ start s now. over ≡ is_some (result (plan_of s) now)) → over ≡ true
+      → AtEach (StandsAs stage) contents flushed old (λ start s now. (e : RunResult) → result (plan_of s) now ≡ Some e → by ≡ e)
+      → RunsBy (StandsAs stage) remaining failed contents flushed broken order o o old old by
+  ran_already {over} {by} r tells is told =
+      let ends : AtEach (StandsAs stage) contents flushed old (λ start s now. result (plan_of s) now ≡ Some by) =
+      λ start s now h. has_told _ by (tells start s now h) is (told start s now h) in
+      runs_by (record {
+        reads = λ i. [];
+        read = λ i. read_none _ _;
+        runs = λ start s now over h.
+            runs_to (record { turns = []; to = now; driven = (still now, refl); at = h }) (ends start s now h);
+      })
+      (first_running r) ends (λ none. marks_none refl none) (λ start s now h e is. (told start s now h e is, refl, refl))
+
+  module _ {p q : O} {look after : Option Search} {net new : Net S R W} {is_over : Bool}
+      (r : IsNet (StandsAs stage) contents flushed old)
+      (ran : Ran (StandsAs stage) remaining failed contents flushed broken order o p look old net)
+      (more : HasAdvanced (StandsAs stage) remaining failed contents flushed broken order p q look after net new is_over) where
+    pub ran_out : {by : RunResult} → is_over ≡ true
+        → AtEach (StandsAs stage) contents flushed new (λ start s now. (e : RunResult) → result (plan_of s) now ≡ Some e → by ≡ e)
+        → RunsBy (StandsAs stage) remaining failed contents flushed broken order o q old new by
+    ran_out over told =
+        let marks = (all r ran more).marks in
+        runs_by (has_run r ran more over told) (runs_on r ran more) (ends r ran more over told)
+        (λ none. record { reads = marks.reads; writes = marks.writes; takers = marks.takers })
+        (λ start s now h e is. absurd (none-some e (sym (ran.going start s now h) ∙ is)))
+
+    -- The turns that are left become fewer.
+    pub fewer_left : is_over ≡ false → IsCloser look after net new is_over
+        → (18446744073709551616 - new.turns) * 257 + still_to_ask after
+        < (18446744073709551616 - net.turns) * 257 + still_to_ask look
+    fewer_left on closer =
+        let m = pick_now (may_go r ran).step in
+        let w = m.running in
+        let few = turns_few (StandsAs stage) contents flushed w.start w.scene net w.now (reads_few stage) w.at
+        (now_unfailed w.at m.going) in
+        ⊎_elim
+        (λ over. absurd (false≢true (sym on ∙ over)))
+        (λ goes. ⊎_elim
+        (λ turned. omega (arith, few, w.at.counted, turned, few_still after))
+        (λ past. omega (arith, few, w.at.counted, past.0, past.1))
+        goes)
+        closer

@@ -1,6 +1,6 @@
 -- What a turn that is tried has taken.
-use Rattle.std.proofs.Common.{◌≡◌, ◌∙◌, ℕ, true, ◌||◌, nat_lt, List, [], ◌∷◌, length, Option, Some, None, is_some}
-use Rattle.std.proofs.Common.{refl, sym, ap, ap₂, get_or, slice_set, Global, ◌≤◌, lt-ltb, arith}
+use Rattle.std.proofs.Common.{◌≡◌, ◌∙◌, ℕ, ◌||◌, nat_lt, List, [], ◌∷◌, length, Option, Some, None, is_some, refl, sym, ap}
+use Rattle.std.proofs.Common.{ap₂, get_or, slice_set, Global, ◌≤◌, lt-ltb, arith}
 use Rattle.std.specs.declared.vec.Vec.{Vec}
 use Rattle.std.specs.Vec.{with_item}
 use Rattle.hum_nodes.specs.declared.node.Node.{Node}
@@ -14,13 +14,11 @@ use Rattle.hum_stage.specs.declared.faults.End.{End}
 use Rattle.hum_engine.specs.declared.link.Link as port
 use Rattle.hum_engine.specs.declared.link.Taken.{Taken}
 use Rattle.hum_engine.specs.declared.link.Taken.TheVariants as taken
-use Rattle.hum_nodes.specs.At.{At, with_end}
-use Rattle.hum_nodes.specs.Doing.{Doing}
+use Rattle.hum_nodes.specs.At.{with_record, with_end}
 use Rattle.hum_turns.specs.Links.{view}
-use Rattle.hum_turns.specs.Turns.{state, can}
 use Rattle.hum_engine.specs.Links.{IsLink, Tells, next_of, taken_of, is_some_of}
-use Rattle.hum_engine.specs.Scene.{Scene, plan_of, IsAbout, MayAct}
-use Rattle.hum_engine.proofs.Taking.{left, next_end}
+use Rattle.hum_engine.specs.Scene.{Scene}
+use Rattle.hum_engine.proofs.Taking.{left, next_record, next_end}
 
 abbrev pub row_of : Taken → Option Row
 row_of (taken.Record row) = Some row
@@ -50,31 +48,30 @@ some_taken [] (Some end) = refl
 some_taken [] None = refl
 
 -- What a link tells of what was taken from it.
-module _ (link : port.Link) (answer : Taken)
+module _ {link : port.Link} {answer : Taken}
     (tells : Tells link answer (λ size l. taken_of l.waiting l.mark)) where
-  pub tells_row : Tells link (row_of answer) (λ size l. next_of l.waiting)
+  tells_row : Tells link (row_of answer) (λ size l. next_of l.waiting)
   tells_row size l h = ap row_of (tells size l h) ∙ row_next l.waiting l.mark
 
   pub tells_some : Tells link (is_some_of answer) (λ size l. nat_lt 0 (length l.waiting) || is_some l.mark)
   tells_some size l h = ap is_some_of (tells size l h) ∙ some_taken l.waiting l.mark
 
+  -- where it is a record
+  pub record_left : (s : Scene) (i : ℕ) {row : Row} → IsLink s.size link (s.links i) → answer ≡ taken.Record row
+      → view (left s i) ≡ with_record row (view (s.links i))
+  record_left s i {row} here is =
+      next_record (s.links i) (s.links i).waiting row (sym (ap row_of is) ∙ tells_row s.size (s.links i) here)
+
   -- where it is an end
-  pub end_left : (s : Scene) (i : ℕ) (end : End) → IsLink s.size link (s.links i) → answer ≡ taken.End end
+  pub end_left : (s : Scene) (i : ℕ) {end : End} → IsLink s.size link (s.links i) → answer ≡ taken.End end
       → view (left s i) ≡ with_end end (view (s.links i))
-  end_left s i end here is =
+  end_left s i {end} here is =
       next_end (s.links i) (s.links i).waiting end (sym (ap row_of is) ∙ tells_row s.size (s.links i) here)
       (sym (end_mark (s.links i).waiting (s.links i).mark end (sym (ap end_of is) ∙ ap end_of (tells s.size (s.links i) here))))
 
--- A stage that is about to do something that it can do.
-pub may_of : {S R : Type 0} (stands : Node S R → List ℕ → At → Type 0) (k : ℕ) (doing : Doing) (web : Web S R)
-    (s : Scene) → IsAbout stands k doing web s → can s.size s.links k (state (plan_of s) s.links k) ≡ true
-    → MayAct stands k doing web s
-may_of stands k doing web s a can =
-    record { at = a.at; less = a.less; bytes = a.bytes; does = a.does; can = can }
-
 -- What is put back where it lay changes nothing.
-pub with_back : {X H : Type 0} (v : Vec X H) (i : ℕ) (x : X) → x ≡ get_or v.items i x → with_item v i x ≡ v
-with_back {X} v i x e =
+pub with_back : {X H : Type 0} (v : Vec X H) (i : ℕ) {x : X} → x ≡ get_or v.items i x → with_item v i x ≡ v
+with_back {X} v i {x} e =
     let p : slice_set v.items i x ≡ v.items = ap (slice_set v.items i) e ∙ set-get_or v.items i x in
     λ j. record {
       ptr = v.ptr;
@@ -86,6 +83,6 @@ with_back {X} v i x e =
       small = v.small;
     }
 
-pub web_back : {S R : Type 0} (web : Web S R) (nodes : Vec (Node S R) Global) (links : Vec port.Link Global)
+pub web_back : {S R : Type 0} {web : Web S R} {nodes : Vec (Node S R) Global} {links : Vec port.Link Global}
     → nodes ≡ web.nodes → links ≡ web.links → record web { nodes = nodes; links = links } ≡ web
-web_back {S} {R} web nodes links n l = ap₂ (λ (x : Vec (Node S R) Global) (y : Vec port.Link Global). record web { nodes = x; links = y }) n l
+web_back {S} {R} {web} n l = ap₂ (λ (x : Vec (Node S R) Global) (y : Vec port.Link Global). record web { nodes = x; links = y }) n l

@@ -1,7 +1,7 @@
 -- Each record that a stage of one input has taken was taken when the stage wanted it.
-use Rattle.std.proofs.Common.{◌≡◌, ◌≢◌, ℕ, ◌+◌, ◌<◌, ◌≤◌, Bool, true, false, if◌then◌else◌}
-use Rattle.std.proofs.Common.{List, [], ◌∷◌, ◌++◌, map, length, take, slice_get, Some, is_some, nat_lt}
-use Rattle.std.proofs.Common.{refl, sym, ap, ◌∙◌, subst, ⊎_elim, arith, ltb-false, length-append}
+use Rattle.std.proofs.Common.{◌≡◌, ◌≢◌, ℕ, ◌<◌, ◌≤◌, Bool, true, false, if◌then◌else◌, List, [], ◌∷◌, ◌++◌, map, length}
+use Rattle.std.proofs.Common.{take, slice_get, Some, is_some, nat_lt, refl, sym, ap, ◌∙◌, subst, ⊎_elim, arith, ltb-false}
+use Rattle.std.proofs.Common.{length-append}
 use Rattle.std.specs.List.{AllByRecursion}
 use Rattle.std.proofs.lemmas.Bool.{cases_eq, cases_lt}
 use Rattle.std.proofs.lemmas.List.{take-append-le, take_all}
@@ -12,8 +12,7 @@ use Rattle.hum_stage.specs.Outcome.{held_of as held_by}
 use Rattle.hum_turns.specs.Flow.{Flow, AllFine}
 use Rattle.hum_turns.specs.Plan.{Want, Plan, IsPlan}
 use Rattle.hum_turns.specs.Links.{Link, Moment, given, view, inputs, IsOpening, Same}
-use Rattle.hum_turns.specs.Turns.{State, Gives, Reads, Takes, Ends, by_want, state, popped}
-use Rattle.hum_turns.specs.Turns.{Becomes, Does, Turns, Run}
+use Rattle.hum_turns.specs.Turns.{State, Gives, Reads, Takes, Ends, by_want, state, popped, Becomes, Does, Turns, Run}
 use Rattle.hum_turns.proofs.States.{state_is, taker, last_next}
 use Rattle.hum_turns.proofs.Keeping.{fine_inputs}
 use Rattle.hum_turns.proofs.Every.{reached}
@@ -22,6 +21,8 @@ use Rattle.hum_nodes.specs.Fine.{fine}
 use Rattle.hum_nodes.specs.Single.{single}
 use Rattle.hum_nodes.proofs.Fining.{fine_is}
 use Rattle.hum_engine.specs.Scene.{Scene, plan_of, held_of, IsReached}
+use Rattle.hum_engine.proofs.Moving.{shows_same}
+use Rattle.hum_engine.proofs.Taking.{popped_given}
 use Rattle.hum_engine.proofs.Turning.{held_some}
 
 -- Each record that was taken from link s was taken when as many had been given onto link k as were
@@ -34,17 +35,6 @@ takes_not : (ss : List ℕ) (s : ℕ) (b : Bool) (w : Want) → (if b then Gives
     → b ≡ false
 takes_not ss s true w h = cc
 takes_not ss s false w h = refl
-
--- the record that is taken was given before
-popped_given : {R : Type 0} (l : Link R) (ws : List R) → l.waiting ≡ ws
-    → length (given (popped l ws)) ≡ length (given l)
-popped_given l [] e = refl
-popped_given l (x ∷ rest) e =
-    let a = length-append (l.taken ++ x ∷ []) rest in
-    let b = length-append l.taken (x ∷ []) in
-    let c = length-append l.taken l.waiting in
-    let d : length l.waiting ≡ length rest + 1 = ap length e ∙ omega arith in
-    omega (arith, a, b, c, d)
 
 module _ {R : Type 0} (many : List R → ℕ) (k s : ℕ) where
   -- the same was taken, and no less given
@@ -64,26 +54,19 @@ module _ {R : Type 0} (many : List R → ℕ) (k s : ℕ) where
   -- a link is changed, from which nothing is taken, and onto which no less was given
   module _ (i : ℕ) (l : Link R) (old new : Moment R) (d : Becomes i l old new)
       (taken : l.taken ≡ (old i).taken) (more : length (given (old i)) ≤ length (given l)) where
-    taken_at : (j : ℕ) → (new j).taken ≡ (old j).taken
-    taken_at j =
+    given_at : length (given (old k)) ≤ length (given (new k))
+    given_at =
         ⊎_elim
-        (λ here. subst (λ x. (new x).taken ≡ (old x).taken) (sym here)
-        (ap (λ (v : Link R). v.taken) d.here ∙ taken))
-        (λ there. ap (λ (v : Link R). v.taken) (d.elsewhere j there))
-        (cases_eq j i)
-
-    given_at : (j : ℕ) → length (given (old j)) ≤ length (given (new j))
-    given_at j =
-        ⊎_elim
-        (λ here. subst (λ x. length (given (old x)) ≤ length (given (new x))) (sym here)
-        (subst (λ v. length (given (old i)) ≤ length (given v)) (sym d.here) more))
-        (λ there.
-        let e = ap (λ (v : Link R). length (given v)) (d.elsewhere j there) in
-        omega (arith, e))
-        (cases_eq j i)
+        (λ (here : k ≡ i).
+        let a = ap (λ x. length (given (old x))) here in
+        let b = ap (λ x. length (given (new x))) here in
+        let c = ap (λ (v : Link R). length (given v)) d.here in
+        omega (arith, more, a, b, c))
+        (λ there. omega (arith, ap (λ (v : Link R). length (given v)) (d.elsewhere k there)))
+        (cases_eq k i)
 
     touched : Wanted many k s old → Wanted many k s new
-    touched h = same_taken old new (taken_at s) (given_at k) h
+    touched h = same_taken old new (shows_same (λ (v : Link R). v.taken) d taken s) given_at h
 
   -- the next record is taken from link s
   take_here : (ws : List R) (old new : Moment R) → k ≢ s → Becomes s (popped (old s) ws) old new
@@ -141,17 +124,9 @@ module _ {R : Type 0} (plan : Plan R) (ok : IsPlan plan) (many : List R → ℕ)
       (subst (λ x. Becomes x (popped (old x) (old x).waiting) old new) here d)
       (gave old (subst (λ x. state plan old x ≡ Takes s) is by)) h)
       (λ there.
-      same_taken many k s old new
-      (ap (λ (v : Link R). v.taken) (d.elsewhere s (λ same. there (sym same))))
-      (⊎_elim
-      (λ here.
-      let e : length (given (new k)) ≡ length (given (old k)) =
-      subst (λ x. length (given (new x)) ≡ length (given (old x))) (sym here)
-      (ap (λ (v : Link R). length (given v)) d.here ∙ popped_given (old t) (old t).waiting refl) in
-      omega (arith, e))
-      (λ other.
-      let e = ap (λ (v : Link R). length (given v)) (d.elsewhere k other) in omega (arith, e))
-      (cases_eq k t)) h)
+      let e = shows_same (λ (v : Link R). length (given v)) d (ap length (popped_given (old t) (old t).waiting refl)) k in
+      same_taken many k s old new (ap (λ (v : Link R). v.taken) (d.elsewhere s (λ same. there (sym same))))
+      (omega (arith, e)) h)
       (cases_eq t s)
 
   does_keeps : (i : ℕ) (st : State) (old new : Moment R) → state plan old i ≡ st

@@ -1,7 +1,7 @@
 -- What a net stands for: its web, what was written, and how it failed.
 use Rattle.std.specs.Prelude.{◌≡◌, ◌≢◌, ◌⊎◌, ℕ, ◌+◌, ◌<◌, ◌≤◌}
-use Rattle.std.specs.Prelude.{Bool, true, false, ◌||◌, List, [], ◌∷◌, ◌++◌, length}
-use Rattle.std.specs.Prelude.{Option, Some, None, is_some, slice_get, Result, Ok, Err}
+use Rattle.std.specs.Prelude.{Bool, true, false, ◌||◌, if◌then◌else◌, List, [], ◌∷◌, ◌++◌, length}
+use Rattle.std.specs.Prelude.{Option, Some, None, IfSome, is_some, slice_get, Result, Ok, Err}
 use Rattle.std.specs.Io.KnownBytes.{Appends}
 use Rattle.hum_text.specs.Calls.{counted}
 use Rattle.hum_record.specs.Row.{Row, text_of}
@@ -12,7 +12,7 @@ use Rattle.hum_turns.specs.declared.result.RunResult.TheVariants as ends
 use Rattle.hum_turns.specs.Flow.{Begins}
 use Rattle.hum_turns.specs.Plan.{Plan, KeepsFine, last}
 use Rattle.hum_turns.specs.Meaning.{plan_meaning, first_fault, IsNumbered}
-use Rattle.hum_turns.specs.Orders.{Order, Driven, ready_list, choice}
+use Rattle.hum_turns.specs.Orders.{Order, Driven, LeansTo, ready_list, choice}
 use Rattle.hum_turns.specs.declared.order.Side.TheVariants as side
 use Rattle.hum_turns.specs.Links.{Moment, has_room, has_some}
 use Rattle.hum_turns.specs.Turns.{Gives, Takes, state}
@@ -40,7 +40,20 @@ use Rattle.hum_engine.specs.Readers.{ended_at, remaining_at, calls_at, failed_at
 use Rattle.hum_engine.specs.Scene.{Scene, plan_of, moved, before_all, Stands, IsAt, IsNetPlan, IsBegun, Done}
 use Rattle.hum_engine.specs.Scene.{IsActor, AreTakers, TakesFrom, IsFull, HasRoom, HasIdleLink, IsWaiting}
 use Rattle.hum_engine.specs.declared.search.Search.{Search}
+use Rattle.hum_engine.specs.Writing.{WroteFront as WroteSome}
 use Rattle.hum_engine.specs.Search.{IsNearer, left_to_ask}
+
+-- A record was written. Where that has failed a prefix of it was, and the run is over.
+pub record HasSent {S R W : Type 0} (contents : W → Option (List ℕ)) (failed : W → Bool) (calls : W → ℕ) (row : Row)
+    (old new : Net S R W) (is_over : Bool) : Type 0 where
+  pub net : new ≡ record old {
+    sink = new.sink;
+    failure = if is_over then Some ends.Write else old.failure;
+  }
+  pub whole : is_over ≡ false → Appends (contents old.sink) (contents new.sink) (text_of row ++ 10 ∷ [])
+  pub part : is_over ≡ true → WroteSome (contents old.sink) (contents new.sink) (text_of row ++ 10 ∷ [])
+  pub marked : failed new.sink ≡ (failed old.sink || is_over)
+  pub few : calls new.sink ≤ calls old.sink + length (text_of row ++ 10 ∷ [])
 
 -- The sink has taken what came next, and has written the text of that; behind the end it was flushed,
 -- and the run is over.
@@ -206,6 +219,14 @@ pub record HasPicked {O : Type 0} (order : Order O) (plan : Plan Row) (size : �
   pub choice : actor ≡ choice order plan size o now
   pub next : p ≡ order.next o (ready_list plan size now)
 
+-- The actor that is asked next: where the search stands or, without one, the order's pick.
+pub record IsNext {S R W O : Type 0} (stands : Node S R → List ℕ → At → Type 0)
+    (contents : W → Option (List ℕ)) (flushed : W → Bool) (order : Order O) (o p : O) (look : Option Search)
+    (net : Net S R W) (actor : ℕ) : Type 0 where
+  pub from : IfSome look (λ look. (actor ≡ look.from) × (p ≡ o))
+  pub picked : look ≡ None → AtEach stands contents flushed net (λ start s now. result (plan_of s) now ≡ None
+      → Sees None s now net → HasPicked order (plan_of s) s.size o p now actor)
+
 -- how a net has failed whose stage k has told this of its turn; as before, where that didn't fail
 abbrev pub failed_by : ℕ → Result Moved ReadError → Option RunResult → Option RunResult
 failed_by k (Ok moved) failure = failure
@@ -299,6 +320,23 @@ pub record AsksLittle {S R W : Type 0} (stands : Node S R → List ℕ → At �
       → CallsSink (asked old.sink) (asked new.sink) (now.links (last (plan_of s))).waiting
   pub unasked : k ≢ length old.web.nodes.items → new.sink ≡ old.sink
 
+-- While the run goes on the actor isn't ready, and nothing has changed.
+pub record HasRested {S R W : Type 0} (stands : Node S R → List ℕ → At → Type 0)
+    (contents : W → Option (List ℕ)) (flushed : W → Bool) (k : ℕ) (old new : Net S R W) : Type 0 where
+  pub idle : AtEach stands contents flushed old (λ start s now. result (plan_of s) now ≡ None → k ≤ s.count
+      → is_ready (plan_of s) s.size now k ≡ false)
+  pub same : new ≡ old
+
+-- It is ready and has had its turn, in which it asks little.
+pub record HasWorked {S R W : Type 0} (stands : Node S R → List ℕ → At → Type 0)
+    (remaining : R → Option (List ℕ)) (calls : R → ℕ) (failed : R → Bool)
+    (contents : W → Option (List ℕ)) (flushed broken : W → Bool) (asked : W → ℕ) (k : ℕ)
+    (old new : Net S R W) (answer : Turned) : Type 0 where
+  pub ready : AtEach stands contents flushed old (λ start s now. result (plan_of s) now ≡ None → k ≤ s.count
+      → is_ready (plan_of s) s.size now k ≡ true)
+  pub gone : HasGone stands remaining failed contents flushed broken k old new answer
+  pub little : AsksLittle stands remaining calls failed contents flushed asked k old new
+
 -- one of its actors, while no failure has ended the run
 pub record IsGoing {S R W : Type 0} (stands : Node S R → List ℕ → At → Type 0)
     (contents : W → Option (List ℕ)) (flushed : W → Bool) (k : ℕ) (net : Net S R W) : Type 0 where
@@ -359,6 +397,16 @@ pub record HasStepped {S R W O : Type 0} (stands : Node S R → List ℕ → At 
       → result (plan_of s) now ≡ None → Sees before s now old
       → (d : Leads stands contents flushed order o p start s now new)
       × Watches after is_over s d.to new
+
+-- It has gone on by some turns, and the order leans there still. A failed read or write has ended it exactly where
+-- a call has failed.
+pub record HasAdvanced {S R W O : Type 0} (stands : Node S R → List ℕ → At → Type 0)
+    (remaining : R → Option (List ℕ)) (failed : R → Bool) (contents : W → Option (List ℕ))
+    (flushed broken : W → Bool) (order : Order O) (o p : O) (before after : Option Search)
+    (old new : Net S R W) (is_over : Bool) : Type 0 where
+  pub stepped : HasStepped stands remaining contents flushed order o p before after old new is_over
+  pub leans : IfSome after (λ look. LeansTo look.side order.pick order.next p)
+  pub marks : MarksFailures failed broken old new
 
 -- how many actors are still asked at most before one is ready
 abbrev pub still_to_ask : Option Search → ℕ
@@ -427,6 +475,13 @@ pub record MayStep {S R W : Type 0} (stands : Node S R → List ℕ → At → T
       → result (plan_of (scene rests over)) (now rests over) ≡ None
   pub sees : (rests : ℕ → List ℕ) (over : AreOver net.web.nodes.items rests)
       → Sees look (scene rests over) (now rests over) net
+
+-- A run goes on, by an order that leans to the side that the search looks from.
+pub record MayAdvance {S R W O : Type 0} (stands : Node S R → List ℕ → At → Type 0)
+    (contents : W → Option (List ℕ)) (flushed : W → Bool) (order : Order O) (o : O) (look : Option Search)
+    (net : Net S R W) : Type 0 where
+  pub step : MayStep stands contents flushed look net
+  pub leans : IfSome look (λ look. LeansTo look.side order.pick order.next o)
 
 -- The run goes on however the bytes do, and this is a stage on whose link nothing lies.
 pub record MayHand {S R W : Type 0} (stands : Node S R → List ℕ → At → Type 0)

@@ -1,29 +1,29 @@
 //! A web whose last stage is written.
-ghost use Rattle.std.specs.Prelude.{◌≡◌, ◌≢◌, ◌≤◌, ◌<◌, ◌+◌, ◌-◌, ◌||◌, ℕ, List, Option, None, Some};
-ghost use Rattle.std.specs.Prelude.{IfSome, IfOk, IfErr, length, is_some, true, false, ◌^◌};
-ghost use Rattle.std.specs.Prelude.{slice_set};
+ghost use Rattle.std.specs.Prelude.{◌≡◌, ◌≢◌, ◌≤◌, ◌<◌, ◌+◌, ◌-◌, ◌||◌, ◌^◌, ℕ, true, false};
+ghost use Rattle.std.specs.Prelude.{List, length, slice_set, Option, None, Some, is_some};
+ghost use Rattle.std.specs.Prelude.{IfSome, MatchOption, IfOk, IfErr};
 ghost use Rattle.hum_record.specs.Row.{Row};
 ghost use Rattle.hum_turns.specs.Links.{linked, has_some};
+ghost use Rattle.hum_turns.specs.Plan.{last};
 ghost use Rattle.hum_turns.specs.declared.result.RunResult.TheVariants as ends;
 ghost use Rattle.hum_turns.specs.Failures.{Now, IsFirst, is_ready, result as ended};
-ghost use Rattle.hum_turns.specs.Orders.{ready_list, LeansTo};
-ghost use Rattle.hum_nodes.specs.Nodes.{StandsAs};
-ghost use Rattle.hum_nodes.specs.Polls.{HasStayed};
-ghost use Rattle.hum_engine.specs.Readers.{ShowsSame, remaining_at, ended_at, failed_at};
-ghost use Rattle.hum_engine.specs.Readers.{is_read_of, is_write};
-ghost use Rattle.hum_engine.specs.Scene.{Scene, plan_of, Somewhere, IsAt, IsNetPlan, IsBegun};
-ghost use Rattle.hum_engine.specs.Scene.{KeepsOthers, held_of, HoldsFew, HasRoom};
-ghost use Rattle.hum_engine.specs.Scene.{IsKind, IsOffered, HasAccepted, WantsFrom, HasActor, IsWaiting};
-ghost use Rattle.hum_turns.specs.Plan.{last};
-ghost use Rattle.hum_engine.specs.Search.{is_left};
-ghost use Rattle.hum_engine.specs.Nets.{MayWrite, CallsSink, SinkWent, MayGo, IsRunning};
-ghost use Rattle.hum_engine.specs.declared.net.Stepped.TheVariants as steps;
+ghost use Rattle.hum_turns.specs.Orders.{ready_list};
 ghost use Rattle.hum_turns.specs.Counts.{turns_of, most, most_in_all};
 ghost use Rattle.hum_turns.specs.Holds.{SomeReady};
-ghost use Rattle.hum_engine.specs.Nets.{WroteFront, IsGoing};
-ghost use Rattle.hum_engine.specs.Nets.{IsAmong, NetAt, AreBegun, RunsBy, IsNet};
-ghost use Rattle.hum_engine.specs.Nets.{Sees, MayPick, HasPicked, MayAsk, HasGone, turned_by, failed_by, is_over, MayStep, HasStepped};
-ghost use Rattle.hum_engine.specs.Nets.{IsCloser, AsksLittle, AtEach, MayHand, HasHanded, HasHandedOn, MarksFailures};
+ghost use Rattle.hum_nodes.specs.Nodes.{StandsAs};
+ghost use Rattle.hum_engine.specs.Readers.{ShowsSame, is_read_of, is_write};
+ghost use Rattle.hum_engine.specs.Scene.{Scene, plan_of, Somewhere, IsAt, IsNetPlan, IsBegun};
+ghost use Rattle.hum_engine.specs.Scene.{held_of, HoldsFew, HasRoom, IsKind, IsOffered, HasAccepted};
+ghost use Rattle.hum_engine.specs.Scene.{WantsFrom, HasActor, IsWaiting};
+ghost use Rattle.hum_engine.specs.Search.{is_left};
+ghost use Rattle.hum_engine.specs.Told.{AsksNone};
+ghost use Rattle.hum_engine.specs.declared.net.Stepped.TheVariants as steps;
+ghost use Rattle.hum_engine.specs.Nets.{HasSent, MayWrite, CallsSink, SinkWent, MayGo, IsRunning, IsAmong, IsGoing};
+ghost use Rattle.hum_engine.specs.Nets.{NetAt, AtEach, AreBegun, IsNet, RunsBy, WroteFront};
+ghost use Rattle.hum_engine.specs.Nets.{MayPick, IsNext, MayAsk, HasRested, HasWorked};
+ghost use Rattle.hum_engine.specs.Nets.{HasGone, AsksLittle, turned_by, failed_by, is_over};
+ghost use Rattle.hum_engine.specs.Nets.{MayAdvance, HasAdvanced, IsCloser};
+ghost use Rattle.hum_engine.specs.Nets.{MayHand, HasHanded, HasHandedOn, MarksFailures};
 
 use crate::link::Taken;
 use crate::search::Search;
@@ -112,13 +112,7 @@ impl<S: Stage + Drop, R: Source + Drop, W: Sink> Net<S, R, W> {
         ensures same { result ≡ None → self.new ≡ self.old }
     {
         match self.web.take_out() {
-            Taken::Record(row) => match write_record(&mut self.sink, &row) {
-                Ok(()) => {
-                    self.web.keep(row);
-                    return Some(false);
-                }
-                Err(_) => self.fail_to_write(),
-            },
+            Taken::Record(row) => return Some(self.send(row)),
             Taken::End(_) => match self.sink.flush() {
                 Ok(()) => {}
                 Err(_) => self.fail_to_write(),
@@ -126,6 +120,23 @@ impl<S: Stage + Drop, R: Source + Drop, W: Sink> Net<S, R, W> {
             Taken::Nothing => return None,
         }
         Some(true)
+    }
+
+    // Writes a record, and tells whether the run is over.
+    #[inline(always)]
+    fn send(&mut self, row: Record) -> bool
+        ensures { HasSent W.contents W.failed W.calls row self.old self.new result }
+    {
+        match write_record(&mut self.sink, &row) {
+            Ok(()) => {
+                self.web.keep(row);
+                false
+            }
+            Err(_) => {
+                self.fail_to_write();
+                true
+            }
+        }
     }
 
     // A failed read, or running out of memory, ends the run. It happens once, so no turn has a place for it.
@@ -286,13 +297,8 @@ impl<S: Stage + Drop, R: Source + Drop, W: Sink> Net<S, R, W> {
     #[inline(always)]
     fn next<O: Order>(&self, order: &mut O, search: &Option<Search>) -> usize
         requires { MayPick (StandsAs S.stands) W.contents W.flushed search.now self.now }
-        ensures from { IfSome search.now
-            (λ search. (result ≡ search.from) × (order.new ≡ order.old)) }
-        ensures picked { search.now ≡ None → (start : Option (List ℕ)) (s : Scene) (now : Now Row)
-            → NetAt (StandsAs S.stands) W.contents W.flushed start s self.now now
-            → ended (plan_of s) now ≡ None → Sees None s now self.now
-            → HasPicked (record { pick = O.picks; next = O.after }) (plan_of s) s.size order.old
-            order.new now result }
+        ensures { IsNext (StandsAs S.stands) W.contents W.flushed (record { pick = O.picks; next = O.after })
+            order.old order.new search.now self.now result }
     {
         if let Some(search) = search {
             return search.from();
@@ -304,19 +310,15 @@ impl<S: Stage + Drop, R: Source + Drop, W: Sink> Net<S, R, W> {
     // Asks the actor that is next and, if it is ready, gives it its turn.
     #[inline(always)]
     fn step<O: Order>(&mut self, order: &mut O, search: &mut Option<Search>) -> Stepped
-        requires may { MayStep (StandsAs S.stands) W.contents W.flushed search.old self.old }
-        requires leans { IfSome search.old
-            (λ search. LeansTo search.side O.picks O.after order.old) }
-        ensures stepped { HasStepped (StandsAs S.stands) R.remaining W.contents W.flushed
-            (record { pick = O.picks; next = O.after }) order.old order.new search.old
-            search.new self.old self.new (is_over result) }
-        ensures leans { IfSome search.new
-            (λ search. LeansTo search.side O.picks O.after order.new) }
+        requires may { MayAdvance (StandsAs S.stands) W.contents W.flushed
+            (record { pick = O.picks; next = O.after }) order.old search.old self.old }
+        ensures advanced { HasAdvanced (StandsAs S.stands) R.remaining R.failed W.contents W.flushed W.failed
+            (record { pick = O.picks; next = O.after }) order.old order.new search.old search.new
+            self.old self.new (is_over result) }
         ensures closer { IsCloser search.old search.new self.old self.new (is_over result) }
         ensures room { result ≡ steps.Room → IfSome search.new
             (λ search. (is_left search.side ≡ true) × HasRoom search.from self.new.web) }
         ensures turns { result ≡ steps.Room → self.new.turns ≡ self.old.turns + 1 }
-        ensures marks { MarksFailures R.failed W.failed self.old self.new }
     {
         let actor = self.next(order, search);
         let Some(turned) = self.turn_if_ready(actor) else {
@@ -356,13 +358,7 @@ impl<S: Stage + Drop, R: Source + Drop, W: Sink> Net<S, R, W> {
         ensures ok { result ≡ false → (self.new ≡ record self.old { web = self.new.web })
             × HasAccepted (StandsAs S.stands) R.remaining k row self.old.web self.new.web }
         ensures err { result ≡ true → self.new ≡ record self.old { web = self.new.web; failure = Some ends.Memory } }
-        ensures others { KeepsOthers k self.old.web self.new.web }
-        ensures links { self.new.web.links ≡ self.old.web.links }
-        ensures marks { failed_at R.failed k self.new.web.nodes.items
-            ≡ failed_at R.failed k self.old.web.nodes.items }
-        ensures stays { HasStayed (ended_at k self.old.web.nodes.items) (ended_at k self.new.web.nodes.items)
-            (remaining_at R.remaining k self.old.web.nodes.items)
-            (remaining_at R.remaining k self.new.web.nodes.items) }
+        ensures asked { AsksNone R.remaining R.failed k self.old.web self.new.web }
     {
         match self.web.accept(k, row) {
             Ok(()) => false,
@@ -373,7 +369,8 @@ impl<S: Stage + Drop, R: Source + Drop, W: Sink> Net<S, R, W> {
         }
     }
 
-    // The turn of a stage that has its next record at hand and, behind it, that of the stage which takes it; or nothing.
+    // The turn of a stage that has its next record at hand and, behind it, that of the stage which takes it; or
+    // nothing.
     #[inline(always)]
     fn hand_to_stage(&mut self, k: usize, taker: usize) -> Option<bool>
         requires may { MayHand (StandsAs S.stands) W.contents W.flushed k self.old }
@@ -439,16 +436,7 @@ impl<S: Stage + Drop, R: Source + Drop, W: Sink> Net<S, R, W> {
     {
         let row = self.web.hand_out(k)?;
         self.turns += 2;
-        match write_record(&mut self.sink, &row) {
-            Ok(()) => {
-                self.web.keep(row);
-                Some(false)
-            }
-            Err(_) => {
-                self.fail_to_write();
-                Some(true)
-            }
-        }
+        Some(self.send(row))
     }
 
     // Whether a stage waits, while the run goes on.
@@ -463,16 +451,12 @@ impl<S: Stage + Drop, R: Source + Drop, W: Sink> Net<S, R, W> {
     // for a record: they were to be asked next in any case. Tells whether the run is over, or nothing has moved.
     #[inline(always)]
     fn hand_on<O: Order>(&mut self, order: &O, search: &mut Option<Search>) -> Option<bool>
-        requires may { MayStep (StandsAs S.stands) W.contents W.flushed search.old self.old }
-        requires leans { IfSome search.old
-            (λ search. LeansTo search.side O.picks O.after order.now) }
-        ensures stepped { IfSome result (HasStepped (StandsAs S.stands) R.remaining W.contents W.flushed
-            (record { pick = O.picks; next = O.after }) order.now order.now search.old
-            search.new self.old self.new) }
-        ensures leans { IfSome search.new
-            (λ search. LeansTo search.side O.picks O.after order.now) }
+        requires may { MayAdvance (StandsAs S.stands) W.contents W.flushed
+            (record { pick = O.picks; next = O.after }) order.now search.old self.old }
+        ensures advanced { IfSome result (HasAdvanced (StandsAs S.stands) R.remaining R.failed W.contents
+            W.flushed W.failed (record { pick = O.picks; next = O.after }) order.now order.now
+            search.old search.new self.old self.new) }
         ensures turns { IfSome result (λ is_over. self.old.turns < self.new.turns) }
-        ensures marks { IfSome result (λ is_over. MarksFailures R.failed W.failed self.old self.new) }
         ensures same { result ≡ None → (self.new ≡ self.old) × (search.new ≡ search.old) }
     {
         let Some(Side::Right) = order.side() else {
@@ -517,18 +501,14 @@ impl<S: Stage + Drop, R: Source + Drop, W: Sink> Net<S, R, W> {
     // asked next. Tells whether the run is over.
     #[inline(always)]
     fn go_on<O: Order>(&mut self, order: &O, search: &mut Option<Search>) -> bool
-        requires may { MayStep (StandsAs S.stands) W.contents W.flushed search.old self.old }
-        requires leans { IfSome search.old
-            (λ search. LeansTo search.side O.picks O.after order.now) }
+        requires may { MayAdvance (StandsAs S.stands) W.contents W.flushed
+            (record { pick = O.picks; next = O.after }) order.now search.old self.old }
         requires room { IfSome search.old
             (λ search. (is_left search.side ≡ true) × HasRoom search.from self.old.web) }
-        ensures stepped { HasStepped (StandsAs S.stands) R.remaining W.contents W.flushed
-            (record { pick = O.picks; next = O.after }) order.now order.now search.old
-            search.new self.old self.new result }
-        ensures leans { IfSome search.new
-            (λ search. LeansTo search.side O.picks O.after order.now) }
+        ensures advanced { HasAdvanced (StandsAs S.stands) R.remaining R.failed W.contents W.flushed W.failed
+            (record { pick = O.picks; next = O.after }) order.now order.now search.old search.new
+            self.old self.new result }
         ensures turns { self.old.turns ≤ self.new.turns }
-        ensures marks { MarksFailures R.failed W.failed self.old self.new }
     {
         let Some(look) = search else {
             return false;
@@ -546,16 +526,12 @@ impl<S: Stage + Drop, R: Source + Drop, W: Sink> Net<S, R, W> {
     // whose link room has come. Tells whether the run is over.
     #[inline(always)]
     fn advance<O: Order>(&mut self, order: &mut O, search: &mut Option<Search>) -> bool
-        requires may { MayStep (StandsAs S.stands) W.contents W.flushed search.old self.old }
-        requires leans { IfSome search.old
-            (λ search. LeansTo search.side O.picks O.after order.old) }
-        ensures stepped { HasStepped (StandsAs S.stands) R.remaining W.contents W.flushed
-            (record { pick = O.picks; next = O.after }) order.old order.new search.old
-            search.new self.old self.new result }
-        ensures leans { IfSome search.new
-            (λ search. LeansTo search.side O.picks O.after order.new) }
+        requires { MayAdvance (StandsAs S.stands) W.contents W.flushed
+            (record { pick = O.picks; next = O.after }) order.old search.old self.old }
+        ensures advanced { HasAdvanced (StandsAs S.stands) R.remaining R.failed W.contents W.flushed W.failed
+            (record { pick = O.picks; next = O.after }) order.old order.new search.old search.new
+            self.old self.new result }
         ensures closer { IsCloser search.old search.new self.old self.new result }
-        ensures marks { MarksFailures R.failed W.failed self.old self.new }
     {
         match self.hand_on(order, search) {
             Some(is_over) => is_over,
@@ -592,14 +568,9 @@ impl<S: Stage + Drop, R: Source + Drop, W: Sink> Net<S, R, W> {
     #[inline(always)]
     fn turn_if_ready(&mut self, k: usize) -> Option<Turned>
         requires { MayAsk (StandsAs S.stands) W.contents W.flushed k self.old }
-        ensures ready { AtEach (StandsAs S.stands) W.contents W.flushed self.old
-            (λ start s now. ended (plan_of s) now ≡ None → k ≤ s.count
-            → is_some result ≡ is_ready (plan_of s) s.size now k) }
-        ensures gone { IfSome result (HasGone (StandsAs S.stands) R.remaining
-            R.failed W.contents W.flushed W.failed k self.old self.new) }
-        ensures little { IfSome result (λ turned. AsksLittle (StandsAs S.stands) R.remaining R.calls R.failed
-            W.contents W.flushed W.calls k self.old self.new) }
-        ensures same { result ≡ None → self.new ≡ self.old }
+        ensures { MatchOption result (HasRested (StandsAs S.stands) W.contents W.flushed k self.old self.new)
+            (HasWorked (StandsAs S.stands) R.remaining R.calls R.failed
+            W.contents W.flushed W.failed W.calls k self.old self.new) }
     {
         if k == self.web.count() {
             let link = self.web.last();
@@ -621,14 +592,9 @@ impl<S: Stage + Drop, R: Source + Drop, W: Sink> Net<S, R, W> {
     fn stage_turn(&mut self, k: usize) -> Option<Turned>
         requires ask { MayAsk (StandsAs S.stands) W.contents W.flushed k self.old }
         requires stage { k ≢ length self.old.web.nodes.items }
-        ensures ready { AtEach (StandsAs S.stands) W.contents W.flushed self.old
-            (λ start s now. ended (plan_of s) now ≡ None → k ≤ s.count
-            → is_some result ≡ is_ready (plan_of s) s.size now k) }
-        ensures gone { IfSome result (HasGone (StandsAs S.stands) R.remaining
-            R.failed W.contents W.flushed W.failed k self.old self.new) }
-        ensures little { IfSome result (λ turned. AsksLittle (StandsAs S.stands) R.remaining R.calls R.failed
-            W.contents W.flushed W.calls k self.old self.new) }
-        ensures same { result ≡ None → self.new ≡ self.old }
+        ensures { MatchOption result (HasRested (StandsAs S.stands) W.contents W.flushed k self.old self.new)
+            (HasWorked (StandsAs S.stands) R.remaining R.calls R.failed
+            W.contents W.flushed W.failed W.calls k self.old self.new) }
     {
         let told = self.web.turn(k)?;
         Some(self.settle(k, told))
@@ -639,11 +605,8 @@ impl<S: Stage + Drop, R: Source + Drop, W: Sink> Net<S, R, W> {
     fn refill(&mut self, k: usize) -> Option<Turned>
         requires ask { MayAsk (StandsAs S.stands) W.contents W.flushed k self.old }
         requires room { HasRoom k self.old.web }
-        ensures ready { IfSome result (λ turned. AtEach (StandsAs S.stands) W.contents W.flushed self.old
-            (λ start s now. ended (plan_of s) now ≡ None
-            → is_ready (plan_of s) s.size now k ≡ true)) }
-        ensures gone { IfSome result (HasGone (StandsAs S.stands) R.remaining
-            R.failed W.contents W.flushed W.failed k self.old self.new) }
+        ensures worked { IfSome result (HasWorked (StandsAs S.stands) R.remaining R.calls R.failed
+            W.contents W.flushed W.failed W.calls k self.old self.new) }
         ensures own { IfSome result (λ turned. turned.link ≡ k) }
         ensures same { result ≡ None → self.new ≡ self.old }
     {

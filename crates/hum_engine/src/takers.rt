@@ -1,5 +1,5 @@
 //! Who takes from each link.
-ghost use Rattle.std.specs.Prelude.{ℕ, ◌≤◌, IfOk};
+ghost use Rattle.std.specs.Prelude.{ℕ, IfOk};
 ghost use Rattle.hum_nodes.specs.Nodes.{StandsAs};
 ghost use Rattle.hum_engine.specs.Scene.{Scene, IsNetPlan, IsBegun, AreTakers};
 

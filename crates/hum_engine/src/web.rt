@@ -1,7 +1,7 @@
 //! Nodes and their links.
-ghost use Rattle.std.specs.Prelude.{◌≡◌, ◌≢◌, ◌≤◌, ◌<◌, ℕ, true, false, slice_index, length};
+ghost use Rattle.std.specs.Prelude.{◌≡◌, ◌≤◌, ◌<◌, ℕ, true, false, length};
 ghost use Rattle.std.specs.Prelude.{IfSome, MatchOption, is_some, ◌-◌};
-ghost use Rattle.std.specs.Prelude.{IfOk, OnOk, OnErr, Err, Some, None, ◌||◌};
+ghost use Rattle.std.specs.Prelude.{IfOk, OnOk, Some, None};
 ghost use Rattle.hum_turns.specs.Turns.{Gives, Takes, Ends, state, can, ready};
 ghost use Rattle.hum_turns.specs.Plan.{last};
 ghost use Rattle.hum_turns.specs.Near.{touched};
@@ -13,15 +13,13 @@ ghost use Rattle.hum_nodes.specs.declared.node.Readiness.TheVariants as kinds;
 ghost use Rattle.hum_record.specs.Row.{Row};
 ghost use Rattle.hum_engine.specs.Links.{taken_of, is_some_of};
 ghost use Rattle.hum_engine.specs.declared.link.Taken.TheVariants as taken;
-ghost use Rattle.hum_read.specs.declared.ReadError.TheVariants as errors;
-ghost use Rattle.hum_engine.specs.Told.{HasTold};
+ghost use Rattle.hum_engine.specs.Told.{HasTold, AsksOne, AsksNone};
 ghost use Rattle.hum_engine.specs.Scene.{Scene, plan_of, Somewhere, IsAt, IsActor, MayTurn, MayAct};
 ghost use Rattle.hum_engine.specs.Scene.{IsKind, Keeps, KeepsOthers, Fed, Done, IsAbout};
 ghost use Rattle.hum_engine.specs.Scene.{IsAboutKind, IsDoing, HasActor};
-ghost use Rattle.hum_engine.specs.Scene.{IsBegun, Stands, HasStage, held_of, HasFullLink, IsFull, HasRoom};
+ghost use Rattle.hum_engine.specs.Scene.{IsBegun, Stands, HasStage, held_of, HasFullLink, HasRoom};
 ghost use Rattle.hum_engine.specs.Scene.{HasIdleLink, HandsOut, WantsFrom, IsOffered, HasAccepted, IsWaiting};
-ghost use Rattle.hum_engine.specs.Readers.{remaining_at, ended_at, calls_at, failed_at};
-ghost use Rattle.hum_nodes.specs.Polls.{AsksAtMostOnce, HasStayed, is_failed_read};
+ghost use Rattle.hum_engine.specs.Readers.{failed_at};
 
 use crate::link::{Link, Taken};
 use hum_nodes::{Node, Readiness};
@@ -127,16 +125,7 @@ impl<S: Stage + Drop, R: Source + Drop> Web<S, R> {
             (Fed (StandsAs S.stands) R.remaining k self.old self.new)
             (λ row. HandsOut (StandsAs S.stands) R.remaining k row self.old self.new)) }
         ensures links { IfOk result (λ given. IfSome given (λ row. self.new.links ≡ self.old.links)) }
-        ensures others { KeepsOthers k self.old self.new }
-        ensures marks { failed_at R.failed k self.new.nodes.items
-            ≡ (failed_at R.failed k self.old.nodes.items || is_failed_read result) }
-        ensures calls { AsksAtMostOnce (calls_at R.calls k self.old.nodes.items)
-            (failed_at R.failed k self.old.nodes.items) (calls_at R.calls k self.new.nodes.items)
-            (failed_at R.failed k self.new.nodes.items) }
-        ensures stays { OnErr result (HasStayed (ended_at k self.old.nodes.items)
-            (ended_at k self.new.nodes.items)
-            (remaining_at R.remaining k self.old.nodes.items)
-            (remaining_at R.remaining k self.new.nodes.items)) }
+        ensures asked { AsksOne R.remaining R.calls R.failed k self.old self.new result }
     {
         match self.nodes[k].next(&mut self.pool) {
             Some(row) => Ok(Some(row)),
@@ -258,20 +247,10 @@ impl<S: Stage + Drop, R: Source + Drop> Web<S, R> {
     fn pass(&mut self, k: usize) -> Option<Result<Moved, ReadError>>
         requires about { (place : ℕ) × Somewhere (IsAbout (StandsAs S.stands) k (does.Wants place) self.old) }
         requires stage { IsKind false k self.old }
-        ensures able { (s : Scene) (place : ℕ) → IsAbout (StandsAs S.stands) k (does.Wants place) self.old s
-            → is_some result ≡ can s.size s.links k (state (plan_of s) s.links k) }
-        ensures passed { IfSome result (λ told. OnOk told ((s : Scene) (place : ℕ)
-            → IsAbout (StandsAs S.stands) k (does.Wants place) self.old s
-            → Done (StandsAs S.stands) k
-            (Takes (slice_index (s.kinds k).stage.sources place)) self.new s)) }
-        ensures source { IfSome result (λ told. IfOk told (λ moved. (s : Scene) (place : ℕ)
-            → IsAbout (StandsAs S.stands) k (does.Wants place) self.old s
-            → moved.link ≡ slice_index (s.kinds k).stage.sources place)) }
-        ensures full { IfSome result (λ told. IfOk told (λ moved. moved.is_full ≡ true → IsFull k self.new)) }
-        ensures room { IfSome result (λ told. IfOk told (λ moved. moved.has_taken ≡ true
-            → (moved.link < k) × HasRoom moved.link self.new)) }
-        ensures read { IfSome result (λ told. told ≢ Err errors.Read) }
-        ensures nodes { Keeps k self.old self.new }
+        ensures ready { (s : Scene) → HasActor (StandsAs S.stands) k self.old s
+            → is_some result ≡ ready (plan_of s) s.size s.links k }
+        ensures told { IfSome result
+            (HasTold (StandsAs S.stands) R.remaining R.calls R.failed k self.old self.new) }
         ensures same { result ≡ None → self.new ≡ self.old }
     {
         let node = &mut self.nodes[k];
@@ -474,13 +453,7 @@ impl<S: Stage + Drop, R: Source + Drop> Web<S, R> {
         requires { IsOffered (StandsAs S.stands) k row self.old }
         ensures accepted { OnOk result
             (HasAccepted (StandsAs S.stands) R.remaining k row self.old self.new) }
-        ensures others { KeepsOthers k self.old self.new }
-        ensures links { self.new.links ≡ self.old.links }
-        ensures marks { failed_at R.failed k self.new.nodes.items
-            ≡ failed_at R.failed k self.old.nodes.items }
-        ensures stays { HasStayed (ended_at k self.old.nodes.items) (ended_at k self.new.nodes.items)
-            (remaining_at R.remaining k self.old.nodes.items)
-            (remaining_at R.remaining k self.new.nodes.items) }
+        ensures asked { AsksNone R.remaining R.failed k self.old self.new }
     {
         self.nodes[k].put(row, &mut self.pool)?;
         Ok(())

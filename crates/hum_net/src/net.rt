@@ -1,5 +1,5 @@
 //! The net of a plan, moved turn by turn.
-ghost use Rattle.std.specs.Prelude.{◌≡◌, ◌≤◌, ◌<◌, ◌+◌, ◌||◌, ℕ, List, Option, Some, None, true, length};
+ghost use Rattle.std.specs.Prelude.{◌≡◌, ◌≤◌, ◌<◌, ◌+◌, ◌||◌, ℕ, List, Option, None, length};
 ghost use Rattle.std.specs.Prelude.{IfOk, IfErr, is_some};
 ghost use Rattle.hum_record.specs.Row.{Row};
 ghost use Rattle.hum_turns.specs.Failures.{Now, is_ready, result as ended};

@@ -4,7 +4,7 @@ ghost use Rattle.std.specs.Prelude.{length, slice_index, slice_set, IfOk, OnOk, 
 ghost use Rattle.hum_stage.specs.Meaning.{Meaning, opening, IsLawful};
 ghost use Rattle.hum_assemble.specs.Standing.{Stands};
 ghost use Rattle.hum_read.specs.Steps.{given_by};
-ghost use Rattle.hum_nodes.specs.At.{At, fresh, MayDo, sources_of, doing_of, ending_of, holds_of};
+ghost use Rattle.hum_nodes.specs.At.{At, fresh, sources_of, doing_of, holds_of};
 ghost use Rattle.hum_nodes.specs.At.{HoldsOneEach, HasTaken, MayPut, MayStop, HasPut, HasStopped};
 ghost use Rattle.hum_nodes.specs.At.{readiness_of, set_each};
 ghost use Rattle.hum_nodes.specs.Doing as does;

@@ -1,130 +1,59 @@
-use Rattle.std.proofs.Common.{◌≡◌, ◌∙◌, ◌||◌, ◌+◌, Bool, true, false, Some, is_some, refl, sym, ap, inl, arith}
-use Rattle.std.specs.Prelude.{not}
-use Rattle.std.proofs.lemmas.Bool.{false≢true}
-use Rattle.hum_nodes.proofs.Standing.{reads_few}
-use Rattle.hum_nodes.specs.Nodes.{StandsAs}
-use Rattle.hum_turns.proofs.Near.{ready_sink}
-use Rattle.hum_engine.specs.Readers.{failed_at}
-use Rattle.hum_engine.specs.Scene.{plan_of, moved}
-use Rattle.hum_engine.proofs.Bounds.{turns_few}
-use Rattle.hum_engine.proofs.Netting.{actor_now, is_at, now_ready, or_false, ready_going, sink_turned, unfailed_now, unheard_now}
+use Rattle.std.proofs.Common.{◌∙◌, ◌+◌, Some, is_some, sym, ap, inl, arith}
+use Rattle.std.proofs.lemmas.Bool.{false≢true, not-true}
+use Rattle.std.proofs.Math.Bool.{or-false}
+use Rattle.hum_engine.specs.Scene.{moved}
+use Rattle.hum_engine.proofs.Netting.{may_write, sink_turned}
+use Rattle.hum_engine.proofs.Settling.{asked_at, asked_few, asked_unfailed, asked_web, sink_ready}
 use Rattle.hum_engine.proofs.Stepping.{sink_touches}
 use Rattle.hum_engine.proofs.net.Net.turn_if_ready.Goals as goal
 
-not_true : (b : Bool) → not b ≡ true → b ≡ false
-not_true true h = absurd (false≢true h)
-not_true false h = refl
+pub last-link-requires : goal.last-link-requires
+last-link-requires g c = asked_web c.requires
 
 pub sink_turn-requires-clause-none : goal.sink_turn-requires-clause-none
-sink_turn-requires-clause-none g c =
-    let r = c.requires.running in
-    r.at.failure ∙ unfailed_now (StandsAs g.S.Stage.stands) g.W.Sink.contents g.W.Sink.flushed r.start r.scene c.args.self.now
-    r.now c.args.k r.at c.requires.going
+sink_turn-requires-clause-none g c = asked_unfailed c.requires
 
 pub sink_turn-requires-clause-may : goal.sink_turn-requires-clause-may
-sink_turn-requires-clause-may g c =
-    let r = c.requires.running in
-    let at = actor_now (StandsAs g.S.Stage.stands) g.W.Sink.contents g.W.Sink.flushed r.start r.scene c.args.self.now
-    r.now c.args.k r.at c.requires.going c.requires.within in
-    record { scene = moved r.scene r.now.links; holds = at.at }
+sink_turn-requires-clause-may g c = asked_web c.requires
 
-pub returns-in_err-is_over-clause-ready : goal.returns-in_err-is_over-clause-ready
-returns-in_err-is_over-clause-ready g c start s now h none within =
-    let stands = StandsAs g.S.Stage.stands in
-    let contents = g.W.Sink.contents in
-    let flushed = g.W.Sink.flushed in
-    let net = c.args.self.now in
-    let k = c.args.k in
-    let at = actor_now stands contents flushed start s net now k h none within in
-    let is : k ≡ s.count = c.if-k-count.true ∙ c.count.ensures ∙ at.at.stand.count in
-    ap is_some c.from_residual.ensures ∙ sym (ap is_some c.in_err-is_over.was)
-    ∙ ready_going stands contents flushed start s net now k h _ (is_some c.sink_turn.result) refl none
-    (c.sink_turn.ensures.ready (moved s now.links) at.at (unheard_now stands contents flushed start s net now k h none)
-    ∙ sym (ready_sink (plan_of s) s.size k now.links (omega (arith, is))))
+pub returns-in_err-is_over : goal.returns-in_err-is_over
+returns-in_err-is_over g c = rw c.from_residual.ensures (record {
+  idle = λ start s now h none within.
+      sink_ready (c.if-k-count.true ∙ c.count.ensures) c.sink_turn.ensures.ready (ap is_some c.in_err-is_over.was)
+      start s now h none;
+  same = c.sink_turn.ensures.same c.in_err-is_over.was;
+})
 
 pub overflow_add-self : goal.overflow_add-self
-overflow_add-self g c =
-    let r = c.requires.running in
-    let stands = StandsAs g.S.Stage.stands in
-    let none = unfailed_now stands g.W.Sink.contents g.W.Sink.flushed r.start r.scene c.args.self.now r.now c.args.k r.at
-    c.requires.going in
-    let few = turns_few stands g.W.Sink.contents g.W.Sink.flushed r.start r.scene c.args.self.now r.now
-    (reads_few g.S.Stage.stands) r.at none in
-    let counted = r.at.counted in
-    let same = c.sink_turn.ensures.turns in
-    omega (arith, few, counted, same)
+overflow_add-self g c = omega (arith, asked_few c.requires, c.sink_turn.ensures.turns)
 
-pub last-link-requires : goal.last-link-requires
-last-link-requires g c =
-    let r = c.requires.running in
-    let at = actor_now (StandsAs g.S.Stage.stands) g.W.Sink.contents g.W.Sink.flushed r.start r.scene c.args.self.now
-    r.now c.args.k r.at c.requires.going c.requires.within in
-    record { scene = moved r.scene r.now.links; holds = at.at }
-
-pub returns-then-k-count-clause-ready : goal.returns-then-k-count-clause-ready
-returns-then-k-count-clause-ready g c start s now h none within =
-    let stands = StandsAs g.S.Stage.stands in
-    let contents = g.W.Sink.contents in
-    let flushed = g.W.Sink.flushed in
-    let net = c.args.self.now in
-    let k = c.args.k in
-    let at = actor_now stands contents flushed start s net now k h none within in
-    let is : k ≡ s.count = c.if-k-count.true ∙ c.count.ensures ∙ at.at.stand.count in
-    sym (ap is_some c.in_ok-is_over.was)
-    ∙ ready_going stands contents flushed start s net now k h _ (is_some c.sink_turn.result) refl none
-    (c.sink_turn.ensures.ready (moved s now.links) at.at (unheard_now stands contents flushed start s net now k h none)
-    ∙ sym (ready_sink (plan_of s) s.size k now.links (omega (arith, is))))
-
-pub returns-then-k-count-clause-gone : goal.returns-then-k-count-clause-gone
-returns-then-k-count-clause-gone g c =
-    let stands = StandsAs g.S.Stage.stands in
-    let net = c.args.self.now in
+pub returns-then-k-count : goal.returns-then-k-count
+returns-then-k-count g c =
     let here = c.if-k-count.true ∙ c.count.ensures in
     let e = c.sink_turn.ensures in
     let o = c.in_ok-is_over.ensures in
-    let over = c.in_ok-is_over.is_over in
     record {
-      turned = sink_turned stands g.R.Source.remaining g.W.Sink.contents g.W.Sink.flushed c.args.k
-          net _ over g.R.Source.calls g.R.Source.failed c.sink_turn.new.self.failure here
-          o.went e.shows refl (ap (λ n. n + 1) e.turns) e.actors e.takers;
-      link = λ s h. inl (sink_touches s c.args.k c.last-link.result (here ∙ h.at.stand.count) (c.last-link.ensures.last s h.at));
-      reads = λ i. (e.shows i).mark ∙ or_false _
-          ∙ ap (λ b. failed_at g.R.Source.failed i net.web.nodes.items || b) (sym (e.unread i));
-      writes = o.marked;
-      turns = ap (λ n. n + 1) e.turns;
-      actors = e.actors;
-      takers = e.takers;
-      full = λ full. absurd (false≢true full);
-      room = λ taken.
-          let r = c.requires.running in
-          let at = actor_now stands g.W.Sink.contents g.W.Sink.flushed r.start r.scene net r.now c.args.k r.at c.requires.going
-          c.requires.within in
-          let place = c.last-link.ensures.place in
-          let many = at.at.stand.as_many in
-          let count = here ∙ at.at.stand.count in
-          let some = r.at.plan.ok.some in (
-            omega (arith, place, many, count, some),
-            rw place (e.room (c.in_ok-is_over.was ∙ ap Some (not_true over taken))),
-          );
-    }
-
-pub returns-then-k-count-clause-little : goal.returns-then-k-count-clause-little
-returns-then-k-count-clause-little g c =
-    let stands = StandsAs g.S.Stage.stands in
-    let contents = g.W.Sink.contents in
-    let flushed = g.W.Sink.flushed in
-    let net = c.args.self.now in
-    let mine = c.sink_turn.ensures.shows c.args.k in
-    record {
-      once = inl (mine.calls_made, mine.mark);
-      others = λ i o. c.sink_turn.ensures.shows i;
-      sink = λ start s now h ready here.
-          c.in_ok-is_over.ensures.asked (moved s now.links) (record {
-            at = is_at stands contents flushed start s net now c.args.k h ready;
-            some = sym (ready_sink (plan_of s) s.size c.args.k now.links (omega (arith, here)))
-                ∙ now_ready stands contents flushed start s net now c.args.k h ready;
-          });
-      unasked = λ other. absurd (other (c.if-k-count.true ∙ c.count.ensures));
+      ready = λ start s now h none within. sink_ready here e.ready (ap is_some c.in_ok-is_over.was) start s now h none;
+      gone = record {
+        turned = rw (e.turns, e.actors, e.takers) (sink_turned c.sink_turn.new.self.failure here o.went e.shows);
+        link = λ s h. inl (sink_touches s c.args.k c.last-link.result (here ∙ h.at.stand.count) (c.last-link.ensures.last s h.at));
+        reads = λ i. rw (e.unread i, or-false) (e.shows i).mark;
+        writes = o.marked;
+        turns = ap (λ n. n + 1) e.turns;
+        actors = e.actors;
+        takers = e.takers;
+        full = λ full. absurd (false≢true full);
+        room = λ taken. let st = (asked_at c.requires).stand in (
+          omega (arith, c.last-link.ensures.place, st.as_many, here, st.count, c.requires.running.at.plan.ok.some),
+          rw c.last-link.ensures.place (e.room (c.in_ok-is_over.was ∙ ap Some (not-true c.in_ok-is_over.is_over taken))),
+        );
+      };
+      little = record {
+        once = inl ((e.shows c.args.k).calls_made, (e.shows c.args.k).mark);
+        others = λ i o. e.shows i;
+        sink = λ start s now h ready is. o.asked (moved s now.links) (may_write h c.args.k ready (omega (arith, is)));
+        unasked = λ other. absurd (other here);
+      };
     }
 
 pub stage_turn-requires-clause-stage : goal.stage_turn-requires-clause-stage
