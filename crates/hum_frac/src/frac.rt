@@ -1,5 +1,5 @@
 //! Fractions.
-ghost use Rattle.std.specs.Prelude.{◌≡◌, ◌<◌, ◌≤◌, ◌^◌, ◌/◌, ◌%◌, ◌↔◌, nat_lt, ◌&&◌};
+ghost use Rattle.std.specs.Prelude.{◌≡◌, ◌<◌, ◌^◌, ◌/◌, ◌↔◌, nat_lt, ◌&&◌};
 ghost use Rattle.std.specs.Prelude.{IsTrue, OnErr, IfOk, OnOk};
 ghost use Rattle.hum_frac.specs.Ratio.{Ratio, whole, IsSame, IsBefore, IsLowest, NoneFits};
 ghost use Rattle.hum_frac.specs.Ratio.{reduced, sum, plus, fits, compare};

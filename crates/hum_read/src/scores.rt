@@ -243,7 +243,7 @@ impl<R: Source> ScoreReader<R> {
         if self.stopped.is_some() {
             return None;
         }
-        if !pool.has_first() {
+        if !pool.bring_first() {
             return self.next_long(pool);
         }
         let held = self.lines.ahead();

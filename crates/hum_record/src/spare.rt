@@ -47,6 +47,15 @@ impl Spare {
         self.first.is_some()
     }
 
+    /// Whether one stands in front, brought there from behind where it has to be.
+    #[inline(always)]
+    pub fn bring_first(&mut self) -> bool {
+        if self.first.is_none() {
+            self.first = self.others.pop();
+        }
+        self.first.is_some()
+    }
+
     /// Keeps a record that is done with, behind the first one where it is short and not too many are.
     #[inline]
     pub fn keep(&mut self, row: Record) {
