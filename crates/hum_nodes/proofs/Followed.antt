@@ -1,6 +1,6 @@
 -- What sources have read, poll by poll.
-use Rattle.std.proofs.Common.{◌≡◌, ◌∙◌, Bool, true, List, [], ◌++◌, Option, None, Some, refl}
-use Rattle.std.proofs.Common.{sym, ap, ⊎_elim, ◌⊎◌, inl, inr, ℕ, append_assoc}
+use Rattle.std.proofs.Common.{◌≡◌, ◌∙◌, Bool, true, List, [], ◌++◌, Option, None, Some, refl, sym, ap, ◌⊎◌, inl, inr, ℕ}
+use Rattle.std.proofs.Common.{append_assoc}
 use Rattle.std.proofs.lemmas.Option.{none-some, same_Some}
 use Rattle.std.specs.Io.KnownBytes.{Consumes, IsAtEnd}
 use Rattle.hum_nodes.specs.Polls.{HasStayed, IsFront, HasRead}
@@ -45,15 +45,13 @@ read_more a b c x y z r s h k = record {
         rest = g.rest;
         tells = g.tells;
         split = f.split ∙ ap (λ l. r ++ l) g.split ∙ sym (append_assoc r s g.rest);
-        over = λ o. ⊎_elim
-            (λ (mid : b ≡ true). ⊎_elim
-            (λ (first : a ≡ true). inl first)
-            (λ (none : f.rest ≡ []).
-            let nil : s ≡ [] = (k.still mid).0 in
-            inr (sym (ap (λ l. l ++ g.rest) nil) ∙ sym g.split ∙ none))
-            (f.over mid))
-            (λ (none : g.rest ≡ []). inr none)
-            (g.over o);
+        over = λ o. elim (g.over o) [
+          | inl mid ↦ elim (f.over mid) [
+            | inl first ↦ inl first
+            | inr none ↦ inr (sym (rw (k.still mid).0 at g.split) ∙ none)
+          ]
+          | inr none ↦ inr none
+        ];
       };
   still = λ first.
       let f = h.still first in

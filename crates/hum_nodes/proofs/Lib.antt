@@ -1,5 +1,6 @@
 pub mod Fining
 pub mod SingleLaws
+pub mod Polling
 pub mod Singles
 pub mod Merges
 pub mod MergingLaws
@@ -7,6 +8,7 @@ pub mod Mergings
 pub mod Pieces
 pub mod FrontFaults
 pub mod Settling
+pub mod Lines
 pub mod Denotes
 pub mod ReadingLaws
 pub mod Fronting

@@ -1,23 +1,20 @@
 -- What assemble gives and wants, whatever was put into its sources.
-use Rattle.std.proofs.Common.{◌≡◌, ◌∙◌, refl, sym, ap, subst, ℕ, zero, suc, ◌+◌, ◌≤◌, List, [], ◌∷◌}
-use Rattle.std.proofs.Common.{◌++◌, length, map, arith, Option, Some, None, append_assoc, append-nil, true}
+use Rattle.std.proofs.Common.{◌≡◌, ◌∙◌, refl, ap, subst, ℕ, zero, suc, ◌+◌, ◌≤◌, List, [], ◌∷◌, ◌++◌, length, map}
+use Rattle.std.proofs.Common.{arith, Option, Some, None, append_assoc, append-nil, true}
 use Rattle.std.specs.Prelude.{is_none}
-use Rattle.std.specs.List.{AllByRecursion}
+use Rattle.std.specs.List.{AllByRecursion, position_from}
 use Rattle.hum_record.specs.Row.{Row}
 use Rattle.hum_stage.specs.declared.faults.End.{End}
 use Rattle.hum_assemble.specs.declared.places.Next as next
-use Rattle.hum_assemble.specs.declared.places.Next.TheVariants.{Gives, Refused, Wants}
-use Rattle.hum_assemble.specs.declared.places.Next.TheVariants.{Over as NothingMore}
+use Rattle.hum_assemble.specs.declared.places.Next.TheVariants.{Gives, Refused, Wants, Over as NothingMore}
 use Rattle.hum_assemble.specs.Change.{Input, Change, More, Ends, had, had_at, IsOpenInput}
-use Rattle.std.specs.List.{position_from}
 use Rattle.hum_assemble.specs.Round.{any_due}
 use Rattle.hum_assemble.specs.Merge.{Merge, ahead, given_on}
 use Rattle.hum_assemble.specs.Meaning.{gives, goes_on, total, opening, output, rest, ends, wanted}
-use Rattle.hum_assemble.proofs.Steps.{Going, Resting, doing, on_going, on_resting, all_ended}
-use Rattle.hum_assemble.proofs.Steps.{gives_going, gives_resting}
+use Rattle.hum_assemble.proofs.Steps.{Going, Resting, doing, on_going, on_resting, all_ended, gives_going}
+use Rattle.hum_assemble.proofs.Steps.{gives_resting}
 use Rattle.hum_assemble.proofs.Reaching.{output_grows}
-use Rattle.hum_assemble.proofs.Standings.{OpenIn, open_in, begun_ends, leftmost, waits_at}
-use Rattle.hum_assemble.proofs.Standings.{waiting_open}
+use Rattle.hum_assemble.proofs.Standings.{OpenIn, open_in, begun_ends, leftmost, waits_at, waiting_open}
 use Rattle.hum_assemble.proofs.Calls.{has_room}
 use Rattle.hum_turns.specs.Flow.{Begins}
 use Rattle.hum_turns.proofs.Fronts.{begins_refl, begins_trans}
@@ -29,18 +26,17 @@ few_gives : (most n : ℕ) (m : Merge)
     → m.given ≤ most → m.given + length (gives n m) ≤ most
 few_gives most zero m room h = omega arith
 few_gives most (suc n) m room h = elim (doing m) [
-  | Going p e ↦
-      let r = room m p e in
-      let k = few_gives most n (given_on p m) room r in
-      rw (gives_going n m p e) (omega (arith, k))
-  | Resting e ↦ rw (gives_resting (suc n) m e) (omega (arith, h))
+  | Going p e ↦ rw (gives_going n m p e) (omega (arith, few_gives most n (given_on p m) room (room m p e)))
+  | Resting e ↦ rw (gives_resting (suc n) m e) (omega arith)
 ]
 
 pub few_given : (xs : List Input) → length (output xs) ≤ 4294967295
 few_given xs =
-    let k = few_gives 4294967295 (total (opening xs).sources) (opening xs)
-    (λ m p e. let r = has_room m.sources m.given p e in omega (arith, r)) (omega arith) in
-    omega (arith, k)
+    omega (
+      arith,
+      few_gives 4294967295 (total (opening xs).sources) (opening xs)
+          (λ m p e. omega (arith, has_room m.sources m.given p e)) (omega arith),
+    )
 
 -- What is wanted hasn't ended, and where nothing is wanted all have.
 ends_on : (n : ℕ) (m : Merge)
@@ -85,10 +81,7 @@ none_open i (x ∷ xs) h =
     let k = none_first i x xs x.ended refl h in (k.0, none_open (i + 1) xs k.1)
 
 none_wanted : (xs : List Input) (a : next.Next) → wanted a (ends xs) ≡ None → HaveEnded xs
-none_wanted xs (Wants k) h = cc
-none_wanted xs (Gives p) h = none_open 0 xs h
-none_wanted xs (Refused rule) h = none_open 0 xs h
-none_wanted xs NothingMore h = none_open 0 xs h
+none_wanted xs a h = grind (arith, none_open 0 xs, h)
 
 pub unwanted_ended : (xs : List Input) → wanted_of xs ≡ None → HaveEnded xs
 unwanted_ended xs h = none_wanted xs (ahead (rest (opening xs))) h
@@ -108,8 +101,7 @@ had_there (y ∷ front) tail x change = ap (λ xs. y ∷ xs) (had_there front ta
 one_more : (front tail : List Input) (x : Input) (change : Change) → x.ended ≡ None
     → Begins (output (front ++ x ∷ tail)) (output (front ++ had change x ∷ tail))
 one_more front tail x change h =
-    subst (λ xs. Begins (output (front ++ x ∷ tail)) (output xs))
-    (had_there front tail x change)
+    rw (had_there front tail x change) at
     (output_grows (length front) change (front ++ x ∷ tail) (open_there front tail x h))
 
 abbrev going : List Row → Input
@@ -117,18 +109,12 @@ going rows = record { put = rows; ended = None }
 
 more_put : (front tail : List Input) (put rows : List Row)
     → Begins (output (front ++ going put ∷ tail)) (output (front ++ going (put ++ rows) ∷ tail))
-more_put front tail put [] =
-    subst (λ l. Begins (output (front ++ going put ∷ tail)) (output (front ++ going l ∷ tail)))
-    (sym (append-nil put)) (begins_refl _)
+more_put front tail put [] = rw append-nil (begins_refl _)
 more_put front tail put (row ∷ rows) =
     begins_trans (output (front ++ going put ∷ tail))
     (output (front ++ going (put ++ row ∷ []) ∷ tail)) _
     (one_more front tail (going put) (More row) refl)
-    (subst
-    (λ l. Begins (output (front ++ going (put ++ row ∷ []) ∷ tail))
-    (output (front ++ going l ∷ tail)))
-    (append_assoc put (row ∷ []) rows)
-    (more_put front tail (put ++ row ∷ []) rows))
+    (rw (append_assoc put (row ∷ []) rows) at (more_put front tail (put ++ row ∷ []) rows))
 
 -- One source goes on by these records, and perhaps ends.
 pub source_on : (front tail : List Input) (put rows : List Row) (o : Option End)

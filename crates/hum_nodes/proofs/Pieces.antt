@@ -1,130 +1,14 @@
 -- The pieces of a front, and those of what it goes on to.
-use Rattle.std.proofs.Common.{◌≡◌, ◌∙◌, refl, ap, subst, ℕ, suc, ◌+◌, ◌≤◌, Bool}
-use Rattle.std.proofs.Common.{true, false, ◌==◌, if◌then◌else◌, List, [], ◌∷◌, ◌++◌, length, arith}
-use Rattle.std.proofs.lemmas.Bool.{eqb-true}
+use Rattle.std.proofs.Common.{◌≡◌, ◌∙◌, refl, sym, ap, subst, ℕ, zero, suc, ◌+◌, ◌<◌, ◌≤◌, List, [], ◌∷◌, ◌++◌, length}
+use Rattle.std.proofs.Common.{arith, inl, inr, length-append, append_assoc, append-nil}
+use Rattle.std.proofs.lemmas.Bool.{cases_eq, ne_eqb}
 use Rattle.hum_text.specs.Text.{onto, pieces, IsAtStart}
-use Rattle.hum_text.proofs.PieceLemmas.{NoLf, pieces-some}
+use Rattle.hum_text.proofs.PieceLemmas.{NoLf, pieces-some, pieces-append, pieces-open, pieces-whole, pieces-none}
 use Rattle.hum_turns.specs.Flow.{Begins}
 use Rattle.hum_nodes.specs.Settled.{onto_first, whole_pieces}
 
--- The whole pieces of a front are the first of those that it goes on to.
-
-onto_begins : (b : ℕ) (ps more : List (List ℕ))
-    → Begins (onto_first b ps) (onto_first b (ps ++ more))
-onto_begins b [] more = (onto_first b more, refl)
-onto_begins b (p ∷ ps) more = (more, refl)
-
-pub whole_begins : (p q : List ℕ) → Begins (whole_pieces p) (whole_pieces (p ++ q))
-unfolding whole_pieces
-whole_begins [] q = (whole_pieces q, refl)
-whole_begins (b ∷ bs) q =
-    let ih = whole_begins bs q in
-    elim (b == 10)
-    as (λ (v : Bool).
-    Begins (if v then [] ∷ whole_pieces bs else onto_first b (whole_pieces bs))
-    (if v then [] ∷ whole_pieces (bs ++ q) else onto_first b (whole_pieces (bs ++ q)))) [
-      | true ↦ (ih.0, ap (λ ps. [] ∷ ps) ih.1)
-      | false ↦
-          subst (λ ps. Begins (onto_first b (whole_pieces bs)) (onto_first b ps)) ih.1
-          (onto_begins b (whole_pieces bs) ih.0)
-    ]
-
-onto_front : (b : ℕ) (ps more : List (List ℕ)) → Begins (onto_first b ps) (onto b (ps ++ more))
-onto_front b [] more = (onto b more, refl)
-onto_front b (p ∷ ps) more = (more, refl)
-
-pub whole_front : (p q : List ℕ) → Begins (whole_pieces p) (pieces (p ++ q))
-unfolding whole_pieces pieces
-whole_front [] q = (pieces q, refl)
-whole_front (b ∷ bs) q =
-    let ih = whole_front bs q in
-    elim (b == 10)
-    as (λ (v : Bool).
-    Begins (if v then [] ∷ whole_pieces bs else onto_first b (whole_pieces bs))
-    (if v then [] ∷ pieces (bs ++ q) else onto b (pieces (bs ++ q)))) [
-      | true ↦ (ih.0, ap (λ ps. [] ∷ ps) ih.1)
-      | false ↦
-          subst (λ ps. Begins (onto_first b (whole_pieces bs)) (onto b ps)) ih.1
-          (onto_front b (whole_pieces bs) ih.0)
-    ]
-
--- All pieces but the last are whole,
-
-onto_longer : (b : ℕ) (ps qs : List (List ℕ)) → length ps ≤ length qs + 1
-    → length (onto b ps) ≤ length (onto_first b qs) + 1
-onto_longer b [] qs h = omega arith
-onto_longer b (p ∷ ps) [] h = omega (arith, h)
-onto_longer b (p ∷ ps) (q ∷ qs) h = omega (arith, h)
-
-pub but_last : (p : List ℕ) → length (pieces p) ≤ length (whole_pieces p) + 1
-unfolding whole_pieces pieces
-but_last [] = omega arith
-but_last (b ∷ bs) =
-    let ih = but_last bs in
-    elim (b == 10)
-    as (λ (v : Bool).
-    length (if v then [] ∷ pieces bs else onto b (pieces bs))
-    ≤ length (if v then [] ∷ whole_pieces bs else onto_first b (whole_pieces bs)) + 1) [
-      | true ↦ omega (arith, ih)
-      | false ↦ onto_longer b (pieces bs) (whole_pieces bs) ih
-    ]
-
--- and with a byte more there is a piece behind those of the front.
-
-onto_some : (b : ℕ) (ps qs : List (List ℕ)) → length qs + 1 ≤ length ps
-    → length (onto_first b qs) + 1 ≤ length (onto b ps)
-onto_some b [] qs h = absurd (omega (arith, h))
-onto_some b (p ∷ ps) [] h = omega (arith, h)
-onto_some b (p ∷ ps) (q ∷ qs) h = omega (arith, h)
-
-some_onto : (b : ℕ) (ps : List (List ℕ)) → 1 ≤ length (onto b ps)
-some_onto b [] = omega arith
-some_onto b (p ∷ ps) = omega arith
-
-pub some_more : (p : List ℕ) (c : ℕ) (q : List ℕ)
-    → length (whole_pieces p) + 1 ≤ length (pieces (p ++ c ∷ q))
-unfolding whole_pieces pieces
-some_more [] c q =
-    elim (c == 10) as (λ (v : Bool). 1 ≤ length (if v then [] ∷ pieces q else onto c (pieces q))) [
-      | true ↦ omega arith
-      | false ↦ some_onto c (pieces q)
-    ]
-some_more (b ∷ bs) c q =
-    let ih = some_more bs c q in
-    elim (b == 10)
-    as (λ (v : Bool).
-    length (if v then [] ∷ whole_pieces bs else onto_first b (whole_pieces bs)) + 1
-    ≤ length (if v then [] ∷ pieces (bs ++ c ∷ q) else onto b (pieces (bs ++ c ∷ q)))) [
-      | true ↦ omega (arith, ih)
-      | false ↦ onto_some b (pieces (bs ++ c ∷ q)) (whole_pieces bs) ih
-    ]
-
--- One byte makes one piece more at most.
-
-onto_at_most : (b : ℕ) (ps qs : List (List ℕ)) → length ps ≤ length qs + 1
-    → length (onto b ps) ≤ length (onto b qs) + 1
-onto_at_most b [] qs h = omega arith
-onto_at_most b (p ∷ ps) [] h = omega (arith, h)
-onto_at_most b (p ∷ ps) (q ∷ qs) h = omega (arith, h)
-
-pub one_piece : (p : List ℕ) (c : ℕ) → length (pieces (p ++ c ∷ [])) ≤ length (pieces p) + 1
-unfolding pieces
-one_piece [] c =
-    elim (c == 10) as (λ (v : Bool). length (if v then [] ∷ [] else onto c []) ≤ 1) [
-      | true ↦ omega arith
-      | false ↦ omega arith
-    ]
-one_piece (b ∷ bs) c =
-    let ih = one_piece bs c in
-    elim (b == 10)
-    as (λ (v : Bool).
-    length (if v then [] ∷ pieces (bs ++ c ∷ []) else onto b (pieces (bs ++ c ∷ [])))
-    ≤ length (if v then [] ∷ pieces bs else onto b (pieces bs)) + 1) [
-      | true ↦ omega (arith, ih)
-      | false ↦ onto_at_most b (pieces (bs ++ c ∷ [])) (pieces bs) ih
-    ]
-
 -- A front that ends where a line begins has whole pieces alone.
+
 onto_same : (b : ℕ) (p : List ℕ) (ps qs all : List (List ℕ)) → all ≡ p ∷ ps
     → onto_first b (all ++ qs) ≡ onto b all ++ qs
 onto_same b p ps qs all is = rw is refl
@@ -135,50 +19,145 @@ unfolding whole_pieces pieces IsAtStart
 whole_at_start [] q s = refl
 whole_at_start (b ∷ []) q s = rw s refl
 whole_at_start (b ∷ c ∷ bs) q s =
-    let ih : whole_pieces ((c ∷ bs) ++ q) ≡ pieces (c ∷ bs) ++ whole_pieces q =
-    whole_at_start (c ∷ bs) q s in
+    let ih = whole_at_start (c ∷ bs) q s in
     let some = pieces-some c bs in
-    elim (b == 10)
-    as (λ (v : Bool).
-    (if v then [] ∷ whole_pieces ((c ∷ bs) ++ q)
-    else onto_first b (whole_pieces ((c ∷ bs) ++ q)))
-    ≡ (if v then [] ∷ pieces (c ∷ bs) else onto b (pieces (c ∷ bs))) ++ whole_pieces q) [
-      | true ↦ ap (λ (ps : List (List ℕ)). [] ∷ ps) ih
-      | false ↦
-          ap (onto_first b) ih
-          ∙ onto_same b some.0 some.1 (whole_pieces q) (pieces (c ∷ bs)) some.2
+    elim (cases_eq b 10) [
+      | inl is ↦ rw is (ap (λ ps. [] ∷ ps) ih)
+      | inr other ↦ rw (ne_eqb b 10 other)
+          (ap (onto_first b) ih ∙ onto_same b some.0 some.1 (whole_pieces q) (pieces (c ∷ bs)) some.2)
     ]
 
--- Bytes without LF have none.
+free_tail : (b : ℕ) (q : List ℕ) → NoLf (b ∷ q) → NoLf q
+free_tail b q free k l is = free (suc k) (omega arith) is
+
 pub none_whole : (q : List ℕ) → NoLf q → whole_pieces q ≡ []
 unfolding whole_pieces
 none_whole [] free = refl
 none_whole (b ∷ q) free =
-    let ih = none_whole q (λ k h is. free (suc k) (omega arith) is) in
-    (elim (b == 10)
-    as (λ (v : Bool). (b == 10) ≡ v
-    → (if v then [] ∷ whole_pieces q else onto_first b (whole_pieces q)) ≡ []) [
-      | true ↦ λ e. absurd (free 0 (omega arith) (eqb-true b 10 e))
-      | false ↦ λ e. ap (onto_first b) ih
-    ]) refl
+    rw (ne_eqb b 10 (free 0 (omega arith))) (ap (onto_first b) (none_whole q (free_tail b q free)))
+
+pub start_whole : (before : List ℕ) → IsAtStart before → whole_pieces before ≡ pieces before
+start_whole before s =
+    ap whole_pieces (sym (append-nil before)) ∙ whole_at_start before [] s
+    ∙ ap (λ ps. pieces before ++ ps) (none_whole [] (λ k l. absurd (omega arith))) ∙ append-nil (pieces before)
+
+-- Bytes are lines that LF ends, and then one that it doesn't end.
+record Cut (p : List ℕ) : Type 0 where
+  before : List ℕ
+  tail : List ℕ
+  split : p ≡ before ++ tail
+  start : IsAtStart before
+  free : NoLf tail
+
+pub free_cons : (b : ℕ) (q : List ℕ) → (b ≡ 10 → ⊥) → NoLf q → NoLf (b ∷ q)
+free_cons b q other free zero l is = other is
+free_cons b q other free (suc k) l is = free k (omega arith) is
+
+pub free_append : (a b : List ℕ) → NoLf a → NoLf b → NoLf (a ++ b)
+free_append [] b f g k i is = g k i is
+free_append (x ∷ a) b f g zero i is = f 0 (omega arith) is
+free_append (x ∷ a) b f g (suc k) i is =
+    free_append a b (λ j low e. f (suc j) (omega arith) e) g k (omega arith) is
+
+cut_on : (b : ℕ) (p x y : List ℕ) → p ≡ x ++ y → IsAtStart x → NoLf y → Cut (b ∷ p)
+unfolding IsAtStart
+cut_on b p (c ∷ x) y e s f =
+    record { before = b ∷ c ∷ x; tail = y; split = ap (λ z. b ∷ z) e; start = s; free = f }
+cut_on b p [] y e s f = elim (cases_eq b 10) [
+  | inl is ↦ record { before = b ∷ []; tail = y; split = ap (λ z. b ∷ z) e; start = is; free = f }
+  | inr other ↦
+      record { before = []; tail = b ∷ y; split = ap (λ z. b ∷ z) e; start = tt; free = free_cons b y other f }
+]
+
+cut : (p : List ℕ) → Cut p
+unfolding IsAtStart
+cut [] = record { before = []; tail = []; split = refl; start = tt; free = λ k l. absurd (omega arith) }
+cut (b ∷ p) = let c = cut p in cut_on b p c.before c.tail c.split c.start c.free
+
+-- So its whole pieces stay, and what follows them goes on with that line.
+
+whole_cut : (p : List ℕ) (c : Cut p) → whole_pieces p ≡ pieces c.before
+whole_cut p c =
+    ap whole_pieces c.split ∙ whole_at_start c.before c.tail c.start
+    ∙ ap (λ ps. pieces c.before ++ ps) (none_whole c.tail c.free) ∙ append-nil (pieces c.before)
+
+whole_on : (p q : List ℕ) (c : Cut p) → whole_pieces (p ++ q) ≡ whole_pieces p ++ whole_pieces (c.tail ++ q)
+whole_on p q c =
+    ap (λ z. whole_pieces (z ++ q)) c.split ∙ ap whole_pieces (append_assoc c.before c.tail q)
+    ∙ whole_at_start c.before (c.tail ++ q) c.start
+    ∙ ap (λ ps. ps ++ whole_pieces (c.tail ++ q)) (sym (whole_cut p c))
+
+pieces_on : (p q : List ℕ) (c : Cut p) → pieces (p ++ q) ≡ whole_pieces p ++ pieces (c.tail ++ q)
+pieces_on p q c =
+    ap (λ z. pieces (z ++ q)) c.split ∙ ap pieces (append_assoc c.before c.tail q)
+    ∙ pieces-append c.before (c.tail ++ q) c.start
+    ∙ ap (λ ps. ps ++ pieces (c.tail ++ q)) (sym (whole_cut p c))
+
+pub whole_begins : (p q : List ℕ) → Begins (whole_pieces p) (whole_pieces (p ++ q))
+whole_begins p q = let c = cut p in (whole_pieces (c.tail ++ q), sym (whole_on p q c))
+
+pub whole_front : (p q : List ℕ) → Begins (whole_pieces p) (pieces (p ++ q))
+whole_front p q = let c = cut p in (pieces (c.tail ++ q), sym (pieces_on p q c))
+
+pub none_free : (q : List ℕ) → whole_pieces q ≡ [] → NoLf q
+none_free q none = let c = cut q in by c.before c.tail c.split (sym (whole_cut q c) ∙ none) c.free
+  where
+    by : (x y : List ℕ) → q ≡ x ++ y → pieces x ≡ [] → NoLf y → NoLf q
+    by [] y e n free = subst NoLf (sym e) free
+    by (b ∷ x) y e n free = let some = pieces-some b x in cc
+
+-- How many pieces there are.
+
+some_pieces : (q : List ℕ) → 0 < length q → 0 < length (pieces q)
+some_pieces [] some = absurd (omega arith)
+some_pieces (b ∷ q) some = omega (arith, ap length (pieces-some b q).2)
+
+free_one : (q : List ℕ) → NoLf q → length (pieces q) ≤ 1
+free_one [] free = omega (arith, ap length pieces-none)
+free_one (b ∷ q) free = omega (arith, ap length (pieces-open b q free))
+
+count_on : (p q : List ℕ) (c : Cut p)
+    → length (pieces (p ++ q)) ≡ length (whole_pieces p) + length (pieces (c.tail ++ q))
+count_on p q c = ap length (pieces_on p q c) ∙ length-append (whole_pieces p) (pieces (c.tail ++ q))
+
+count : (p : List ℕ) (c : Cut p) → length (pieces p) ≡ length (whole_pieces p) + length (pieces c.tail)
+count p c = ap (λ z. length (pieces z)) (sym (append-nil p)) ∙ count_on p [] c ∙ rw append-nil refl
+
+-- All pieces but the last are whole,
+pub but_last : (p : List ℕ) → length (pieces p) ≤ length (whole_pieces p) + 1
+but_last p = let c = cut p in omega (arith, count p c, free_one c.tail c.free)
+
+-- and the last isn't where no line begins behind it,
+pub open_end : (p : List ℕ) → (IsAtStart p → ⊥) → length (whole_pieces p) + 1 ≤ length (pieces p)
+open_end p other =
+    let c = cut p in
+    omega (arith, count p c, some_pieces c.tail (by c.before c.tail c.split c.start))
+  where
+    by : (x y : List ℕ) → p ≡ x ++ y → IsAtStart x → 0 < length y
+    by x [] e s = absurd (other (subst IsAtStart (sym (e ∙ append-nil x)) s))
+    by x (b ∷ y) e s = omega arith
+
+-- with bytes more there is a piece behind those of the front,
+pub some_more : (p q : List ℕ) → 0 < length q → length (whole_pieces p) + 1 ≤ length (pieces (p ++ q))
+some_more p q some =
+    let c = cut p in
+    omega (arith, count_on p q c, some_pieces (c.tail ++ q) (omega (arith, length-append c.tail q)))
+
+-- but one at most.
+pub one_piece : (p : List ℕ) (b : ℕ) → length (pieces (p ++ b ∷ [])) ≤ length (pieces p) + 1
+one_piece p b =
+    let c = cut p in
+    omega (arith, count p c, count_on p (b ∷ []) c, one c.tail c.free)
+  where
+    one : (q : List ℕ) → NoLf q → length (pieces (q ++ b ∷ [])) ≤ 1
+    one q free = elim (cases_eq b 10) [
+      | inl is ↦ rw is (omega (arith, ap length (pieces-whole q free)))
+      | inr other ↦
+          let last = free_cons b [] other (λ k l. absurd (omega arith)) in
+          free_one (q ++ b ∷ []) (free_append q (b ∷ []) free last)
+    ]
 
 -- More bytes make no fewer pieces.
-
-onto_grows : (b : ℕ) (ps qs : List (List ℕ)) → length ps ≤ length qs
-    → length (onto b ps) ≤ length (onto b qs)
-onto_grows b [] qs h = some_onto b qs
-onto_grows b (p ∷ ps) [] h = absurd (omega (arith, h))
-onto_grows b (p ∷ ps) (q ∷ qs) h = omega (arith, h)
-
 pub pieces_grow : (p q : List ℕ) → length (pieces p) ≤ length (pieces (p ++ q))
-unfolding pieces
-pieces_grow [] q = omega arith
-pieces_grow (b ∷ bs) q =
-    let ih = pieces_grow bs q in
-    elim (b == 10)
-    as (λ (v : Bool).
-    length (if v then [] ∷ pieces bs else onto b (pieces bs))
-    ≤ length (if v then [] ∷ pieces (bs ++ q) else onto b (pieces (bs ++ q)))) [
-      | true ↦ omega (arith, ih)
-      | false ↦ onto_grows b (pieces bs) (pieces (bs ++ q)) ih
-    ]
+pieces_grow p [] = omega (arith, ap (λ z. length (pieces z)) (append-nil p))
+pieces_grow p (b ∷ q) = omega (arith, but_last p, some_more p (b ∷ q) (omega arith))

@@ -1,30 +1,23 @@
 -- Trees of stages are plans.
-use Rattle.std.proofs.Common.{◌≡◌, refl, subst, ℕ, zero, suc, ◌+◌, ◌<◌, List, [], ◌∷◌, length, arith}
-use Rattle.std.specs.Prelude.{Option, Some, None, slice_get}
+use Rattle.std.proofs.Common.{◌≡◌, ℕ, zero, suc, ◌+◌, ◌<◌, List, [], ◌∷◌, length, arith}
+use Rattle.std.specs.Prelude.{Some, slice_get}
 use Rattle.std.specs.List.{AllByRecursion}
 use Rattle.hum_record.specs.Row.{Row}
 use Rattle.hum_stage.specs.declared.faults.End.TheVariants.{Broken}
 use Rattle.hum_stage.specs.declared.faults.Fault.{Fault}
-use Rattle.hum_stage.specs.declared.faults.Rule.{Rule}
-use Rattle.hum_stage.specs.declared.faults.Command.{Command}
-use Rattle.hum_stage.specs.Meaning.{fault_at}
 use Rattle.hum_turns.specs.Flow.{Flow}
 use Rattle.hum_turns.specs.Plan as turns
 use Rattle.hum_turns.specs.Meaning as whole
-use Rattle.hum_read.specs.Denoted.{end_at}
 use Rattle.hum_nodes.specs.Fine.{fine}
-use Rattle.hum_nodes.specs.Single.{own_end}
 use Rattle.hum_nodes.proofs.SingleLaws as single
 use Rattle.hum_nodes.proofs.MergingLaws as merging
 use Rattle.hum_nodes.proofs.ReadingLaws as reading
-use Rattle.hum_nodes.specs.Trees.{Part, Reads, Through, Beside, sources_of, kind_of, kind_at, part_at, plan_of}
-use Rattle.hum_nodes.specs.Trees.{IsPart, IsRead, IsTree}
+use Rattle.hum_nodes.specs.Trees.{Part, Reads, Through, Beside, sources_of, kind_of, kind_at, part_at, plan_of, IsPart}
+use Rattle.hum_nodes.specs.Trees.{IsRead, IsTree}
 
 below_part : (count k : ℕ) (part : Part) → IsPart count k part
     → AllByRecursion (λ s. s < k) (kind_of (k + 1) part).stage.sources
-below_part count k (Reads bytes) h = tt
-below_part count k (Through from command) h = (h.0, tt)
-below_part count k (Beside from) h = h
+below_part count k part h = grind (arith, h)
 
 lawful_part : (count k : ℕ) (part : Part) → IsPart count k part
     → turns.IsLawful fine (kind_of (k + 1) part).stage
@@ -50,27 +43,13 @@ is_plan parts h = record {
 
 -- Faults bear the number of their stage.
 
-reading_numbered : (n : ℕ) (o : Option (ℕ × Rule)) (f : Fault) → end_at n o ≡ Broken f → f.stage ≡ n
-reading_numbered n None f e = cc
-reading_numbered n (Some (line, rule)) f e = cc
-
-own_numbered : (n : ℕ) (command : Command) (o : Option (ℕ × Rule)) (f : Fault)
-    → own_end (fault_at n command o) ≡ Broken f → f.stage ≡ n
-own_numbered n command None f e = cc
-own_numbered n command (Some (line, rule)) f e = cc
-
 numbered_part : (count k : ℕ) (part : Part) → IsPart count k part → (read : ℕ)
     (inputs : List (Flow Row)) (f : Fault)
     → (kind_of (k + 1) part).stage.own read inputs ≡ Broken f → f.stage ≡ k + 1
-numbered_part count k (Reads bytes) h read inputs f e = reading_numbered (k + 1) _ f e
-numbered_part count k (Through from command) h read inputs f e =
-    subst (λ (n : ℕ). f.stage ≡ n) h.2 (own_numbered command.stage command.command _ f e)
-numbered_part count k (Beside from) h read inputs f e = own_numbered (k + 1) _ _ f e
+numbered_part count k part h read inputs f e = grind (arith, h, e)
 
 sources_kind : (n : ℕ) (part : Part) → (kind_of n part).stage.sources ≡ sources_of part
-sources_kind n (Reads bytes) = refl
-sources_kind n (Through from command) = refl
-sources_kind n (Beside from) = refl
+sources_kind n part = grind arith
 
 later : (k : ℕ) (xs : List ℕ) (place s : ℕ) → AllByRecursion (λ x. x < k) xs
     → slice_get xs place ≡ Some s → s < k

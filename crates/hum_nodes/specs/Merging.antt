@@ -3,8 +3,7 @@ use Rattle.std.specs.Prelude.{◌≡◌, ◌≤◌, ℕ, true, List, map, length
 use Rattle.hum_record.specs.Row.{Row}
 use Rattle.hum_assemble.specs.Change.{Input}
 use Rattle.hum_assemble.specs.Merge.{ahead}
-use Rattle.hum_assemble.specs.Meaning.{Moment, opening, output, own_fault, rest, wanted, ends}
-use Rattle.hum_assemble.specs.Meaning.{held_at}
+use Rattle.hum_assemble.specs.Meaning.{Moment, opening, output, own_fault, rest, wanted, ends, held_at}
 use Rattle.hum_turns.specs.Flow.{Flow}
 use Rattle.hum_turns.specs.Plan.{Want, Source, Nothing}
 use Rattle.hum_nodes.specs.At.{Kind, At}

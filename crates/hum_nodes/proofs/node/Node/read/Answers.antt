@@ -1,5 +1,4 @@
-use Rattle.std.proofs.Common.{refl, sym}
-use Rattle.std.proofs.lemmas.Bool.{false≢true}
+use Rattle.std.proofs.Common.{refl}
 use Rattle.hum_nodes.proofs.Turns.{new_stands}
 use Rattle.hum_nodes.proofs.node.Node.read.Goals as goal
 
@@ -7,8 +6,8 @@ pub returns-clause-stands : goal.returns-clause-stands
 returns-clause-stands g c all =
     let e = c.new.ensures in
     record {
-      works = new_stands c.new.result c.args.number all e.fresh e.opening e.stage;
+      works = new_stands c.args.number all e.fresh e.opening e.stage;
       alone = λ other. refl;
       knows = refl;
-      takes = λ other. absurd (false≢true (sym other));
+      takes = λ other. cc;
     }
