@@ -12,7 +12,8 @@ use Rattle.hum_plan.specs.declared.faults.PlanFault.{PlanFault}
 use Rattle.hum_plan.specs.Faults.{broken}
 use Rattle.hum_plan.specs.Stages.{Read}
 use Rattle.hum_stage.specs.Words.{command_of}
-use Rattle.hum_plan.specs.Answers.{Outline, Outcome, nothing, LinesAnswer, StagesAnswer, names_joined, with_stage, ended, whole_fault}
+use Rattle.hum_plan.specs.Answers.{Outline, Outcome, nothing, LinesAnswer, StagesAnswer, names_joined, with_stage}
+use Rattle.hum_plan.specs.Answers.{ended, whole_fault}
 
 -- how the lines of a plan are answered
 abbrev Says : List ℕ → Outcome Outline → Type 0

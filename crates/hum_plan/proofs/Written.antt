@@ -1,121 +1,55 @@
--- The text of a plan is answered as it is written.
-use Rattle.std.proofs.Common.{◌≡◌, ◌≢◌, ℕ, ◌<◌, ◌≤◌, ◌==◌, ◌&&◌, ◌||◌, Bool, true, false, List, [], ◌∷◌, ◌++◌}
-use Rattle.std.proofs.Common.{length, Option, None, Some, is_some, is_none, Ok, Err, refl, sym, ap, subst, ◌∙◌}
-use Rattle.std.proofs.Common.{if◌then◌else◌, arith, option_map, slice_index, ◌-◌}
-use Rattle.std.proofs.lemmas.Bool.{eqb-true}
+-- The text of a plan is answered as it is written, or refused for the first rule that it breaks.
+use Rattle.std.proofs.Common.{◌≡◌, ◌≢◌, ℕ, ◌<◌, ◌≤◌, ◌==◌, ◌&&◌, ◌||◌, not, Bool, true, false, List, [], ◌∷◌}
+use Rattle.std.proofs.Common.{◌++◌, length, Option, None, Some, is_some, is_none, Ok, Err, refl, sym, ap, subst, ◌∙◌}
+use Rattle.std.proofs.Common.{arith, option_map, slice_index, ◌-◌}
+use Rattle.std.proofs.Math.Bool.{and-false, and-true}
+use Rattle.std.proofs.lemmas.Bool.{eqb-true, and_parts, and_from, or_parts, both_ways}
+use Rattle.std.proofs.lemmas.Bool.{false_from_ne_true, true_from_ne_false}
 use Rattle.std.proofs.lemmas.Bool.Decides.{nat_tests}
+use Rattle.std.proofs.lemmas.List.{append-nil}
 use Rattle.std.proofs.lemmas.Option.{same_Some}
 use Rattle.std.proofs.lemmas.Slice.Eq.{bytes_eq-Decides}
 use Rattle.std.proofs.lemmas.Str.{IsUtf8-from_is_utf8, is_utf8-from_IsUtf8}
-use Rattle.std.specs.Bool.{beq}
-use Rattle.std.specs.List.{find}
+use Rattle.std.specs.Bool.{beq, Decides}
+use Rattle.std.specs.Cmp.{booleans_Decides}
+use Rattle.std.specs.List.{find, list_all}
 use Rattle.std.specs.Prelude.{IsSome, nat_lt, nat_le}
 use Rattle.std.specs.Str.{bytes_eq, IsUtf8, is_utf8}
 use lib.Chars.{codes}
 use Rattle.hum_path.proofs.Cases.{by_bool}
 use Rattle.hum_words.specs.Branches.{branches_of, lines_of}
 use Rattle.hum_words.specs.Cutting.{Cut, cut_line}
-use Rattle.hum_words.specs.Names.{is_name, name_in}
+use Rattle.hum_words.specs.Names.{is_name, front_of, name_in}
 use Rattle.hum_words.specs.Pieces.{Item}
 use Rattle.hum_words.specs.Pieces as item
 use Rattle.hum_words.specs.Text.{longest, fault_of}
 use Rattle.hum_words.specs.Writing.{IsWritten}
-use Rattle.hum_words.proofs.Decided.{cut_as_written}
-use Rattle.hum_words.proofs.Ends.{with_colon, ends_in}
+use Rattle.hum_words.specs.declared.text.PlanTextFault.{PlanTextFault}
+use Rattle.hum_words.proofs.Decided.{cut_as_written, refused_as_wrong}
+use Rattle.hum_words.proofs.Ends.{with_colon, ends_in, front_is}
 use Rattle.hum_stage.specs.Words.{commands, word_of, command_of}
 use Rattle.hum_stage.specs.declared.faults.Command.{Command}
 use Rattle.hum_stage.specs.declared.faults.Command.TheVariants as command
-use Rattle.hum_options.specs.Answers.{Word, Answer}
-use Rattle.hum_choices.specs.Options as meant
+use Rattle.hum_options.specs.Answers.{Word, has_none}
 use Rattle.hum_options.specs.Seen.{words_before_bar}
 use Rattle.hum_plan.specs.declared.branches.Branch.{Branch}
-use Rattle.hum_plan.specs.declared.commands.Opening.{Opening}
-use Rattle.hum_plan.specs.declared.commands.Opening.TheVariants as opening
 use Rattle.hum_plan.specs.declared.faults.PlanFault.{PlanFault}
-use Rattle.hum_plan.specs.Faults.{of_text}
-use Rattle.hum_plan.specs.Stages.{Stage, Read, Assemble, Takes, IsTree}
-use Rattle.hum_plan.specs.Branches.{Branches, branch_of, first_unused, is_out}
+use Rattle.hum_plan.specs.declared.faults.PlanRule.TheVariants.{N3, N5, N11}
+use Rattle.hum_plan.specs.Faults.{broken, of_text}
+use Rattle.hum_plan.specs.Stages.{Stage}
+use Rattle.hum_plan.specs.Branches.{branch_of, first_unused, is_out}
 use Rattle.hum_plan.specs.Lines.{groups, groups_behind, empty_stage}
-use Rattle.hum_plan.specs.Answers.{Outline, Outcome, nothing, with_stage, with_read, with_joined, with_command}
-use Rattle.hum_plan.specs.Answers.{name_read, names_joined, joined, Joined, opening_of, is_source}
-use Rattle.hum_plan.specs.Answers.{is_end}
-use Rattle.hum_plan.specs.Answers.{Begins, Placed, StageAnswer, StagesAnswer, Then, Onward, Unless, name_fault}
-use Rattle.hum_plan.specs.Answers.{ended, NameAnswer, BranchAnswer, CutAnswer, LinesAnswer, whole_fault}
+use Rattle.hum_plan.specs.Answers.{Outline, Outcome, nothing, is_source, is_end, Placed, StageAnswer, StagesAnswer}
+use Rattle.hum_plan.specs.Answers.{Then, Unless, ended, first_name, behind_first, NameAnswer, CutAnswer, LinesAnswer}
 use Rattle.hum_plan.specs.Answers.{WholeAnswer, PlanAnswer}
-use Rattle.hum_plan.specs.Grammar.{AddsStage, AddStages, IsBranch, AreBranches, IsPlanOf, TakesBranches}
+use Rattle.hum_plan.specs.Grammar.{IsStageOf, AddStages, IsNamed, IsNew, IsBranch, AreBranches, IsPlanOf}
 use Rattle.hum_plan.specs.Laws.{IsReadAsWritten}
-use Rattle.hum_plan.proofs.Trees.{has_a_tree}
-use Rattle.hum_plan.proofs.Spelling.{answer_spells, spelled_answer, AreJoined, are_joined, names_answer}
-
--- A stage.
-
--- the one name behind `read`
-name_there : (line n : ℕ) (words : List Word) (name : List ℕ) → name_read line n words ≡ Ok name
-    → (k : ℕ) × (words ≡ (k, name) ∷ []) × (name ≢ [])
-name_there line n [] name h = absurd (cc)
-name_there line n ((k, other) ∷ []) name h = by_bool (length other == 0)
-    (λ w. let no = rw w at h in absurd (cc))
-    (λ w.
-    let e = rw w at h in
-    let is : other ≡ name = cc in (
-      k,
-      ap (λ text. (k, text) ∷ []) is,
-      λ empty. let none : (length other == 0) ≡ true = rw (is ∙ empty) refl in let no : true ≡ false = sym none ∙ w in cc,
-    ))
-name_there line n ((k, other) ∷ ((m, word) ∷ words)) name h = by_bool (length other == 0)
-    (λ w. let no = rw w at h in absurd (cc))
-    (λ w. let no = rw w at h in absurd (cc))
-
-pub filled : (name : List ℕ) → name ≢ [] → (length name == 0) ≡ false
-filled [] some = absurd (some refl)
-filled (b ∷ name) some = grind (arith, nat_tests)
-
-read_there : (outline new : Outline) (read : Outcome (List ℕ)) → Ok new ≡ with_read outline read
-    → (name : List ℕ) × (read ≡ Ok name) × (new ≡ with_stage outline command.Read [] (Read name))
-read_there outline new (Ok name) h = (name, refl, (cc))
-read_there outline new (Err fault) h = absurd (cc)
-
-joined_there : (outline new : Outline) (names : Outcome Joined) → Ok new ≡ with_joined outline names
-    → (all : Joined) × (names ≡ Ok all)
-    × (new ≡ with_stage (record outline { branches = all.branches }) command.Assemble all.sources Assemble)
-joined_there outline new (Ok all) h = (all, refl, (cc))
-joined_there outline new (Err fault) h = absurd (cc)
-
-command_there : (line : ℕ) (outline new : Outline) (kind : Command) (found : Answer) → Ok new ≡ with_command line outline kind found
-    → (options : meant.Options) × (found ≡ Ok options)
-    × (new ≡ with_stage outline kind (length outline.stages ∷ []) (Takes options))
-command_there line outline new kind (Ok options) h = (options, refl, (cc))
-command_there line outline new kind (Err fault) h = absurd (cc)
-
-assembles : (old new : Outline) (kind : Command) (is_last : Bool) (words : List Word) (all : Joined)
-    → AreJoined (joined [] old.branches) all words
-    → new ≡ with_stage (record old { branches = all.branches }) command.Assemble all.sources Assemble
-    → AddsStage is_last old kind words opening.Assemble new
-assembles old new kind is_last words all h is =
-    let P : List ℕ → Type 0 = λ sources. TakesBranches old.branches words sources all.branches in
-    (all.sources, all.branches, subst P (sym h.sources) h.takes, h.some, h.bound, is)
-
-pub adds : (line n : ℕ) (is_last : Bool) (old new : Outline) (kind : Command) (words : List Word) (begins : Opening)
-    → Begins line is_last old kind n words begins (Ok new) → AddsStage is_last old kind words begins new
-adds line n is_last old new kind words opening.Read h =
-    let p = read_there old new (name_read line n words) h in
-    let q = name_there line n words p.0 p.1 in
-    (q.0, p.0, q.1, q.2, p.2)
-adds line n is_last old new kind words opening.Assemble h =
-    let p = joined_there old new (names_joined line n (joined [] old.branches) words) h in
-    assembles old new kind is_last words p.0 (are_joined line n (joined [] old.branches) p.0 words (omega arith) p.1) p.2
-adds line n is_last old new kind words (opening.Takes tool) h =
-    let p = command_there line old new kind h.0 h.2 in
-    (p.0, answer_spells n is_last tool words p.0 (rw p.1 at h.1), p.2)
-
-pub begun : (line n : ℕ) (is_last : Bool) (old new : Outline) (kind : Command) (words : List Word) (begins : Opening)
-    → AddsStage is_last old kind words begins new → Begins line is_last old kind n words begins (Ok new)
-begun line n is_last old new kind words opening.Read h =
-    rw (h.4, h.2, filled h.1 h.3) refl
-begun line n is_last old new kind words opening.Assemble h =
-    rw (h.5, names_answer line n (joined [] old.branches) words h.0 h.1 h.2 h.3 h.4) refl
-begun line n is_last old new kind words (opening.Takes tool) h =
-    (Ok h.0, spelled_answer n is_last tool words h.0 h.1, rw h.2 refl)
+use Rattle.hum_plan.specs.Refused.{StageBreaks, too_many, unknown, misplaced, behind, BreaksAtStage}
+use Rattle.hum_plan.specs.Refused.{LineBreaks, quotes, nameless, used, crowded, wordless, at_stage, BreaksAtLine}
+use Rattle.hum_plan.specs.Refused.{WholeBreaks, outless, unused, BreaksFirstOf, unread, at_line, at_end}
+use Rattle.hum_plan.specs.Refused.{IsRefusedInOrder}
+use Rattle.hum_plan.proofs.Spelling.{Reads, CommandReads, gives, refuses, given, broken_by, none_there}
+use Rattle.hum_plan.proofs.Spelling.{begins_read, begins_answers}
 
 -- The command of a word.
 
@@ -125,273 +59,369 @@ find_true test (y ∷ xs) x h = by_bool (test y)
     (λ w. rw (← same_Some y x (rw w at h)) w)
     (λ w. find_true test xs x (rw w at h))
 
-pub command_spelled : (word : List ℕ) (kind : Command) → command_of word ≡ Some kind → word ≡ word_of kind
+command_spelled : {word : List ℕ} {kind : Command} → command_of word ≡ Some kind → word ≡ word_of kind
 unfolding command_of
-command_spelled word kind h =
+command_spelled {word} {kind} h =
     sym ((bytes_eq-Decides (word_of kind) word).0 (find_true (λ kind. bytes_eq (word_of kind) word) commands kind h))
 
-pub command_known : (kind : Command) → command_of (word_of kind) ≡ Some kind
+command_known : (kind : Command) → command_of (word_of kind) ≡ Some kind
 unfolding command_of
 command_known command.Read = refl
 command_known other = refl
 
+not_known : {word : List ℕ} → ((kind : Command) → word ≢ word_of kind) → command_of word ≡ None
+not_known {word} none = by_found (command_of word) refl
+  where
+    by_found : (found : Option Command) → command_of word ≡ found → command_of word ≡ None
+    by_found None e = e
+    by_found (Some kind) e = absurd (none kind (command_spelled e))
+
+-- A stage.
+
+abbrev is_filled : List Word → Bool
+is_filled words = not (has_none words)
+
+-- the words are those of a stage that is added, or break a rule
+abbrev StageReads : ℕ → Bool → Bool → Outline → List Word → Outcome Outline → Type 0
+StageReads line is_first is_last old words =
+    Reads (IsStageOf is_first is_last old words) (StageBreaks line is_first is_last old words)
+
+has_room : {n : ℕ} → n < 64 → nat_le 64 n ≡ false
+has_room less = grind (arith, nat_tests)
+
+module _ (line : ℕ) (is_first is_last : Bool) (old : Outline) where
+  fits : (kind : Command) → Decides (beq (is_source kind) is_first) (is_source kind ≡ is_first)
+  fits kind = booleans_Decides (is_source kind) is_first
+
+  placed : {n : ℕ} {words : List Word} (kind : Command) {answer : Outcome Outline} → length old.stages < 64
+      → is_source kind ≡ is_first → CommandReads line n is_last old words kind answer
+      → StageReads line is_first is_last old ((n, word_of kind) ∷ words) answer
+  placed {n = n} {words = words} kind room place (gives h) =
+      gives (record { number = n; kind = kind; behind = words; whole = refl; place = place; room = room; adds = h })
+  placed kind room place (refuses h) = refuses (behind kind room place h)
+
+  stage_read : (words : List Word) {answer : Outcome Outline} → is_filled words ≡ true
+      → StageAnswer line is_first is_last old words answer → StageReads line is_first is_last old words answer
+  stage_read [] full h = absurd (cc)
+  stage_read ((n, word) ∷ words) {answer} full h = by_bool (nat_le 64 (length old.stages))
+      (λ w. rw (rw w at h) (refuses (too_many (grind (arith, nat_tests)))))
+      (λ w. by_command (grind (arith, nat_tests)) (command_of word) refl (rw w at h))
+    where
+      by_command : length old.stages < 64 → (found : Option Command) → command_of word ≡ found
+          → Placed line is_first is_last old n words found answer
+          → StageReads line is_first is_last old ((n, word) ∷ words) answer
+      by_command room None e h = rw h (refuses (unknown room (λ kind is.
+          let known : command_of word ≡ Some kind = ap command_of is ∙ command_known kind in cc)))
+      by_command room (Some kind) e h = rw (command_spelled e) (by_bool (beq (is_source kind) is_first)
+          (λ w. placed kind room ((fits kind).0 w) (begins_read line n is_last old words kind (rw w at h)))
+          (λ w. rw (rw w at h) (refuses (misplaced kind room (λ is. both_ways _ w ((fits kind).1 is))))))
+
+  stage_answers : (words : List Word) {answer : Outcome Outline} → StageReads line is_first is_last old words answer
+      → StageAnswer line is_first is_last old words answer
+  stage_answers words (gives h) =
+      rw (h.whole, has_room h.room, command_known h.kind, (fits h.kind).1 h.place)
+      (begins_answers line h.number is_last old h.behind h.kind (gives h.adds))
+  stage_answers words (refuses (too_many many)) =
+      let full : nat_le 64 (length old.stages) ≡ true = grind (arith, nat_tests) in rw full refl
+  stage_answers words (refuses (unknown room none)) = rw (has_room room, not_known none) refl
+  stage_answers words (refuses (misplaced kind room apart)) =
+      let place = false_from_ne_true _ (λ w. apart ((fits kind).0 w)) in
+      rw (has_room room, command_known kind, place) refl
+  stage_answers words (refuses (behind {n} {words = more} kind room place h)) =
+      rw (has_room room, command_known kind, (fits kind).1 place)
+      (begins_answers line n is_last old more kind (refuses h))
+
 -- The stages of a line.
 
-pub beq_true : (a b : Bool) → beq a b ≡ true → a ≡ b
-beq_true true true h = refl
-beq_true true false h = absurd (cc)
-beq_true false true h = absurd (cc)
-beq_true false false h = refl
+-- all stages are added, or the first that breaks a rule tells it
+abbrev StagesRead : ℕ → Bool → Bool → Outline → List (List Word) → Outcome Outline → Type 0
+StagesRead line ends is_first old stages =
+    Reads (AddStages ends is_first old stages) (BreaksAtStage line ends is_first old stages)
 
-pub beq_self : (a b : Bool) → a ≡ b → beq a b ≡ true
-beq_self true b h = rw (← h) refl
-beq_self false b h = rw (← h) refl
+goes_on : (front : List (List Word)) (words : List Word) (rest : List (List Word))
+    → is_end (front ++ words ∷ rest) ≡ false
+goes_on [] words rest = refl
+goes_on (first ∷ front) words rest = refl
 
-pub below_64 : (n : ℕ) → nat_le 64 n ≡ false → n < 64
-below_64 n h = grind (arith, nat_tests)
+module _ (line : ℕ) (ends : Bool) where
+  stages_on : {is_first : Bool} {old next : Outline} {words : List Word} {stages : List (List Word)}
+      {answer : Outcome Outline} → IsStageOf is_first (ends && is_end stages) old words next
+      → StagesRead line ends false next stages answer
+      → StagesRead line ends is_first old (words ∷ stages) answer
+  stages_on {next = next} one (gives h) = gives (next, one, h)
+  stages_on {next = next} {words = words} one (refuses b) = refuses (record {
+    front = words ∷ b.front;
+    words = b.words;
+    behind = b.behind;
+    next = b.next;
+    whole = ap (λ all. words ∷ all) b.whole;
+    lawful = (next, rw (b.whole, goes_on b.front b.words b.behind, and-false) at one, b.lawful);
+    broken = rw and-false b.broken;
+  })
 
-pub under_64 : (n : ℕ) → n < 64 → nat_le 64 n ≡ false
-under_64 n h = grind (arith, nat_tests)
+  stages_read : (is_first : Bool) (old : Outline) (stages : List (List Word)) {answer : Outcome Outline}
+      → list_all is_filled stages ≡ true → StagesAnswer line ends is_first old stages answer
+      → StagesRead line ends is_first old stages answer
+  unfolding StagesAnswer
+  stages_read is_first old [] full h = rw h (gives refl)
+  stages_read is_first old (words ∷ stages) full (Ok next, first, rest) =
+      let all = and_parts _ _ full in
+      stages_on (given (stage_read line is_first (ends && is_end stages) old words all.0 first))
+      (stages_read false next stages all.1 rest)
+  stages_read is_first old (words ∷ stages) full (Err fault, first, is) =
+      let all = and_parts _ _ full in
+      rw is (refuses {fault = fault} (record {
+        front = [];
+        words = words;
+        behind = stages;
+        next = old;
+        whole = refl;
+        lawful = refl;
+        broken = rw and-true (broken_by (stage_read line is_first (ends && is_end stages) old words all.0 first));
+      }))
 
-pub below_16 : (n : ℕ) → nat_le 16 n ≡ false → n < 16
-below_16 n h = grind (arith, nat_tests)
+  -- stages that are lawful are passed over
+  stages_pass : (is_first : Bool) (old next : Outline) (front rest : List (List Word))
+      (answer : Outcome Outline) → AddStages (ends && is_end rest) is_first old front next
+      → StagesAnswer line ends (is_first && is_end front) next rest answer
+      → StagesAnswer line ends is_first old (front ++ rest) answer
+  unfolding StagesAnswer
+  stages_pass is_first old next [] rest answer lawful h = rw (lawful, and-true) at h
+  stages_pass is_first old next (words ∷ front) rest answer (middle, one, lawful) h = (
+    Ok middle,
+    stage_answers line is_first (ends && is_end (front ++ rest)) old words (gives (rw (at_end front) at one)),
+    stages_pass false middle next front rest answer lawful (rw and-false at h),
+  )
+    where
+      at_end : (front : List (List Word)) → ((ends && is_end rest) && is_end front) ≡ (ends && is_end (front ++ rest))
+      at_end [] = and-true _
+      at_end (words ∷ front) = and-false _ ∙ sym (and-false ends)
 
-pub under_16 : (n : ℕ) → n < 16 → nat_le 16 n ≡ false
-under_16 n h = grind (arith, nat_tests)
-
-onward_ok : {A B : Type 0} (First : Outcome A → Type 0) (Next : A → Outcome B → Type 0) (b : B) (given : Outcome A) → First given
-    → Onward Next given (Ok b) → (a : A) × First (Ok a) × Next a (Ok b)
-onward_ok First Next b (Ok a) first next = (a, first, next)
-onward_ok First Next b (Err fault) first next = absurd (cc)
-
-pub then_ok : {A B : Type 0} (First : Outcome A → Type 0) (Next : A → Outcome B → Type 0) (b : B) → Then First Next (Ok b)
-    → (a : A) × First (Ok a) × Next a (Ok b)
-then_ok First Next b h = onward_ok First Next b h.0 h.1 h.2
-
-unless_ok : {B : Type 0} (found : Option PlanFault) (Next : Outcome B → Type 0) (b : B) → Unless found Next (Ok b)
-    → (found ≡ None) × Next (Ok b)
-unless_ok None Next b h = (refl, h)
-unless_ok (Some fault) Next b h = absurd (cc)
-
-placed_there : (line n : ℕ) (is_first is_last : Bool) (old new : Outline) (words : List Word) (found : Option Command)
-    → Placed line is_first is_last old n words found (Ok new)
-    → (kind : Command) × (found ≡ Some kind) × (is_source (opening_of kind) ≡ is_first)
-    × AddsStage is_last old kind words (opening_of kind) new
-placed_there line n is_first is_last old new words None h = absurd (cc)
-placed_there line n is_first is_last old new words (Some kind) h = by_bool (beq (is_source (opening_of kind)) is_first)
-    (λ w. (
-      kind,
-      refl,
-      beq_true (is_source (opening_of kind)) is_first w,
-      adds line n is_last old new kind words (opening_of kind) (rw w at h),
-    ))
-    (λ w. let no = rw w at h in absurd (cc))
-
-abbrev pub IsFilled : List Word → Type 0
-IsFilled [] = ⊥
-IsFilled (word ∷ words) = Unit {0}
-
-abbrev pub AreFilled : List (List Word) → Type 0
-AreFilled [] = Unit {0}
-AreFilled (words ∷ groups) = IsFilled words × AreFilled groups
-
-pub stages_there : (line : ℕ) (is_out is_first : Bool) (old new : Outline) (groups : List (List Word)) → AreFilled groups
-    → StagesAnswer line is_out is_first old groups (Ok new) → AddStages is_out is_first old groups new
-unfolding StagesAnswer
-stages_there line is_out is_first old new [] filled h = cc
-stages_there line is_out is_first old new ([] ∷ groups) filled h = absurd filled.0
-stages_there line is_out is_first old new (((n, word) ∷ words) ∷ groups) filled h =
-    let p = then_ok (StageAnswer line is_first (is_out && is_end groups) old ((n, word) ∷ words))
-    (λ next. StagesAnswer line is_out false next groups) new h in
-    by_bool (nat_le 64 (length old.stages))
-    (λ w. let first = p.1 in let no = rw w at first in absurd (cc))
-    (λ w.
-    let first = p.1 in
-    let q = placed_there line n is_first (is_out && is_end groups) old p.0 words (command_of word) (rw w at first) in (
-      q.0,
-      p.0,
-      command_spelled word q.0 q.1,
-      q.2,
-      below_64 (length old.stages) w,
-      q.3,
-      stages_there line is_out false p.0 new groups filled.1 p.2,
-    ))
-
-pub stage_answer : (line n : ℕ) (is_first is_last : Bool) (old new : Outline) (word : List ℕ) (words : List Word) (kind : Command)
-    → word ≡ word_of kind → is_source (opening_of kind) ≡ is_first → length old.stages < 64
-    → AddsStage is_last old kind words (opening_of kind) new
-    → StageAnswer line is_first is_last old ((n, word) ∷ words) (Ok new)
-stage_answer line n is_first is_last old new word words kind is source room h =
-    let known : command_of word ≡ Some kind = ap command_of is ∙ command_known kind in
-    rw (under_64 (length old.stages) room, known, beq_self (is_source (opening_of kind)) is_first source)
-    (begun line n is_last old new kind words (opening_of kind) h)
-
-pub stages_answer : (line : ℕ) (is_out is_first : Bool) (old new : Outline) (groups : List (List Word))
-    → AddStages is_out is_first old groups new → StagesAnswer line is_out is_first old groups (Ok new)
-unfolding StagesAnswer
-stages_answer line is_out is_first old new [] h = rw h refl
-stages_answer line is_out is_first old new ([] ∷ groups) h = absurd h
-stages_answer line is_out is_first old new (((n, word) ∷ words) ∷ groups) h = (
-  Ok h.1,
-  stage_answer line n is_first (is_out && is_end groups) old h.1 word words h.0 h.2 h.3 h.4 h.5,
-  stages_answer line is_out false h.1 new groups h.6,
-)
-
-pub stages_filled : (is_out is_first : Bool) (old new : Outline) (groups : List (List Word)) → AddStages is_out is_first old groups new
-    → AreFilled groups
-stages_filled is_out is_first old new [] h = tt
-stages_filled is_out is_first old new ([] ∷ groups) h = absurd h
-stages_filled is_out is_first old new (((n, word) ∷ words) ∷ groups) h =
-    (tt, stages_filled is_out false h.1 new groups h.6)
+  stages_answer : (is_first : Bool) (old : Outline) (stages : List (List Word)) {answer : Outcome Outline}
+      → StagesRead line ends is_first old stages answer → StagesAnswer line ends is_first old stages answer
+  unfolding StagesAnswer
+  stages_answer is_first old stages (gives {given = new} h) =
+      subst (λ all. StagesAnswer line ends is_first old all (Ok new)) (append-nil stages)
+      (stages_pass is_first old new stages [] (Ok new) (rw (← and-true ends) at h) refl)
+  stages_answer is_first old stages (refuses {fault} b) =
+      let front = rw (← and-false ends) at b.lawful in
+      let one = stage_answers line (is_first && is_end b.front) (ends && is_end b.behind) b.next b.words in
+      rw b.whole (stages_pass is_first old b.next b.front (b.words ∷ b.behind) (Err fault) front
+      (Err fault, one (refuses b.broken), refl))
 
 -- Stages without words.
 
-abbrev pub FilledIf : Bool → List Word → Type 0
-FilledIf true words = IsFilled words
-FilledIf false words = Unit {0}
+-- no stage is found to lack words where each has some
+lacks_none : (n : ℕ) (lacks : Bool) (items : List Item) → is_none (empty_stage n lacks items)
+    ≡ ((not lacks || is_filled (words_before_bar items)) && list_all is_filled (groups_behind items))
+lacks_none n true [] = refl
+lacks_none n false [] = refl
+lacks_none n true (item.Bar m ∷ items) = refl
+lacks_none n false (item.Bar m ∷ items) = lacks_none m true items
+lacks_none n true (item.Word m word ∷ items) = lacks_none m false items
+lacks_none n false (item.Word m word ∷ items) = lacks_none m false items
 
-pub filled_there : (n : ℕ) (lacks : Bool) (items : List Item) → empty_stage n lacks items ≡ None
-    → FilledIf lacks (words_before_bar items) × AreFilled (groups_behind items)
-filled_there n true [] h = absurd (cc)
-filled_there n false [] h = (tt, tt)
-filled_there n true (item.Bar m ∷ items) h = absurd (cc)
-filled_there n false (item.Bar m ∷ items) h = let rest = filled_there m true items h in (tt, (rest.0, rest.1))
-filled_there n true (item.Word m word ∷ items) h = (tt, (filled_there m false items h).1)
-filled_there n false (item.Word m word ∷ items) h = (tt, (filled_there m false items h).1)
+stages_filled : (ends is_first : Bool) (old new : Outline) (stages : List (List Word))
+    → AddStages ends is_first old stages new → list_all is_filled stages ≡ true
+stages_filled ends is_first old new [] h = refl
+stages_filled ends is_first old new (words ∷ stages) (next, one, h) =
+    and_from _ _ (rw one.whole refl) (stages_filled ends false next new stages h)
 
-pub none_empty : (n : ℕ) (lacks : Bool) (items : List Item) → FilledIf lacks (words_before_bar items) → AreFilled (groups_behind items)
-    → empty_stage n lacks items ≡ None
-none_empty n true [] first rest = absurd first
-none_empty n false [] first rest = refl
-none_empty n true (item.Bar m ∷ items) first rest = absurd first
-none_empty n false (item.Bar m ∷ items) first rest = none_empty m true items rest.0 rest.1
-none_empty n lacks (item.Word m word ∷ items) first rest = none_empty m false items tt rest
+-- The name of a line.
+
+name_spelled : (word name : List ℕ) → name_in word ≡ Some name → (word ≡ name ++ 58 ∷ []) × (is_name name ≡ true)
+name_spelled word name h = by_bool (slice_index word (length word - 1) == 58 && is_name (front_of word))
+    (λ w.
+    let both = and_parts _ _ w in
+    let front : front_of word ≡ name = same_Some _ name (rw w at h) in
+    let last = ends_in word 58 (omega arith) (eqb-true _ _ both.0) in
+    let same : front_of word ≡ last.0 = ap front_of last.1 ∙ front_is last.0 58 in
+    (last.1 ∙ ap (λ bytes. bytes ++ 58 ∷ []) (sym same ∙ front), ap is_name (sym front) ∙ both.1))
+    (λ w. let no = rw w at h in absurd (cc))
+
+pub named_cut : {text name : List ℕ} {rest : List Item} (named : IsNamed text name rest)
+    → (cut_line text ≡ Ok (item.Word named.number (name ++ 58 ∷ []) ∷ rest)) × (name_in (name ++ 58 ∷ []) ≡ Some name)
+named_cut {text} {name} {rest} named = (
+  (cut_as_written text (item.Word named.number (name ++ 58 ∷ []) ∷ rest)).0 named.written,
+  with_colon (name ++ 58 ∷ []) name refl ∙ (rw named.is_name refl),
+)
+
+cut_named : {text name : List ℕ} (items : List Item) → cut_line text ≡ Ok items → first_name items ≡ Some name
+    → IsNamed text name (behind_first items)
+cut_named [] cut name = absurd (cc)
+cut_named (item.Bar n ∷ items) cut name = absurd (cc)
+cut_named {text} {name} (item.Word n word ∷ items) cut is =
+    let q = name_spelled word name is in
+    record {
+      number = n;
+      written = subst (λ w. IsWritten (item.Word n w ∷ items) text) q.0
+          ((cut_as_written text (item.Word n word ∷ items)).1 cut);
+      is_name = q.1;
+    }
+
+unnamed : {text name : List ℕ} {items rest : List Item} → cut_line text ≡ Ok items → first_name items ≡ None
+    → ¬ IsNamed text name rest
+unnamed {name = name} {items = items} {rest = rest} cut none named =
+    let c = named_cut named in
+    let same : items ≡ item.Word named.number (name ++ 58 ∷ []) ∷ rest = cc in
+    let no : None ≡ Some name = sym none ∙ ap first_name same ∙ c.1 in
+    absurd (cc)
+
+-- whether a line before has the name, or is `out`
+abbrev is_old : Outline → List ℕ → Bool
+is_old old name = is_some (branch_of (codes "out") old.branches) || is_some (branch_of name old.branches)
+
+pub not_there : {A : Type 0} (x : Option A) → is_some x ≡ false → x ≡ None
+not_there None h = refl
+not_there (Some a) h = absurd (cc)
+
+new_name : {old : Outline} {name : List ℕ} → is_old old name ≡ false → IsNew old name
+new_name h = let p = or_parts _ _ h in record { goes_on = not_there _ p.0; is_new = not_there _ p.1 }
+
+name_new : {old : Outline} {name : List ℕ} → IsNew old name → is_old old name ≡ false
+name_new h = rw (h.goes_on, h.is_new) refl
 
 -- A line.
 
-pub is_none_at : {A : Type 0} (x : Option A) → is_some x ≡ false → x ≡ None
-is_none_at None h = refl
-is_none_at (Some a) h = absurd (cc)
+-- a line is a branch, or breaks a rule
+abbrev LineReads : Outline → ℕ → List ℕ → Outcome Outline → Type 0
+LineReads old line text = Reads (IsBranch old line text) (LineBreaks old line text)
 
-pub or_false : (a b : Bool) → (a || b) ≡ false → (a ≡ false) × (b ≡ false)
-or_false true b h = absurd (cc)
-or_false false b h = (refl, h)
+few : {n : ℕ} → n < 16 → nat_le 16 n ≡ false
+few less = grind (arith, nat_tests)
 
-unmapped : {A B : Type 0} (f : A → B) (x : Option A) → option_map f x ≡ None → x ≡ None
-unmapped f None h = refl
-unmapped f (Some a) h = absurd (cc)
+module _ (line : ℕ) (old : Outline) where
+  name_read : {text name : List ℕ} {items : List Item} {answer : Outcome Outline} → IsNamed text name items
+      → NameAnswer line old items (Some name) answer → LineReads old line text answer
+  name_read {text} {name} {items} {answer} named h = by_bool (is_old old name)
+      (λ w. rw (rw w at h) (refuses (used named (λ new. both_ways _ (name_new new) w))))
+      (λ w. by_bool (nat_le 16 (length old.branches))
+      (λ v. rw (rw (w, v) at h) (refuses (crowded named (new_name w) (grind (arith, nat_tests)))))
+      (λ v. by_empty (new_name w) (grind (arith, nat_tests)) (empty_stage 1 true items) refl (rw (w, v) at h)))
+    where
+      full : empty_stage 1 true items ≡ None → list_all is_filled (groups items) ≡ true
+      full e = sym (lacks_none 1 true items) ∙ ap is_none e
 
--- a name that breaks no rule
-record IsFree (branches : Branches) (name : List ℕ) (items : List Item) : Type 0 where
-  goes_on : branch_of (codes "out") branches ≡ None
-  is_new : branch_of name branches ≡ None
-  room : length branches < 16
-  filled : empty_stage 1 true items ≡ None
+      by_empty : IsNew old name → length old.branches < 16 → (found : Option ℕ) → empty_stage 1 true items ≡ found
+          → Unless (option_map (λ n. broken line n N5) found)
+          (Then (StagesAnswer line (is_out name) true old (groups items))
+          (λ next answer. answer ≡ Ok (ended line name next))) answer
+          → LineReads old line text answer
+      by_empty new room (Some n) e h = rw h (refuses (wordless named new room e))
+      by_empty new room None e (Ok next, stages, is) = rw is (gives (record {
+        name = name;
+        items = items;
+        next = next;
+        named = named;
+        is_new = new;
+        room = room;
+        stages = given (stages_read line (is_out name) true old (groups items) (full e) stages);
+        ends = refl;
+      }))
+      by_empty new room None e (Err fault, stages, is) = rw is (refuses (at_stage named new room e
+          (broken_by (stages_read line (is_out name) true old (groups items) (full e) stages))))
 
-name_free : (line : ℕ) (branches : Branches) (name : List ℕ) (items : List Item) → name_fault line branches name items ≡ None
-    → IsFree branches name items
-name_free line branches name items h = by_bool (is_some (branch_of (codes "out") branches) || is_some (branch_of name branches))
-    (λ w. let no = rw w at h in absurd (cc))
-    (λ w.
-    let used = or_false (is_some (branch_of (codes "out") branches)) (is_some (branch_of name branches)) w in
-    by_bool (nat_le 16 (length branches))
-    (λ v. let no = rw (w, v) at h in absurd (cc))
-    (λ v. record {
-      goes_on = is_none_at (branch_of (codes "out") branches) used.0;
-      is_new = is_none_at (branch_of name branches) used.1;
-      room = below_16 (length branches) v;
-      filled = unmapped _ (empty_stage 1 true items) (rw (w, v) at h);
-    }))
+  line_read : (text : List ℕ) {answer : Outcome Outline} → CutAnswer line old (cut_line text) answer
+      → LineReads old line text answer
+  line_read text {answer} h = by_cut (cut_line text) refl h
+    where
+      by_name : (items : List Item) → cut_line text ≡ Ok items → (found : Option (List ℕ)) → first_name items ≡ found
+          → NameAnswer line old (behind_first items) found answer → LineReads old line text answer
+      by_name items cut None e h =
+          rw h (refuses (nameless items ((cut_as_written text items).1 cut) (λ name rest. unnamed cut e)))
+      by_name items cut (Some name) e h = name_read (cut_named items cut e) h
 
-free_name : (line : ℕ) (branches : Branches) (name : List ℕ) (items : List Item) → IsFree branches name items
-    → name_fault line branches name items ≡ None
-free_name line branches name items h =
-    rw (h.goes_on, h.is_new, under_16 (length branches) h.room, h.filled) refl
+      by_cut : (found : Cut) → cut_line text ≡ found → CutAnswer line old found answer → LineReads old line text answer
+      by_cut (Err k) e h = rw h (refuses (quotes ((refused_as_wrong text k).1 e)))
+      by_cut (Ok items) e h = by_name items e (first_name items) refl h
 
-pub name_spelled : (word name : List ℕ) → name_in word ≡ Some name → (word ≡ name ++ 58 ∷ []) × (is_name name ≡ true)
-name_spelled word name h = by_bool (slice_index word (length word - 1) == 58)
-    (λ w.
-    let last : (front : List ℕ) × (word ≡ front ++ 58 ∷ []) = ends_in word 58 (omega arith) (eqb-true _ _ w) in
-    let found : (if is_name last.0 then Some last.0 else None) ≡ Some name = sym (with_colon word last.0 last.1) ∙ h in
-    by_bool (is_name last.0)
-    (λ v.
-    let is : last.0 ≡ name = same_Some last.0 name (rw v at found) in
-    (last.1 ∙ ap (λ front. front ++ 58 ∷ []) is, ap is_name (sym is) ∙ v))
-    (λ v. let no = rw v at found in absurd (cc)))
-    (λ w. let no = rw w at h in absurd (cc))
+  -- what a named line is answered by its name and what stands behind it
+  named_answers : {text name : List ℕ} {items : List Item} (answer : Outcome Outline) → IsNamed text name items
+      → NameAnswer line old items (Some name) answer → CutAnswer line old (cut_line text) answer
+  named_answers answer named h = let c = named_cut named in rw (c.0, c.1) h
 
-named_there : (line : ℕ) (old new : Outline) (items : List Item) (found : Option (List ℕ))
-    → NameAnswer line old items found (Ok new)
-    → (name : List ℕ) × (next : Outline) × (found ≡ Some name) × IsFree old.branches name items
-    × AddStages (is_out name) true old (groups items) next × (new ≡ ended line name next)
-named_there line old new items None h = absurd (cc)
-named_there line old new items (Some name) h =
-    let p = unless_ok (name_fault line old.branches name items)
-    (Then (StagesAnswer line (is_out name) true old (groups items)) (λ next answer. answer ≡ Ok (ended line name next))) new h in
-    let free = name_free line old.branches name items p.0 in
-    let q = then_ok (StagesAnswer line (is_out name) true old (groups items)) (λ next answer. answer ≡ Ok (ended line name next)) new p.1 in
-    let full = filled_there 1 true items free.filled in
-    let last : Ok new ≡ Ok (ended line name q.0) = q.2 in
-    (name, q.0, refl, free, stages_there line (is_out name) true old q.0 (groups items) (full.0, full.1) q.1, (cc))
-
-branch_there : (line : ℕ) (old new : Outline) (text : List ℕ) (items : List Item) → IsWritten items text
-    → BranchAnswer line old items (Ok new) → IsBranch old line text new
-branch_there line old new text [] written h = absurd (cc)
-branch_there line old new text (item.Bar n ∷ items) written h = absurd (cc)
-branch_there line old new text (item.Word n word ∷ items) written h =
-    let p = named_there line old new items (name_in word) h in
-    let q = name_spelled word p.0 p.2 in
-    let P : List ℕ → Type 0 = λ first. IsWritten (item.Word n first ∷ items) text in record {
-      number = n;
-      name = p.0;
-      items = items;
-      next = p.1;
-      written = subst P q.0 written;
-      is_name = q.1;
-      is_new = p.3.is_new;
-      goes_on = p.3.goes_on;
-      room = p.3.room;
-      stages = p.4;
-      ends = p.5;
-    }
-
-cut_there : (line : ℕ) (old new : Outline) (found : Cut) → CutAnswer line old found (Ok new)
-    → (items : List Item) × (found ≡ Ok items) × BranchAnswer line old items (Ok new)
-cut_there line old new (Ok items) h = (items, refl, h)
-cut_there line old new (Err k) h = absurd (cc)
-
-pub line_there : (line : ℕ) (old new : Outline) (text : List ℕ) → CutAnswer line old (cut_line text) (Ok new) → IsBranch old line text new
-line_there line old new text h =
-    let p = cut_there line old new (cut_line text) h in
-    branch_there line old new text p.0 ((cut_as_written text p.0).1 p.1) p.2
-
-pub line_answer : (line : ℕ) (old new : Outline) (text : List ℕ) → IsBranch old line text new → CutAnswer line old (cut_line text) (Ok new)
-line_answer line old new text b =
-    let cut = (cut_as_written text (item.Word b.number (b.name ++ 58 ∷ []) ∷ b.items)).0 b.written in
-    let full = stages_filled (is_out b.name) true old b.next (groups b.items) b.stages in
-    let free : IsFree old.branches b.name b.items = record {
-      goes_on = b.goes_on;
-      is_new = b.is_new;
-      room = b.room;
-      filled = none_empty 1 true b.items full.0 full.1;
-    } in
-    let named : name_in (b.name ++ 58 ∷ []) ≡ Some b.name = with_colon (b.name ++ 58 ∷ []) b.name refl ∙ (rw b.is_name refl) in
-    rw (cut, named, free_name line old.branches b.name b.items free)
-    (Ok b.next, stages_answer line (is_out b.name) true old b.next (groups b.items) b.stages, rw b.ends refl)
+  line_answers : (text : List ℕ) {answer : Outcome Outline} → LineReads old line text answer
+      → CutAnswer line old (cut_line text) answer
+  line_answers text (gives {given = new} b) =
+      let full = stages_filled (is_out b.name) true old b.next (groups b.items) b.stages in
+      let none = none_there (lacks_none 1 true b.items ∙ full) in
+      named_answers (Ok new) b.named (rw (name_new b.is_new, few b.room, none)
+      (Ok b.next, stages_answer line (is_out b.name) true old (groups b.items) (gives b.stages), rw b.ends refl))
+  line_answers text (refuses (quotes {k} w)) = rw ((refused_as_wrong text k).0 w) refl
+  line_answers text (refuses (nameless items written none)) =
+      let cut = (cut_as_written text items).0 written in rw cut (by_name (first_name items) refl)
+    where
+      by_name : (found : Option (List ℕ)) → first_name items ≡ found
+          → NameAnswer line old (behind_first items) found (Err (broken line 1 N3))
+      by_name None e = refl
+      by_name (Some name) e = absurd (none name _ (cut_named items ((cut_as_written text items).0 written) e))
+  line_answers text {answer} (refuses (used named not_new)) =
+      let w = true_from_ne_false _ (λ w. not_new (new_name w)) in named_answers answer named (rw w refl)
+  line_answers text {answer} (refuses (crowded named new many)) =
+      let v : nat_le 16 (length old.branches) ≡ true = grind (arith, nat_tests) in
+      named_answers answer named (rw (name_new new, v) refl)
+  line_answers text {answer} (refuses (wordless named new room e)) =
+      named_answers answer named (rw (name_new new, few room, e) refl)
+  line_answers text {answer} (refuses (at_stage {name} {items} {fault} named new room none b)) =
+      named_answers answer named (rw (name_new new, few room, none)
+      (Err fault, stages_answer line (is_out name) true old (groups items) (refuses b), refl))
 
 -- The lines of a plan.
 
-pub lines_there : (old new : Outline) (lines : List (ℕ × List ℕ)) → LinesAnswer old lines (Ok new) → AreBranches old lines new
-unfolding LinesAnswer
-lines_there old new [] h = cc
-lines_there old new ((line, text) ∷ lines) h =
-    let p = then_ok (CutAnswer line old (cut_line text)) (λ next. LinesAnswer next lines) new h in
-    (p.0, line_there line old p.0 text p.1, lines_there p.0 new lines p.2)
+abbrev Lines : Type 0
+Lines = List (ℕ × List ℕ)
 
-pub lines_answer : (old new : Outline) (lines : List (ℕ × List ℕ)) → AreBranches old lines new → LinesAnswer old lines (Ok new)
+-- all lines are branches, or the first that breaks a rule tells it
+abbrev LinesRead : Outline → Lines → Outcome Outline → Type 0
+LinesRead old lines = Reads (AreBranches old lines) (BreaksAtLine old lines)
+
+lines_on : {old next : Outline} {line : ℕ} {text : List ℕ} {lines : Lines} {answer : Outcome Outline}
+    → IsBranch old line text next → LinesRead next lines answer → LinesRead old ((line, text) ∷ lines) answer
+lines_on {next = next} one (gives h) = gives (next, one, h)
+lines_on {next = next} {line = line} {text = text} one (refuses b) = refuses (record {
+  front = (line, text) ∷ b.front;
+  line = b.line;
+  text = b.text;
+  behind = b.behind;
+  next = b.next;
+  whole = ap (λ all. (line, text) ∷ all) b.whole;
+  lawful = (next, one, b.lawful);
+  broken = b.broken;
+})
+
+lines_read : (old : Outline) (lines : Lines) {answer : Outcome Outline}
+    → LinesAnswer old lines answer → LinesRead old lines answer
 unfolding LinesAnswer
-lines_answer old new [] h = rw h refl
-lines_answer old new ((line, text) ∷ lines) h = (Ok h.0, line_answer line old h.0 text h.1, lines_answer h.0 new lines h.2)
+lines_read old [] h = rw h (gives refl)
+lines_read old ((line, text) ∷ lines) (Ok next, first, rest) = lines_on (given (line_read line old text first))
+    (lines_read next lines rest)
+lines_read old ((line, text) ∷ lines) (Err fault, first, is) = rw is (refuses (record {
+  front = [];
+  line = line;
+  text = text;
+  behind = lines;
+  next = old;
+  whole = refl;
+  lawful = refl;
+  broken = broken_by (line_read line old text first);
+}))
+
+-- lines that are branches are passed over
+lines_pass : (old next : Outline) (front rest : Lines) (answer : Outcome Outline) → AreBranches old front next
+    → LinesAnswer next rest answer → LinesAnswer old (front ++ rest) answer
+unfolding LinesAnswer
+lines_pass old next [] rest answer lawful h = rw lawful at h
+lines_pass old next ((line, text) ∷ front) rest answer (middle, one, lawful) h =
+    (Ok middle, line_answers line old text (gives one), lines_pass middle next front rest answer lawful h)
+
+lines_answer : (old : Outline) (lines : Lines) {answer : Outcome Outline}
+    → LinesRead old lines answer → LinesAnswer old lines answer
+unfolding LinesAnswer
+lines_answer old lines (gives {given = new} h) =
+    subst (λ all. LinesAnswer old all (Ok new)) (append-nil lines) (lines_pass old new lines [] (Ok new) h refl)
+lines_answer old lines (refuses {fault} b) = rw b.whole
+    (lines_pass old b.next b.front ((b.line, b.text) ∷ b.behind) (Err fault) b.lawful
+    (Err fault, line_answers b.line b.next b.text (refuses b.broken), refl))
 
 -- A plan.
 
@@ -400,69 +430,81 @@ unfolding fault_of
 text_there bytes h = by_bool (nat_lt longest (length bytes))
     (λ w. let no = rw w at h in absurd (cc))
     (λ w. by_bool (is_utf8 bytes)
-    (λ v. (within (length bytes) w, IsUtf8-from_is_utf8 bytes v))
+    (λ v. (grind (arith, nat_tests), IsUtf8-from_is_utf8 bytes v))
     (λ v. let no = rw (w, v) at h in absurd (cc)))
-  where
-    within : (n : ℕ) → nat_lt longest n ≡ false → n ≤ longest
-    within n h = grind (arith, nat_tests)
 
 no_fault : (bytes : List ℕ) → length bytes ≤ longest → IsUtf8 bytes → fault_of bytes ≡ None
 unfolding fault_of
-no_fault bytes short utf8 = rw (within (length bytes) short, is_utf8-from_IsUtf8 bytes utf8) refl
-  where
-    within : (n : ℕ) → n ≤ longest → nat_lt longest n ≡ false
-    within n h = grind (arith, nat_tests)
+no_fault bytes short utf8 =
+    let w : nat_lt longest (length bytes) ≡ false = grind (arith, nat_tests) in
+    rw (w, is_utf8-from_IsUtf8 bytes utf8) refl
 
-out_there : (count : ℕ) (branches : Branches) → whole_fault count branches ≡ None
-    → IsSome (branch_of (codes "out") branches) × (first_unused branches ≡ None)
-out_there count branches h = by_bool (is_none (branch_of (codes "out") branches))
-    (λ w. let no = rw w at h in absurd (cc))
-    (λ w. (some_there (branch_of (codes "out") branches) w, unmapped _ (first_unused branches) (rw w at h)))
-  where
-    some_there : (x : Option Branch) → is_none x ≡ false → IsSome x
-    some_there None h = absurd (cc)
-    some_there (Some a) h = refl
+-- a text is a plan, or breaks a rule
+abbrev PlanReads : List ℕ → Outcome (List Stage) → Type 0
+PlanReads bytes = Reads (IsPlanOf bytes) (BreaksFirstOf bytes)
 
-whole_free : (count : ℕ) (branches : Branches) → IsSome (branch_of (codes "out") branches) → first_unused branches ≡ None
-    → whole_fault count branches ≡ None
-whole_free count branches out used = rw (some_not (branch_of (codes "out") branches) out, used) refl
+whole_read : (bytes : List ℕ) (whole : Outline) {answer : Outcome (List Stage)} → fault_of bytes ≡ None
+    → AreBranches nothing (branches_of bytes) whole → WholeAnswer (length (lines_of bytes)) whole answer
+    → PlanReads bytes answer
+whole_read bytes whole {answer} none lines h = by_out (branch_of (codes "out") whole.branches) refl h
   where
-    some_not : (x : Option Branch) → IsSome x → is_none x ≡ false
-    some_not None h = absurd (cc)
-    some_not (Some a) h = refl
+    by_used : IsSome (branch_of (codes "out") whole.branches) → (found : Option ℕ) → first_unused whole.branches ≡ found
+        → Unless (option_map (λ line. broken line 0 N11) found) (λ answer. answer ≡ Ok whole.stages) answer
+        → PlanReads bytes answer
+    by_used out (Some line) e h = rw h (refuses (at_end none (unused whole lines out e)))
+    by_used out None e h =
+        let text = text_there bytes none in
+        rw h (gives (record {
+          whole = whole;
+          short = text.0;
+          utf8 = text.1;
+          branches = lines;
+          out = out;
+          taken = e;
+          meaning = refl;
+        }))
 
-plan_there : (bytes : List ℕ) (stages : List Stage) → PlanAnswer bytes (Ok stages) → IsPlanOf bytes stages
+    by_out : (found : Option Branch) → branch_of (codes "out") whole.branches ≡ found
+        → WholeAnswer (length (lines_of bytes)) whole answer → PlanReads bytes answer
+    by_out None e h = rw (rw e at h) (refuses (at_end none (outless whole lines e)))
+    by_out (Some branch) e h = by_used (rw e refl) (first_unused whole.branches) refl (rw e at h)
+
+plan_read : (bytes : List ℕ) {answer : Outcome (List Stage)} → PlanAnswer bytes answer → PlanReads bytes answer
 unfolding PlanAnswer
-plan_there bytes stages h =
-    let count = length (lines_of bytes) in
-    let p = unless_ok (option_map of_text (fault_of bytes)) (Then (LinesAnswer nothing (branches_of bytes)) (WholeAnswer count)) stages h in
-    let text = text_there bytes (unmapped of_text (fault_of bytes) p.0) in
-    let q = then_ok (LinesAnswer nothing (branches_of bytes)) (WholeAnswer count) stages p.1 in
-    let r = unless_ok (whole_fault count q.0.branches) (λ answer. answer ≡ Ok q.0.stages) stages q.2 in
-    let end = out_there count q.0.branches r.0 in
-    let last : Ok stages ≡ Ok q.0.stages = r.1 in record {
-      whole = q.0;
-      short = text.0;
-      utf8 = text.1;
-      branches = lines_there nothing q.0 (branches_of bytes) q.1;
-      out = end.0;
-      taken = end.1;
-      meaning = cc;
-    }
+plan_read bytes {answer} h = by_text (fault_of bytes) refl h
+  where
+    by_text : (found : Option PlanTextFault) → fault_of bytes ≡ found
+        → Unless (option_map of_text found)
+        (Then (LinesAnswer nothing (branches_of bytes)) (WholeAnswer (length (lines_of bytes)))) answer
+        → PlanReads bytes answer
+    by_text (Some fault) e h = rw h (refuses (unread e))
+    by_text None e (Ok whole, lines, h) =
+        whole_read bytes whole e (given (lines_read nothing (branches_of bytes) lines)) h
+    by_text None e (Err fault, lines, is) =
+        rw is (refuses (at_line e (broken_by (lines_read nothing (branches_of bytes) lines))))
 
-plan_answer : (bytes : List ℕ) (stages : List Stage) → IsPlanOf bytes stages → PlanAnswer bytes (Ok stages)
+is_there : {A : Type 0} (x : Option A) → IsSome x → is_none x ≡ false
+is_there None h = absurd (cc)
+is_there (Some a) h = refl
+
+whole_fails : {bytes : List ℕ} {fault : PlanFault} → WholeBreaks bytes fault → (all : Outline)
+    × AreBranches nothing (branches_of bytes) all × WholeAnswer (length (lines_of bytes)) all (Err fault)
+whole_fails (outless all lines e) = (all, lines, rw e refl)
+whole_fails (unused all lines out e) = (all, lines, rw (is_there _ out, e) refl)
+
+plan_answers : (bytes : List ℕ) {answer : Outcome (List Stage)} → PlanReads bytes answer → PlanAnswer bytes answer
 unfolding PlanAnswer
-plan_answer bytes stages p =
-    let count = length (lines_of bytes) in
-    rw (no_fault bytes p.short p.utf8) (
-      Ok p.whole,
-      lines_answer nothing p.whole (branches_of bytes) p.branches,
-      rw (whole_free count p.whole.branches p.out p.taken, p.meaning) refl,
-    )
+plan_answers bytes (gives p) =
+    let lines = lines_answer nothing (branches_of bytes) (gives p.branches) in
+    rw (no_fault bytes p.short p.utf8) (Ok p.whole, lines, rw (is_there _ p.out, p.taken, p.meaning) refl)
+plan_answers bytes (refuses (unread e)) = rw e refl
+plan_answers bytes (refuses (at_line {fault} none b)) = rw none
+    (Err fault, lines_answer nothing (branches_of bytes) (refuses b), refl)
+plan_answers bytes (refuses (at_end none w)) =
+    let r = whole_fails w in rw none (Ok r.0, lines_answer nothing (branches_of bytes) (gives r.1), r.2)
 
 pub read_as_written : (bytes : List ℕ) → IsReadAsWritten bytes
-read_as_written bytes stages = (plan_there bytes stages, plan_answer bytes stages)
+read_as_written bytes stages = (λ h. given (plan_read bytes h), λ p. plan_answers bytes (gives p))
 
--- so the stages of a plan that is answered are a tree
-pub answers_a_tree : (bytes : List ℕ) (stages : List Stage) → PlanAnswer bytes (Ok stages) → IsTree stages
-answers_a_tree bytes stages h = has_a_tree bytes stages (plan_there bytes stages h)
+pub refused_in_order : (bytes : List ℕ) → IsRefusedInOrder bytes
+refused_in_order bytes fault = (λ h. broken_by (plan_read bytes h), λ b. plan_answers bytes (refuses b))

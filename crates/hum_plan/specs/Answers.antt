@@ -18,8 +18,6 @@ use Rattle.hum_plan.specs.declared.faults.PlanRule.TheVariants.{N2, N3, N4, N5, 
 use Rattle.hum_plan.specs.declared.faults.PlanRule.TheVariants.{N10, N11}
 use Rattle.hum_plan.specs.declared.faults.PlanFault.{PlanFault}
 use Rattle.hum_plan.specs.declared.branches.Branch.{Branch}
-use Rattle.hum_plan.specs.declared.commands.Opening.{Opening}
-use Rattle.hum_plan.specs.declared.commands.Opening.TheVariants as opening
 use Rattle.hum_plan.specs.Faults.{broken, in_line, of_text}
 use Rattle.hum_plan.specs.Stages.{Stage, Options, Read, Assemble, Takes}
 use Rattle.hum_plan.specs.Branches.{Branches, branch_of, with_branch, first_unused, taken, is_out}
@@ -52,18 +50,18 @@ abbrev pub Unless : {B : Type 0} → Option PlanFault → (Outcome B → Type 0)
 Unless None Next answer = Next answer
 Unless (Some fault) Next answer = answer ≡ Err fault
 
+-- what comes of something, unless a rule is broken
+abbrev pub and_then : {A B : Type 0} → Outcome A → (A → Outcome B) → Outcome B
+and_then (Ok given) next = next given
+and_then (Err fault) next = Err fault
+
 -- The command of a stage.
 
--- what a stage begins with: a source, or a command with options
-abbrev pub opening_of : Command → Opening
-opening_of command.Read = opening.Read
-opening_of command.Assemble = opening.Assemble
-opening_of other = opening.Takes other
-
-abbrev pub is_source : Opening → Bool
-is_source opening.Read = true
-is_source opening.Assemble = true
-is_source (opening.Takes tool) = false
+-- whether it is a source, which stands first in its line
+abbrev pub is_source : Command → Bool
+is_source command.Read = true
+is_source command.Assemble = true
+is_source _ = false
 
 -- one stage more
 abbrev pub with_stage : Outline → Command → List ℕ → Options → Outline
@@ -75,13 +73,13 @@ with_stage outline command sources options = record outline {
 -- `read` is word n: it has one word, the name of a score, which isn't empty.
 abbrev pub name_read : ℕ → ℕ → List Word → Outcome (List ℕ)
 name_read line n [] = Err (broken line n N9)
-name_read line n ((k, name) ∷ []) = if length name == 0 then Err (broken line k N10) else Ok name
-name_read line n ((k, name) ∷ ((m, word) ∷ words)) =
-    if length name == 0 then Err (broken line k N10) else Err (broken line m N8)
+name_read line n ((k, []) ∷ words) = Err (broken line k N10)
+name_read line n ((k, name) ∷ []) = Ok name
+name_read line n ((k, name) ∷ ((m, word) ∷ words)) = Err (broken line m N8)
 
 abbrev pub with_read : Outline → Outcome (List ℕ) → Outcome Outline
-with_read outline (Ok name) = Ok (with_stage outline command.Read [] (Read name))
-with_read outline (Err fault) = Err fault
+with_read outline name =
+    and_then name (λ text. Ok (with_stage outline command.Read [] (Read text)))
 
 -- the sources of `assemble`, and the branches with those taken
 pub record Joined : Type 0 where
@@ -104,10 +102,6 @@ name_joined line k name before =
     if length before.sources == 15 then Err (broken line k N8)
     else branch_joined line k name before (branch_of name before.branches)
 
-abbrev pub and_then : {A B : Type 0} → Outcome A → (A → Outcome B) → Outcome B
-and_then (Ok given) next = next given
-and_then (Err fault) next = Err fault
-
 -- The names behind `assemble`, which is word n: at least one.
 unfoldable pub names_joined : ℕ → ℕ → Joined → List Word → Outcome Joined
 names_joined line n before [] =
@@ -116,9 +110,8 @@ names_joined line n before ((k, name) ∷ words) =
     and_then (name_joined line k name before) (λ next. names_joined line n next words)
 
 abbrev pub with_joined : Outline → Outcome Joined → Outcome Outline
-with_joined outline (Ok all) =
-    Ok (with_stage (record outline { branches = all.branches }) command.Assemble all.sources Assemble)
-with_joined outline (Err fault) = Err fault
+with_joined outline names = and_then names (λ all. Ok (with_stage
+    (record outline { branches = all.branches }) command.Assemble all.sources Assemble))
 
 -- a command that reads from the stage before it, with the options that its words are answered
 abbrev pub with_command : ℕ → Outline → Command → Answer → Outcome Outline
@@ -127,22 +120,21 @@ with_command line outline command (Ok options) =
 with_command line outline command (Err found) = Err (in_line line found)
 
 -- A command that is word n, with the words behind it.
-abbrev pub Begins : ℕ → Bool → Outline → Command → ℕ → List Word → Opening → Outcome Outline
-    → Type 0
-Begins line is_last outline command n words opening.Read answer =
+abbrev pub Begins : ℕ → Bool → Outline → ℕ → List Word → Command → Outcome Outline → Type 0
+Begins line is_last outline n words command.Read answer =
     answer ≡ with_read outline (name_read line n words)
-Begins line is_last outline command n words opening.Assemble answer = answer ≡
+Begins line is_last outline n words command.Assemble answer = answer ≡
     with_joined outline (names_joined line n (joined [] outline.branches) words)
-Begins line is_last outline command n words (opening.Takes tool) answer = (found : Answer)
-    × IsAnswer tool n is_last words found × (answer ≡ with_command line outline command found)
+Begins line is_last outline n words command answer = (found : Answer)
+    × IsAnswer command n is_last words found × (answer ≡ with_command line outline command found)
 
 -- The first stage of a line is a source, and only the first.
 abbrev pub Placed : ℕ → Bool → Bool → Outline → ℕ → List Word → Option Command → Outcome Outline
     → Type 0
 Placed line is_first is_last outline n words None answer = answer ≡ Err (broken line n N7)
 Placed line is_first is_last outline n words (Some command) answer =
-    MatchBool (beq (is_source (opening_of command)) is_first)
-    (Begins line is_last outline command n words (opening_of command) answer)
+    MatchBool (beq (is_source command) is_first)
+    (Begins line is_last outline n words command answer)
     (answer ≡ Err (broken line n N6))
 
 -- A stage by its words, the first of which is its command.
@@ -188,12 +180,18 @@ NameAnswer line outline items (Some name) answer =
     (Then (StagesAnswer line (is_out name) true outline (groups items))
     (λ next answer. answer ≡ Ok (ended line name next))) answer
 
--- A branch by its words and bars: a name with a colon, and the stages.
+-- the name that words and bars begin with, if their first word is a name and a colon
+abbrev pub first_name : List Item → Option (List ℕ)
+first_name (item.Word n word ∷ items) = name_in word
+first_name _ = None
+
+abbrev pub behind_first : List Item → List Item
+behind_first [] = []
+behind_first (item ∷ items) = items
+
+-- a branch by its words and bars: a name with a colon, and the stages
 abbrev pub BranchAnswer : ℕ → Outline → List Item → Outcome Outline → Type 0
-BranchAnswer line outline [] answer = answer ≡ Err (broken line 1 N3)
-BranchAnswer line outline (item.Bar n ∷ items) answer = answer ≡ Err (broken line 1 N3)
-BranchAnswer line outline (item.Word n word ∷ items) answer =
-    NameAnswer line outline items (name_in word) answer
+BranchAnswer line outline items = NameAnswer line outline (behind_first items) (first_name items)
 
 -- a line that is cut into words and bars, or has a word that is wrong with its quotes
 abbrev pub CutAnswer : ℕ → Outline → Cut → Outcome Outline → Type 0

@@ -20,13 +20,10 @@ use Rattle.hum_options.specs.Letters.{is_letter_word, dropped}
 use Rattle.hum_choices.specs.Options as meant
 use Rattle.hum_options.specs.Spelling.{IsSpelled}
 use Rattle.hum_plan.specs.declared.branches.Branch.{Branch}
-use Rattle.hum_plan.specs.declared.commands.Opening.{Opening}
-use Rattle.hum_plan.specs.declared.commands.Opening.TheVariants as opening
 use Rattle.hum_plan.specs.Stages.{Stage, Read, Assemble, Takes}
 use Rattle.hum_plan.specs.Branches.{Branches, branch_of, with_branch, first_unused, taken, is_out}
 use Rattle.hum_plan.specs.Lines.{groups}
-use Rattle.hum_plan.specs.Answers.{Outline, nothing, with_stage, opening_of, is_source}
-use Rattle.hum_plan.specs.Answers.{is_end, ended}
+use Rattle.hum_plan.specs.Answers.{Outline, nothing, with_stage, is_source, is_end, ended}
 
 -- The words of rid: there are some, each is of letters, and only the last stage drops all
 -- interpretations.
@@ -52,39 +49,55 @@ TakesBranches before ((k, name) ∷ words) sources after = (branch : Branch) × 
 
 -- A stage by the words behind its command: `read` has the name of a score, `assemble` has 1 to 15
 -- names of branches, and any other command has its options and reads from the stage before it.
-abbrev pub AddsStage : Bool → Outline → Command → List Word → Opening → Outline → Type 0
-AddsStage is_last old kind words opening.Read new = (k : ℕ) × (name : List ℕ)
+abbrev pub AddsStage : Bool → Outline → List Word → Command → Outline → Type 0
+AddsStage is_last old words command.Read new = (k : ℕ) × (name : List ℕ)
     × (words ≡ (k, name) ∷ []) × (name ≢ [])
     × (new ≡ with_stage old command.Read [] (Read name))
-AddsStage is_last old kind words opening.Assemble new =
+AddsStage is_last old words command.Assemble new =
     (sources : List ℕ) × (branches : Branches) × TakesBranches old.branches words sources branches
     × (1 ≤ length sources) × (length sources ≤ 15)
     × (new ≡ with_stage (record old { branches = branches }) command.Assemble sources Assemble)
-AddsStage is_last old kind words (opening.Takes tool) new = (options : meant.Options)
-    × SpellsOptions is_last tool words options
+AddsStage is_last old words kind new = (options : meant.Options)
+    × SpellsOptions is_last kind words options
     × (new ≡ with_stage old kind (length old.stages ∷ []) (Takes options))
 
--- The stages of a line, by the words of each. The first is `read` or `assemble`, and only the first.
+-- The words of a stage are those of a command and what it says. There is room for a stage more, and
+-- the first of a line is `read` or `assemble`, and only the first.
+pub record IsStageOf (is_first is_last : Bool) (old : Outline) (words : List Word) (new : Outline)
+    : Type 0 where
+  pub number : ℕ
+  pub kind : Command
+  pub behind : List Word
+  pub whole : words ≡ (number, word_of kind) ∷ behind
+  pub place : is_source kind ≡ is_first
+  pub room : length old.stages < 64
+  pub adds : AddsStage is_last old behind kind new
+
+-- The stages of a line, by the words of each.
 abbrev pub AddStages : Bool → Bool → Outline → List (List Word) → Outline → Type 0
 AddStages is_out is_first old [] new = new ≡ old
-AddStages is_out is_first old ([] ∷ groups) new = ⊥
-AddStages is_out is_first old (((n, word) ∷ words) ∷ groups) new =
-    (command : Command) × (next : Outline) × (word ≡ word_of command)
-    × (is_source (opening_of command) ≡ is_first) × (length old.stages < 64)
-    × AddsStage (is_out && is_end groups) old command words (opening_of command) next
+AddStages is_out is_first old (words ∷ groups) new =
+    (next : Outline) × IsStageOf is_first (is_out && is_end groups) old words next
     × AddStages is_out false next groups new
 
--- A branch: a name and a colon, and the stages between bars. The name is new, and no line stands
--- behind `out`.
-pub record IsBranch (old : Outline) (line : ℕ) (text : List ℕ) (new : Outline) : Type 0 where
+-- a line that begins with a name and a colon, and its words and bars behind them
+pub record IsNamed (text name : List ℕ) (items : List Item) : Type 0 where
   pub number : ℕ
+  pub written : IsWritten (item.Word number (name ++ 58 ∷ []) ∷ items) text
+  pub is_name : is_name name ≡ true
+
+-- no line before has the name, and none is `out`
+pub record IsNew (old : Outline) (name : List ℕ) : Type 0 where
+  pub is_new : branch_of name old.branches ≡ None
+  pub goes_on : branch_of (codes "out") old.branches ≡ None
+
+-- A branch: a name and a colon, and the stages between bars.
+pub record IsBranch (old : Outline) (line : ℕ) (text : List ℕ) (new : Outline) : Type 0 where
   pub name : List ℕ
   pub items : List Item
   pub next : Outline
-  pub written : IsWritten (item.Word number (name ++ 58 ∷ []) ∷ items) text
-  pub is_name : is_name name ≡ true
-  pub is_new : branch_of name old.branches ≡ None
-  pub goes_on : branch_of (codes "out") old.branches ≡ None
+  pub named : IsNamed text name items
+  pub is_new : IsNew old name
   pub room : length old.branches < 16
   pub stages : AddStages (is_out name) true old (groups items) next
   pub ends : new ≡ ended line name next

@@ -1,11 +1,9 @@
 -- What the lines of a plan have said so far, by their text alone.
 use Rattle.std.specs.Prelude.{◌≡◌, ℕ, ◌+◌, Bool, false, ◌&&◌, ◌||◌, List, [], ◌∷◌, length}
-use Rattle.std.specs.Prelude.{Option, None, Some, is_some, Ok}
+use Rattle.std.specs.Prelude.{Option, None, Some, is_some, Ok, Err}
 use Rattle.std.specs.List.{list_any}
 use Rattle.std.specs.Str.{bytes_eq}
 use Rattle.hum_words.specs.Cutting.{Cut, cut_line}
-use Rattle.hum_words.specs.Names.{name_in}
-use Rattle.hum_words.specs.Pieces.{Item}
 use Rattle.hum_words.specs.Pieces as item
 use Rattle.hum_stage.specs.Words.{word_of}
 use Rattle.hum_stage.specs.declared.faults.Command.TheVariants as command
@@ -13,7 +11,7 @@ use Rattle.hum_options.specs.Answers.{Word, text_of_word}
 use Rattle.hum_plan.specs.declared.branches.Branch.{Branch}
 use Rattle.hum_plan.specs.Branches.{branch_of, is_out}
 use Rattle.hum_plan.specs.Lines.{groups}
-use Rattle.hum_plan.specs.Answers.{Outline, nothing}
+use Rattle.hum_plan.specs.Answers.{Outline, nothing, first_name}
 use Rattle.hum_plan.specs.Grammar.{AreBranches}
 
 -- whether a line's first word is this name and a colon
@@ -22,8 +20,8 @@ is_name_of name None = false
 is_name_of name (Some other) = bytes_eq name other
 
 abbrev pub names_cut : List ℕ → Cut → Bool
-names_cut name (Ok (item.Word n word ∷ items)) = is_name_of name (name_in word)
-names_cut name _ = false
+names_cut name (Ok items) = is_name_of name (first_name items)
+names_cut name (Err k) = false
 
 -- the stages of a line, by their words
 abbrev pub stages_cut : Cut → List (List Word)

@@ -3,16 +3,14 @@ ghost use Rattle.std.specs.Prelude.{◌≡◌, ◌<◌, ◌&&◌, nat_le, true, 
 ghost use Rattle.std.specs.Prelude.{option_map, is_none, string_bytes, IfSome, IfOk, OnOk, Ok, Err};
 ghost use Rattle.hum_words.specs.Pieces.{items_of};
 ghost use Rattle.hum_options.specs.{Seen.words_of, Answers.Answer, Answers.IsAnswer};
-ghost use Rattle.hum_stage.specs.declared.faults.Command.TheVariants as command;
 ghost use Rattle.hum_plan.specs.{Lines.behind_bar, Lines.groups, Seen.options_of, Tells.Tells};
 ghost use Rattle.hum_plan.specs.{Tells.outline_of};
 ghost use Rattle.hum_plan.specs.Answers.{name_read, with_read, joined, name_joined, names_joined};
 ghost use Rattle.hum_plan.specs.Answers.{with_joined, with_stage, with_command, Begins};
-ghost use Rattle.hum_plan.specs.Answers.{StageAnswer, StagesAnswer, opening_of, nothing};
+ghost use Rattle.hum_plan.specs.Answers.{StageAnswer, StagesAnswer, is_source, nothing};
 ghost use Rattle.hum_plan.specs.Branches.{Branches, with_branch, taken};
 
 use crate::branches::{Branch, Branches};
-use crate::commands::{Opening, opening_of};
 use crate::draft::Draft;
 use crate::faults::{PlanError, PlanRule, broken, in_line};
 use crate::stages::{Options, PlanStage};
@@ -123,6 +121,13 @@ fn join_names<'a>(
     some_sources(line, number, sources)
 }
 
+/// Whether a command stands first in its line, and there alone.
+fn is_source(command: Command) -> bool
+    ensures { result ≡ is_source command }
+{
+    matches!(command, Command::Read | Command::Assemble)
+}
+
 /// The stage of this number alone.
 fn one_source(alloc: Global, stage: u8) -> Result<Vec<u8>, AllocError>
     ensures { IfOk result (λ sources. sources.items ≡ stage ∷ []) }
@@ -220,17 +225,16 @@ impl<'a> Draft<'a> {
         &mut self,
         place: StagePlace,
         command: Command,
-        tool: Command,
         number: u32,
         pieces: &[Piece<'a>],
     ) -> Result<(), PlanError>
         requires { length self.old.stages.items < 64 }
         ensures { Tells (λ _. outline_of self.new) (λ answer. (found : Answer)
-            × IsAnswer tool number place.is_last (words_of pieces.entry.now) found
+            × IsAnswer command number place.is_last (words_of pieces.entry.now) found
             × (answer ≡ with_command place.line (outline_of self.old) command found)) result }
     {
         let sources = one_source(self.alloc, self.stages.len() as u8)?;
-        let options = match read_options(self.alloc, tool, number, pieces, place.is_last) {
+        let options = match read_options(self.alloc, command, number, pieces, place.is_last) {
             Ok(options) => options,
             Err(OptionError::Fault(found)) => {
                 return Err(PlanError::Fault(in_line(place.line, found)));
@@ -251,12 +255,12 @@ impl<'a> Draft<'a> {
     ) -> Result<(), PlanError>
         requires { length self.old.stages.items < 64 }
         ensures { Tells (λ _. outline_of self.new) (Begins place.line place.is_last
-            (outline_of self.old) command number (words_of pieces.entry.now) (opening_of command)) result }
+            (outline_of self.old) number (words_of pieces.entry.now) command) result }
     {
-        match opening_of(command) {
-            Opening::Read => self.add_read(place.line, number, pieces),
-            Opening::Assemble => self.add_assemble(place.line, number, pieces),
-            Opening::Takes(tool) => { self.add_command(place, command, tool, number, pieces) }
+        match command {
+            Command::Read => self.add_read(place.line, number, pieces),
+            Command::Assemble => self.add_assemble(place.line, number, pieces),
+            _ => self.add_command(place, command, number, pieces),
         }
     }
 
@@ -277,7 +281,7 @@ impl<'a> Draft<'a> {
         let Some(command) = Command::of_word(word) else {
             return Err(broken(place.line, number, PlanRule::N7));
         };
-        if opening_of(command).is_source() == place.is_first {
+        if is_source(command) == place.is_first {
             self.begin(place, command, number, pieces)
         } else {
             Err(broken(place.line, number, PlanRule::N6))

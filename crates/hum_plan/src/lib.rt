@@ -9,7 +9,6 @@
 
 mod branches;
 mod building;
-mod commands;
 mod draft;
 mod faults;
 pub mod laws;

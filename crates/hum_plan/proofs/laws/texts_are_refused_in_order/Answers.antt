@@ -1,4 +1,4 @@
-use Rattle.hum_plan.proofs.Refusing.{refused_in_order}
+use Rattle.hum_plan.proofs.Written.{refused_in_order}
 use Rattle.hum_plan.proofs.Said.{say_all}
 use Rattle.hum_plan.proofs.laws.texts_are_refused_in_order.Goals as goal
 

@@ -4,4 +4,5 @@ use Rattle.hum_plan.proofs.branches.Branches.put.Goals as goal
 
 pub returns : goal.returns
 returns c = rw (← c.self.view_is)
-    (ap (λ es. map seen_entry es) c.in_ok-insert.ensures.entries ∙ insert_seen c.self.inside.index.entries c.args.name c.args.branch)
+    (ap (λ es. map seen_entry es) c.in_ok-insert.ensures.entries
+    ∙ insert_seen c.self.inside.index.entries c.args.name c.args.branch)
