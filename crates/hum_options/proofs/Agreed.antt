@@ -7,11 +7,12 @@ use Rattle.hum_options.specs.declared.faults.PatternRefusal.{PatternRefusal}
 use Rattle.hum_options.specs.declared.faults.OptionRule.TheVariants.{N12}
 use Rattle.hum_options.specs.declared.reading.Turn.{Turn}
 use Rattle.hum_options.specs.declared.reading.Turn.TheVariants.{Free, Awaits}
-use Rattle.hum_options.specs.Values.{Value, Nothing, Fields, Names, Name, Text, Ranges, Label, Pattern, Count, Steps, Semitones, Duration, value_of}
+use Rattle.hum_options.specs.Values.{Value, Nothing, Pattern, value_of}
 use Rattle.hum_choices.specs.Options.{Options}
 use Rattle.hum_options.specs.Given.{Given}
 use Rattle.hum_options.specs.Options.{meant}
-use Rattle.hum_options.specs.Answers.{Word, Answer, Answers, AtOption, AtValue, IsAnswer, is_rid, is_alone, next_option, with_value, together}
+use Rattle.hum_options.specs.Answers.{Word, Answer, Answers, AtOption, AtValue, IsAnswer, is_rid, is_alone}
+use Rattle.hum_options.specs.Answers.{next_option, with_value, together}
 
 -- what else may be answered to words that give options
 abbrev pub Fits : Options → Answer → Type 0
@@ -22,7 +23,8 @@ fits_same : (options : Options) (fixed answer : Answer) → Ok options ≡ fixed
 fits_same options fixed answer first second =
     let P : Answer → Type 0 = λ a. Fits options a in subst P (first ∙ sym second) refl
 
-option_fits : (k : ℕ) (One Two : List Given → Turn → Type 0) (given : List Given) (found : Option CommandOption) (options : Options)
+option_fits : (k : ℕ) (One Two : List Given → Turn
+    → Type 0) (given : List Given) (found : Option CommandOption) (options : Options)
     (answer : Answer) → ((next : List Given) (turn : Turn) → One next turn → Two next turn → Fits options answer)
     → AtOption k given One found (Ok options) → AtOption k given Two found answer → Fits options answer
 option_fits k One Two given None options answer fits one two = absurd (cc)
@@ -34,13 +36,6 @@ value_fits : (m : ℕ) (One Two : Value → Type 0) (found : Option Value) (opti
     → ((value : Value) → One value → Two value → Fits options answer)
     → AtValue m One found (Ok options) → AtValue m Two found answer → Fits options answer
 value_fits m One Two None options answer fits one two = absurd (cc)
-value_fits m One Two (Some Nothing) options answer fits one two = fits Nothing one two
-value_fits m One Two (Some (Fields x)) options answer fits one two = fits (Fields x) one two
-value_fits m One Two (Some (Names x)) options answer fits one two = fits (Names x) one two
-value_fits m One Two (Some (Name x)) options answer fits one two = fits (Name x) one two
-value_fits m One Two (Some (Text x)) options answer fits one two = fits (Text x) one two
-value_fits m One Two (Some (Ranges x)) options answer fits one two = fits (Ranges x) one two
-value_fits m One Two (Some (Label x)) options answer fits one two = fits (Label x) one two
 value_fits m One Two (Some (Pattern x)) options answer fits one two = elim one [
   | inl p ↦ elim two [
     | inl q ↦ fits (Pattern x) p.1 q.1
@@ -48,22 +43,22 @@ value_fits m One Two (Some (Pattern x)) options answer fits one two = elim one [
   ]
   | inr p ↦ let no = p.2 in absurd (cc)
 ]
-value_fits m One Two (Some (Count x)) options answer fits one two = fits (Count x) one two
-value_fits m One Two (Some (Steps x)) options answer fits one two = fits (Steps x) one two
-value_fits m One Two (Some (Semitones x)) options answer fits one two = fits (Semitones x) one two
-value_fits m One Two (Some (Duration x)) options answer fits one two = fits (Duration x) one two
+value_fits m One Two (Some value) options answer fits one two = fits value one two
 
-words_fit : (kind : Command) (n : ℕ) (given : List Given) (turn : Turn) (words : List Word) (options : Options) (answer : Answer)
+words_fit : (kind : Command) (n : ℕ) (given : List Given) (turn : Turn) (words : List Word) (options : Options)
+    (answer : Answer)
     → Answers kind n given turn words (Ok options) → Answers kind n given turn words answer → Fits options answer
 unfolding Answers
 words_fit kind n given Free [] options answer one two = fits_same options (together n (meant kind given)) answer one two
 words_fit kind n given (Awaits k option) [] options answer one two = absurd (cc)
 words_fit kind n given Free ((k, word) ∷ words) options answer one two =
-    option_fits k (λ next turn. Answers kind n next turn words (Ok options)) (λ next turn. Answers kind n next turn words answer)
-    given (next_option kind given word) options answer (λ next turn. words_fit kind n next turn words options answer) one two
+    option_fits k (λ next turn. Answers kind n next turn words (Ok options))
+    (λ next turn. Answers kind n next turn words answer) given (next_option kind given word) options answer
+    (λ next turn. words_fit kind n next turn words options answer) one two
 words_fit kind n given (Awaits k option) ((m, text) ∷ words) options answer one two =
     value_fits m (λ value. Answers kind n (with_value given option value) Free words (Ok options))
-    (λ value. Answers kind n (with_value given option value) Free words answer) (value_of option.kind text) options answer
+    (λ value. Answers kind n (with_value given option value) Free words answer)
+    (value_of option.kind text) options answer
     (λ value. words_fit kind n (with_value given option value) Free words options answer) one two
 
 pub answer_fits : (kind : Command) (n : ℕ) (is_last : Bool) (words : List Word) (options : Options) (answer : Answer)

@@ -1,8 +1,10 @@
 -- What an answer tells of the choices behind it.
-use Rattle.std.proofs.Common.{◌≡◌, refl, sym, ap, ◌∙◌, Bool, true, false, None, Some, Option, Result, Ok, Err, List, map}
+use Rattle.std.proofs.Common.{◌≡◌, refl, sym, ap, ◌∙◌, Bool, true, false, None, Some, Option, Result, Ok, Err, List}
+use Rattle.std.proofs.Common.{map}
 use Rattle.std.specs.Prelude.{if◌then◌else◌, IfSome, IfOk}
 use Rattle.std.specs.Option.{option_map}
 use Rattle.std.proofs.lemmas.List.{map-id}
+use Rattle.hum_options.specs.Read.{IsReadAs}
 
 -- some answer of a choice against none is that of its first branch
 pub chosen : {A : Type 0} (b : Bool) (o : Option A) (y : A) → (if b then o else None) ≡ Some y
@@ -20,23 +22,14 @@ pub IfSome_from : {A : Type 0} {P : A → Type 0} (o : Option A) → ((x : A) �
 IfSome_from None h = tt
 IfSome_from (Some x) h = h x refl
 
--- what holds of each value that is read
-pub IfSome_mapped : {A B : Type 0} (P : B → Type 0) (f : A → B) (o : Option A) (read : Option B) → option_map f o ≡ read
-    → ((x : B) → read ≡ Some x → P x) → IfSome o (λ x. P (f x))
-IfSome_mapped P f None read was h = tt
-IfSome_mapped P f (Some x) read was h = h (f x) (sym was)
-
--- the same, of what came of memory
-pub IfOk_mapped : {A B E : Type 0} (P : B → Type 0) (f : A → B) (r : Result (Option A) E) (read : Option B)
-    → IfOk r (λ o. option_map f o ≡ read) → ((x : B) → read ≡ Some x → P x) → IfOk r (λ o. IfSome o (λ x. P (f x)))
-IfOk_mapped P f (Ok o) read was h = IfSome_mapped P f o read was h
-IfOk_mapped P f (Err e) read was h = tt
-
-pub IfOk_alone : {A B E : Type 0} (P : B → Type 0) (f : A → B) (r : Result (Option A) E) (read : Option B)
-    → IfOk r (λ o. option_map f o ≡ read) → ((x : B) → P x → read ≡ Some x)
-    → IfOk r (λ o. (x : B) → P x → option_map f o ≡ Some x)
-IfOk_alone P f (Ok o) read was h = λ x holds. was ∙ h x holds
-IfOk_alone P f (Err e) read was h = tt
+-- what is read, where each reading is such a value, and each such value is read
+pub read_as : {A : Type 0} {Is : A → Type 0} {reading found : Option A} → found ≡ reading
+    → ((x : A) → reading ≡ Some x → Is x) → ((x : A) → Is x → reading ≡ Some x) → IsReadAs Is reading found
+read_as {found = found} was is alone = record {
+  read = was;
+  is = IfSome_from found (λ x e. is x (sym was ∙ e));
+  alone = λ x h. was ∙ alone x h;
+}
 
 -- the same, where contracts see the values as they are
 pub IfOk_as_is : {A B E : Type 0} (f : A → List B) (r : Result (Option A) E) (read : Option (List B))

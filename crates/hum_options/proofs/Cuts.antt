@@ -1,25 +1,21 @@
 -- What stands before a byte and from it on.
-use Rattle.std.proofs.Common.{◌≡◌, ◌≤◌, ◌+◌, ◌==◌, refl, ap, ℕ, true, false}
+use Rattle.std.proofs.Common.{◌≡◌, ◌≤◌, ◌<◌, ◌+◌, ◌-◌, ◌==◌, refl, sym, ap, ℕ, get_or, true, false}
 use Rattle.std.proofs.Common.{List, [], ◌∷◌, ◌++◌, length, take, drop, arith}
 use Rattle.std.specs.List.{AllByRecursion, onto_first}
+use Rattle.std.proofs.lemmas.List.{take_all}
 use Rattle.std.proofs.lemmas.Bool.{or_parts, eqb-true, eq-eqb, ne_eqb}
 use Rattle.hum_record.specs.Spelling.{has_byte}
 use Rattle.hum_path.proofs.Cases.{by_bool}
 use Rattle.hum_options.specs.Cutting.{front, remainder, parts}
 
-pub front_taken : (byte : ℕ) (text : List ℕ) → take (length (front byte text)) text ≡ front byte text
-front_taken byte [] = refl
-front_taken byte (b ∷ bytes) = by_bool (b == byte) (λ w. rw w refl)
-    (λ w. rw w (ap (λ (more : List ℕ). b ∷ more) (front_taken byte bytes)))
-
-pub rest_left : (byte : ℕ) (text : List ℕ) → drop (length (front byte text)) text ≡ remainder byte text
-rest_left byte [] = refl
-rest_left byte (b ∷ bytes) = by_bool (b == byte) (λ w. rw w refl) (λ w. rw w (rest_left byte bytes))
-
-pub length-front-le : (byte : ℕ) (text : List ℕ) → length (front byte text) ≤ length text
-length-front-le byte [] = omega arith
-length-front-le byte (b ∷ bytes) = by_bool (b == byte) (λ w. rw w (omega arith))
-    (λ w. rw w (let more = length-front-le byte bytes in omega (arith, more)))
+-- a text is cut behind its front
+pub cut_there : (byte : ℕ) (text : List ℕ) → (take (length (front byte text)) text ≡ front byte text)
+    × (drop (length (front byte text)) text ≡ remainder byte text) × (length (front byte text) ≤ length text)
+cut_there byte [] = (refl, refl, omega arith)
+cut_there byte (b ∷ bytes) = by_bool (b == byte) (λ w. rw w (refl, refl, omega arith))
+    (λ w.
+    let there = cut_there byte bytes in
+    rw w (ap (λ (more : List ℕ). b ∷ more) there.0, there.1, omega (arith, there.2)))
 
 -- a text is its two parts
 pub whole : (byte : ℕ) (text : List ℕ) → front byte text ++ remainder byte text ≡ text
@@ -47,46 +43,36 @@ parts_lack byte [] = (refl, tt)
 parts_lack byte (b ∷ bytes) = by_bool (b == byte) (λ w. rw w (refl, parts_lack byte bytes))
     (λ w. rw w (lacking byte b (parts byte bytes) w (parts_lack byte bytes)))
 
--- where the byte isn't in a text it is its own first part
-pub front_alone : (byte : ℕ) (text : List ℕ) → has_byte byte text ≡ false → front byte text ≡ text
-front_alone byte [] lacks = refl
-front_alone byte (b ∷ bytes) lacks =
+-- where the byte isn't in a text, that is its own first part
+pub cut_alone : (byte : ℕ) (text : List ℕ) → has_byte byte text ≡ false
+    → (front byte text ≡ text) × (remainder byte text ≡ []) × (parts byte text ≡ text ∷ [])
+cut_alone byte [] lacks = (refl, refl, refl)
+cut_alone byte (b ∷ bytes) lacks =
     let each = or_parts (b == byte) (has_byte byte bytes) lacks in
-    rw (each.0, front_alone byte bytes each.1) refl
-
-pub rest_alone : (byte : ℕ) (text : List ℕ) → has_byte byte text ≡ false → remainder byte text ≡ []
-rest_alone byte [] lacks = refl
-rest_alone byte (b ∷ bytes) lacks =
-    let each = or_parts (b == byte) (has_byte byte bytes) lacks in
-    rw (each.0, rest_alone byte bytes each.1) refl
-
-pub parts_alone : (byte : ℕ) (text : List ℕ) → has_byte byte text ≡ false → parts byte text ≡ text ∷ []
-parts_alone byte [] lacks = refl
-parts_alone byte (b ∷ bytes) lacks =
-    let each = or_parts (b == byte) (has_byte byte bytes) lacks in
-    rw (each.0, parts_alone byte bytes each.1) refl
+    let behind = cut_alone byte bytes each.1 in
+    rw (each.0, behind.0, behind.1, behind.2) (refl, refl, refl)
 
 -- where it isn't in what stands before it, that is the first part
-pub front_before : (byte : ℕ) (text more : List ℕ) → has_byte byte text ≡ false → (byte == byte) ≡ true
-    → front byte (text ++ byte ∷ more) ≡ text
-front_before byte [] more lacks same = rw same refl
-front_before byte (b ∷ bytes) more lacks same =
+pub cut_before : (byte : ℕ) (text more : List ℕ) → has_byte byte text ≡ false → (byte == byte) ≡ true
+    → (front byte (text ++ byte ∷ more) ≡ text) × (remainder byte (text ++ byte ∷ more) ≡ byte ∷ more)
+    × (parts byte (text ++ byte ∷ more) ≡ text ∷ parts byte more)
+cut_before byte [] more lacks same = rw same (refl, refl, refl)
+cut_before byte (b ∷ bytes) more lacks same =
     let each = or_parts (b == byte) (has_byte byte bytes) lacks in
-    rw (each.0, front_before byte bytes more each.1 same) refl
+    let behind = cut_before byte bytes more each.1 same in
+    rw (each.0, behind.0, behind.1, behind.2) (refl, refl, refl)
 
-pub rest_before : (byte : ℕ) (text more : List ℕ) → has_byte byte text ≡ false → (byte == byte) ≡ true
-    → remainder byte (text ++ byte ∷ more) ≡ byte ∷ more
-rest_before byte [] more lacks same = rw same refl
-rest_before byte (b ∷ bytes) more lacks same =
-    let each = or_parts (b == byte) (has_byte byte bytes) lacks in
-    rw (each.0, rest_before byte bytes more each.1 same) refl
+-- what stands behind the first byte
+abbrev pub behind_first : List ℕ → List ℕ
+behind_first text = take (length text - 1) (drop 1 text)
 
-pub parts_before : (byte : ℕ) (text more : List ℕ) → has_byte byte text ≡ false → (byte == byte) ≡ true
-    → parts byte (text ++ byte ∷ more) ≡ text ∷ parts byte more
-parts_before byte [] more lacks same = rw same refl
-parts_before byte (b ∷ bytes) more lacks same =
-    let each = or_parts (b == byte) (has_byte byte bytes) lacks in
-    rw (each.0, parts_before byte bytes more each.1 same) refl
+pub filled : (text : List ℕ) → 1 ≤ length text → text ≡ get_or text 0 0 ∷ behind_first text
+filled [] some = absurd (omega (arith, some))
+filled (b ∷ bytes) some = ap (λ (more : List ℕ). b ∷ more) (sym (take_all _ bytes (omega arith)))
+
+pub emptied : (text : List ℕ) → length text < 1 → text ≡ []
+emptied [] none = refl
+emptied (b ∷ bytes) none = absurd (omega (arith, none))
 
 -- how long the front is, by the first byte
 pub front_hit : (byte b : ℕ) (bytes : List ℕ) → b ≡ byte → length (front byte (b ∷ bytes)) ≡ 0

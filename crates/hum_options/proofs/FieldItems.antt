@@ -1,8 +1,8 @@
 -- Fields, as an item of a list names them.
-use Rattle.std.proofs.Common.{◌≡◌, ◌<◌, ◌==◌, refl, ap, subst, sym, ◌∙◌, ℕ, true, false}
+use Rattle.std.proofs.Common.{◌≡◌, ◌<◌, ◌==◌, refl, ap, ◌∙◌, ℕ, true, false}
 use Rattle.std.proofs.Common.{List, [], ◌∷◌, ◌++◌, None, Some, Option, lit<}
 use Rattle.std.specs.Prelude.{nat_le}
-use Rattle.std.specs.Str.{bytes_eq}
+use Rattle.std.specs.Str.{all_ascii_digits, bytes_eq}
 use lib.Chars.{codes}
 use Rattle.std.proofs.lemmas.Bool.{and_parts, eqb-true, leb-true, le-leb}
 use Rattle.std.proofs.lemmas.List.{append-nil}
@@ -10,23 +10,21 @@ use Rattle.hum_choices.specs.declared.extract.FieldRange.{FieldRange}
 use Rattle.hum_record.specs.Spelling.{has_byte}
 use Rattle.hum_path.proofs.Cases.{by_bool}
 use Rattle.hum_options.specs.Cutting.{front, remainder}
-use Rattle.hum_options.specs.Fields.{IsCount, count_of, through, onward, last_field, AreFields, one, last, span, to_last}
-use Rattle.hum_options.specs.Fields.{in_order, from_number, by_dash, fields_of}
+use Rattle.hum_options.specs.Fields.{IsCount, count_of, through, onward, last_field, AreFields, one, last, span}
+use Rattle.hum_options.specs.Fields.{to_last, in_order, from_number, by_dash, fields_of}
 use Rattle.hum_options.proofs.Choices.{chosen, mapped}
-use Rattle.hum_options.proofs.Cuts.{whole, rest_begins, front_alone, rest_alone, front_before, rest_before}
-use Rattle.hum_options.proofs.Digits.{positive_is, positive_alone, number_digits, number_lacks, digits_no_dollar, joined_lack}
+use Rattle.hum_options.proofs.Cuts.{whole, rest_begins, cut_alone, cut_before}
+use Rattle.hum_options.proofs.Digits.{positive_is, positive_alone, number_digits, number_lacks, other_byte, joined_lack}
 
 pub count_is : (text : List ℕ) (n : ℕ) → count_of text ≡ Some n → IsCount text n
-count_is text n = positive_is 4096 text n (lit< tt)
+count_is text n e = positive_is (lit< tt) e
 
 pub count_alone : (text : List ℕ) (n : ℕ) → IsCount text n → count_of text ≡ Some n
-count_alone text n = positive_alone 4096 text n (lit< tt)
+count_alone text n h = positive_alone (lit< tt) h
 
 is_dollar : (text : List ℕ) → bytes_eq text (codes "$") ≡ true → text ≡ codes "$"
 is_dollar [] w = cc
-is_dollar (b ∷ []) w =
-    let tests = and_parts (b == 36) true w in
-    ap (λ (x : ℕ). x ∷ []) (eqb-true b 36 tests.0)
+is_dollar (b ∷ []) w = ap (λ (x : ℕ). x ∷ []) (eqb-true b 36 (and_parts (b == 36) true w).0)
 is_dollar (b ∷ c ∷ text) w = let tests = and_parts (b == 36) false w in let f : false ≡ true = tests.1 in cc
 
 -- behind a dash
@@ -37,82 +35,67 @@ behind_are a b m range h e = by_bool (bytes_eq b (codes "$")) to_the_last (λ w.
     to_the_last : bytes_eq b (codes "$") ≡ true → AreFields (a ++ (codes "-" ++ b)) range
     to_the_last w =
         let told : Some (onward m) ≡ Some range = rw w at e in
-        let same : onward m ≡ range = cc in
-        let P : List ℕ → Type 0 = λ t. AreFields (a ++ (codes "-" ++ t)) range in
-        let Q : FieldRange → Type 0 = λ r. AreFields (a ++ codes "-$") r in
-        subst P (sym (is_dollar b w)) (subst Q same (to_last h))
+        let same : range ≡ onward m = cc in
+        rw (is_dollar b w, same) (to_last h)
 
     between : (o : Option ℕ) → count_of b ≡ o → in_order m o ≡ Some range → AreFields (a ++ (codes "-" ++ b)) range
     between None was none = cc
     between (Some n) was found =
         let test = chosen (nat_le m n) (Some (through m n)) range found in
-        let same : through m n ≡ range = let told = test.1 in cc in
-        let Q : FieldRange → Type 0 = λ r. AreFields (a ++ (codes "-" ++ b)) r in
-        subst Q same (span h (count_is b n was) (leb-true m n test.0))
+        let same : range ≡ through m n = let told = test.1 in cc in
+        rw same (span h (count_is b n was) (leb-true m n test.0))
 
 by_dash_are : (a left : List ℕ) → ((b : ℕ) (bytes : List ℕ) → left ≡ b ∷ bytes → b ≡ 45) → (range : FieldRange)
     → by_dash a left ≡ Some range → AreFields (a ++ left) range
-by_dash_are a [] begins range e = by_bool (bytes_eq a (codes "$")) the_last one_field
+by_dash_are a [] begins range e = rw append-nil (by_bool (bytes_eq a (codes "$")) the_last one_field)
   where
-    the_last : bytes_eq a (codes "$") ≡ true → AreFields (a ++ []) range
+    the_last : bytes_eq a (codes "$") ≡ true → AreFields a range
     the_last w =
         let told : Some last_field ≡ Some range = rw w at e in
-        let same : last_field ≡ range = cc in
-        let P : List ℕ → Type 0 = λ t. AreFields (t ++ []) range in
-        let Q : FieldRange → Type 0 = λ r. AreFields (codes "$") r in
-        subst P (sym (is_dollar a w)) (subst Q same last)
+        let same : range ≡ last_field = cc in
+        rw (is_dollar a w, same) last
 
-    one_field : bytes_eq a (codes "$") ≡ false → AreFields (a ++ []) range
+    one_field : bytes_eq a (codes "$") ≡ false → AreFields a range
     one_field w =
         let found = mapped (λ (m : ℕ). through m m) (count_of a) range (rw w at e) in
-        let P : List ℕ → Type 0 = λ t. AreFields t range in
-        let Q : FieldRange → Type 0 = λ r. AreFields a r in
-        subst P (sym (append-nil a)) (subst Q found.2 (one (count_is a found.0 found.1)))
+        rw (← found.2) (one (count_is a found.0 found.1))
 by_dash_are a (dash ∷ b) begins range e = counted (count_of a) refl e
   where
     counted : (o : Option ℕ) → count_of a ≡ o → from_number b o ≡ Some range → AreFields (a ++ dash ∷ b) range
     counted None was none = cc
-    counted (Some m) was found =
-        let P : ℕ → Type 0 = λ d. AreFields (a ++ d ∷ b) range in
-        subst P (sym (begins dash b refl)) (behind_are a b m range (count_is a m was) found)
+    counted (Some m) was found = rw (begins dash b refl) (behind_are a b m range (count_is a m was) found)
 
 pub fields_are : (item : List ℕ) (range : FieldRange) → fields_of item ≡ Some range → AreFields item range
 fields_are item range e =
-    let P : List ℕ → Type 0 = λ t. AreFields t range in
-    subst P (whole 45 item) (by_dash_are (front 45 item) (remainder 45 item) (rest_begins 45 item) range e)
+    let are = by_dash_are (front 45 item) (remainder 45 item) (rest_begins 45 item) range e in rw (whole 45 item) at are
 
-count_no_dollar : (text : List ℕ) (n : ℕ) → IsCount text n → bytes_eq text (codes "$") ≡ false
-count_no_dollar text n h = digits_no_dollar text (number_digits 4096 text n (lit< tt) h.number)
+digits_no_dollar : (text : List ℕ) → all_ascii_digits text ≡ true → bytes_eq text (codes "$") ≡ false
+digits_no_dollar [] all = refl
+digits_no_dollar (b ∷ text) all = rw (other_byte 36 b text (lit< tt) all) refl
 
-count_lacks : (byte : ℕ) (text : List ℕ) (n : ℕ) → byte < 48 → IsCount text n → has_byte byte text ≡ false
-count_lacks byte text n low h = number_lacks byte 4096 text n (lit< tt) low h.number
+count_no_dollar : {text : List ℕ} {n : ℕ} → IsCount text n → bytes_eq text (codes "$") ≡ false
+count_no_dollar {text} h = digits_no_dollar text (number_digits (lit< tt) h.number)
+
+count_lacks : {text : List ℕ} {n : ℕ} (byte : ℕ) → byte < 48 → IsCount text n → has_byte byte text ≡ false
+count_lacks byte low h = number_lacks byte (lit< tt) low h.number
 
 at_dash : (a b : List ℕ) (m : ℕ) → IsCount a m → fields_of (a ++ (codes "-" ++ b)) ≡ from_number b (Some m)
 at_dash a b m h =
-    let lacks = count_lacks 45 a m (lit< tt) h in
-    ap (λ (t : List ℕ). by_dash (front 45 (a ++ (codes "-" ++ b))) t) (rest_before 45 a b lacks refl)
-    ∙ ap (λ (t : List ℕ). from_number b (count_of t)) (front_before 45 a b lacks refl)
-    ∙ ap (from_number b) (count_alone a m h)
+    let cut = cut_before 45 a b (count_lacks 45 (lit< tt) h) refl in
+    rw (cut.1, cut.0, count_alone a m h) refl
 
 pub fields_alone : (item : List ℕ) (range : FieldRange) → AreFields item range → fields_of item ≡ Some range
 fields_alone _ _ (one {a} {m} h) =
-    let lacks = count_lacks 45 a m (lit< tt) h in
-    let other = count_no_dollar a m h in
-    let read = count_alone a m h in
-    ap (λ (t : List ℕ). by_dash (front 45 a) t) (rest_alone 45 a lacks)
-    ∙ ap (λ (t : List ℕ). by_dash t []) (front_alone 45 a lacks)
-    ∙ rw (other, read) refl
+    let cut = cut_alone 45 a (count_lacks 45 (lit< tt) h) in
+    rw (cut.1, cut.0, count_no_dollar h, count_alone a m h) refl
 fields_alone _ _ last = refl
 fields_alone _ _ (span {a} {b} {m} {n} h k order) =
-    let other = count_no_dollar b n k in
-    let read = count_alone b n k in
-    let within : nat_le m n ≡ true = le-leb m n order in
-    at_dash a b m h ∙ rw (other, read, within) refl
+    at_dash a b m h ∙ rw (count_no_dollar k, count_alone b n k, le-leb m n order) refl
 fields_alone _ _ (to_last {a} {m} h) = at_dash a (codes "$") m h
 
 pub fields_lack : (item : List ℕ) (range : FieldRange) → AreFields item range → has_byte 44 item ≡ false
-fields_lack _ _ (one {a} {m} h) = count_lacks 44 a m (lit< tt) h
+fields_lack _ _ (one h) = count_lacks 44 (lit< tt) h
 fields_lack _ _ last = refl
-fields_lack _ _ (span {a} {b} {m} {n} h k order) =
-    joined_lack 44 a (codes "-" ++ b) (count_lacks 44 a m (lit< tt) h) (count_lacks 44 b n (lit< tt) k)
-fields_lack _ _ (to_last {a} {m} h) = joined_lack 44 a (codes "-$") (count_lacks 44 a m (lit< tt) h) refl
+fields_lack _ _ (span {a} {b} h k order) =
+    joined_lack 44 a (codes "-" ++ b) (count_lacks 44 (lit< tt) h) (count_lacks 44 (lit< tt) k)
+fields_lack _ _ (to_last {a} h) = joined_lack 44 a (codes "-$") (count_lacks 44 (lit< tt) h) refl

@@ -1,18 +1,21 @@
 -- Items between commas.
-use Rattle.std.proofs.Common.{◌≡◌, ◌<◌, ◌≤◌, ◌+◌, ◌==◌, ◌-◌, take, drop, refl, ap, sym, ◌∙◌, subst, ℕ, suc, Bool, true, false}
+use Rattle.std.proofs.Common.{◌≡◌, ◌<◌, ◌≤◌, ◌+◌, ◌==◌, refl, ap, sym, ◌∙◌, ℕ, suc, false}
 use Rattle.std.proofs.Common.{List, [], ◌∷◌, ◌++◌, length, arith, None, Some, Option, append_assoc, length-append, map}
-use Rattle.std.specs.Prelude.{if◌then◌else◌, nat_le}
+use Rattle.std.specs.Prelude.{nat_le, Result, IfOk}
 use Rattle.std.specs.Option.{option_map, option_and_then}
 use Rattle.std.specs.List.{AllByRecursion, join_with_byte}
+use Rattle.std.proofs.lemmas.Iterator.Adapters.{option_map_id}
+use Rattle.std.proofs.lemmas.Result.{IfOk-weaker}
 use Rattle.std.proofs.lemmas.Bool.{leb-true, le-leb, lt-leb}
-use Rattle.std.proofs.lemmas.List.{append-nil, map-append, take_all}
+use Rattle.std.proofs.lemmas.List.{append-nil, map-append}
 use Rattle.std.proofs.lemmas.List.Splits.{join_with_byte-slice_split, length-slice_split}
 use Rattle.hum_record.specs.Spelling.{has_byte}
 use Rattle.hum_path.proofs.Cases.{by_bool}
 use Rattle.hum_options.specs.Cutting.{front, remainder, parts}
 use Rattle.hum_options.specs.Items.{AreItems, one, more, AreListed, with_first, all_of, items_of}
-use Rattle.hum_options.proofs.Choices.{chosen}
-use Rattle.hum_options.proofs.Cuts.{parts_lack, parts_alone, parts_before}
+use Rattle.hum_options.specs.Read.{IsReadAs}
+use Rattle.hum_options.proofs.Choices.{chosen, read_as}
+use Rattle.hum_options.proofs.Cuts.{parts_lack, cut_alone, cut_before, behind_first, filled, emptied}
 
 -- the values of what is still to come, behind those that are done
 abbrev pub behind : {A : Type 0} → List A → Option (List A) → Option (List A)
@@ -35,29 +38,22 @@ first_part [] = refl
 first_part (b ∷ bytes) = by_bool (b == 44) (λ w. rw w refl) (λ w. rw (w, first_part bytes) refl)
 
 -- what stands behind the comma, if there is one
-pub left_behind : (left : List ℕ) → 1 ≤ length left → parts_behind left ≡ parts 44 (take (length left - 1) (drop 1 left))
-left_behind [] some = absurd (omega (arith, some))
-left_behind (comma ∷ text) some =
-    let next : length (comma ∷ text) - 1 ≡ length text = omega arith in
-    rw (next, take_all (length text) text (omega arith)) refl
+pub left_behind : (left : List ℕ) → 1 ≤ length left → parts_behind left ≡ parts 44 (behind_first left)
+left_behind left some = ap parts_behind (filled left some)
 
 pub none_behind : (left : List ℕ) → length left < 1 → parts_behind left ≡ []
-none_behind [] none = refl
-none_behind (comma ∷ text) none = absurd (omega (arith, none))
-
-all_left : {A : Type 0} (o : Option (List A)) → o ≡ behind [] o
-all_left None = refl
-all_left (Some values) = refl
+none_behind left none = ap parts_behind (emptied left none)
 
 -- nothing is read yet
 pub listing_begins : {A B : Type 0} {value_of : List ℕ → Option A} {view : B → A} (text : List ℕ)
     → IsListing value_of view text (parts 44 text) []
 listing_begins {A} {B} {value_of} text =
-    record { few = omega arith; count = omega arith; values = all_left (all_of value_of (parts 44 text)) }
+    record { few = omega arith; count = omega arith; values = sym (option_map_id _) }
 
 -- the next part, and what is behind it
 pub next_part : {A B : Type 0} {value_of : List ℕ → Option A} {view : B → A} {text part left : List ℕ} {items : List B}
-    (here : List ℕ) → IsListing value_of view text (parts 44 here) items → part ≡ front 44 here → left ≡ remainder 44 here
+    (here : List ℕ) → IsListing value_of view text (parts 44 here) items → part ≡ front 44 here
+    → left ≡ remainder 44 here
     → IsListing value_of view text (part ∷ parts_behind left) items
 next_part here h part_is left_is = rw (part_is, left_is) (rw (first_part here) at h)
 
@@ -69,12 +65,6 @@ behind_one done value (Some values) =
 
 module _ {A B : Type 0} {value_of : List ℕ → Option A} {view : B → A} {text part : List ℕ} {left : List (List ℕ)}
     {items : List B} (h : IsListing value_of view text (part ∷ left) items) where
-  -- what is done and what is to come, the next part first
-  next_values : (o : Option A) → o ≡ value_of part
-      → all_of value_of (parts 44 text) ≡ behind (map view items) (option_and_then (with_first (all_of value_of left)) o)
-  next_values o is =
-      h.values ∙ ap (λ (x : Option A). behind (map view items) (option_and_then (with_first (all_of value_of left)) x)) (sym is)
-
   -- one more is read
   pub listing_goes_on : (item : B) → Some (view item) ≡ value_of part → length items < 64
       → IsListing value_of view text left (items ++ item ∷ [])
@@ -83,17 +73,15 @@ module _ {A B : Type 0} {value_of : List ℕ → Option A} {view : B → A} {tex
       record {
         few = omega (arith, few, longer);
         count = omega (arith, h.count, longer);
-        values = rw (map-append view items (item ∷ []))
-            (next_values (Some (view item)) read ∙ behind_one (map view items) (view item) (all_of value_of left));
+        values = rw (h.values, map-append view items (item ∷ []), ← read)
+            (behind_one (map view items) (view item) (all_of value_of left));
       }
 
   -- a part that isn't read
   pub listing_refused : None ≡ value_of part → None ≡ items_of value_of text
-  listing_refused none = either_none (nat_le (length (parts 44 text)) 64) (all_of value_of (parts 44 text)) (next_values None none)
-    where
-      either_none : (b : Bool) (o : Option (List A)) → o ≡ None → None ≡ (if b then o else None)
-      either_none true o is = sym is
-      either_none false o is = refl
+  listing_refused none =
+      let lost : None ≡ all_of value_of (parts 44 text) = rw (h.values, ← none) refl in
+      by_bool (nat_le (length (parts 44 text)) 64) (λ few. rw few lost) (λ over. rw over refl)
 
   -- a part behind 64 others
   pub listing_full : 64 ≤ length items → None ≡ items_of value_of text
@@ -124,8 +112,10 @@ first_is None others values e = cc
 first_is (Some x) None values e = cc
 first_is (Some x) (Some xs) values e = record { value = x; more_values = xs; is = refl; others_are = refl; all = cc }
 
-module _ {A : Type 0} (value_of : List ℕ → Option A) (IsItem : List ℕ → A → Type 0)
-    (is : (item : List ℕ) (value : A) → has_byte 44 item ≡ false → value_of item ≡ Some value → IsItem item value) where
+module _ {A : Type 0} {value_of : List ℕ → Option A} {IsItem : List ℕ → A → Type 0}
+    (is : (item : List ℕ) (value : A) → has_byte 44 item ≡ false → value_of item ≡ Some value → IsItem item value)
+    (alone : (item : List ℕ) (value : A) → IsItem item value → value_of item ≡ Some value)
+    (lacks : (item : List ℕ) (value : A) → IsItem item value → has_byte 44 item ≡ false) where
   record AreAll (texts : List (List ℕ)) (values : List A) : Type 0 where
     items : AreItems IsItem (join_with_byte 44 texts) values
     count : length values ≡ length texts
@@ -137,56 +127,51 @@ module _ {A : Type 0} (value_of : List ℕ → Option A) (IsItem : List ℕ → 
       let first = first_is (value_of text) (Some []) values e in
       let none : [] ≡ first.more_values = cc in
       let same : first.value ∷ [] ≡ values = rw (← none) at first.all in
-      let P : List A → Type 0 = λ vs. AreAll (text ∷ []) vs in
-      subst P same (record { items = one (is text first.value lack.0 first.is); count = refl })
+      rw (← same) (record { items = one (is text first.value lack.0 first.is); count = refl })
   all_are (text ∷ next ∷ texts) values lack some e =
       let first = first_is (value_of text) (all_of value_of (next ∷ texts)) values e in
       let others = all_are (next ∷ texts) first.more_values lack.1 (omega arith) first.others_are in
-      let P : List A → Type 0 = λ vs. AreAll (text ∷ next ∷ texts) vs in
-      subst P first.all (record {
+      rw (← first.all) (record {
         items = more (is text first.value lack.0 first.is) others.items;
         count = ap suc others.count;
       })
 
   -- a list that is read has these items
-  pub items_are : (text : List ℕ) (values : List A) → items_of value_of text ≡ Some values → AreListed IsItem text values
+  items_are : (text : List ℕ) (values : List A) → items_of value_of text ≡ Some values → AreListed IsItem text values
   items_are text values e =
       let test = chosen (nat_le (length (parts 44 text)) 64) (all_of value_of (parts 44 text)) values e in
       let some : 0 < length (parts 44 text) = omega (arith, length-slice_split (λ b. b == 44) text) in
       let all = all_are (parts 44 text) values (parts_lack 44 text) some test.1 in
-      let P : List ℕ → Type 0 = λ t. AreItems IsItem t values in
       record {
-        items = subst P (join_with_byte-slice_split 44 text) all.items;
+        items = rw (join_with_byte-slice_split 44 text) at all.items;
         most = omega (arith, all.count, leb-true (length (parts 44 text)) 64 test.0);
       }
 
-module _ {A : Type 0} (value_of : List ℕ → Option A) (IsItem : List ℕ → A → Type 0)
-    (alone : (item : List ℕ) (value : A) → IsItem item value → value_of item ≡ Some value)
-    (lacks : (item : List ℕ) (value : A) → IsItem item value → has_byte 44 item ≡ false) where
   record AreRead (text : List ℕ) (values : List A) : Type 0 where
     values_are : all_of value_of (parts 44 text) ≡ Some values
     count : length (parts 44 text) ≡ length values
 
   all_alone : (text : List ℕ) (values : List A) → AreItems IsItem text values → AreRead text values
   all_alone _ _ (one {item} {value} h) =
-      let cut = parts_alone 44 item (lacks item value h) in
-      record {
-        values_are = ap (all_of value_of) cut ∙ ap (option_and_then (with_first (Some []))) (alone item value h);
-        count = ap length cut;
-      }
+      let cut = (cut_alone 44 item (lacks item value h)).2 in
+      record { values_are = rw (cut, alone item value h) refl; count = ap length cut }
   all_alone _ _ (more {item} {text} {value} {values} h hs) =
-      let cut = parts_before 44 item text (lacks item value h) refl in
-      let rest_read = all_alone text values hs in
+      let cut = (cut_before 44 item text (lacks item value h) refl).2 in
+      let others = all_alone text values hs in
       record {
-        values_are = ap (all_of value_of) cut
-            ∙ ap (option_and_then (with_first (all_of value_of (parts 44 text)))) (alone item value h)
-            ∙ ap (λ (o : Option (List A)). with_first o value) rest_read.values_are;
-        count = ap length cut ∙ ap suc rest_read.count;
+        values_are = rw (cut, alone item value h, others.values_are) refl;
+        count = ap length cut ∙ ap suc others.count;
       }
 
   -- a list of these items is read
-  pub items_alone : (text : List ℕ) (values : List A) → AreListed IsItem text values → items_of value_of text ≡ Some values
+  items_alone : (text : List ℕ) (values : List A) → AreListed IsItem text values → items_of value_of text ≡ Some values
   items_alone text values h =
       let read = all_alone text values h.items in
       let within : length (parts 44 text) ≤ 64 = omega (arith, read.count, h.most) in
       rw (le-leb (length (parts 44 text)) 64 within, read.values_are) refl
+
+  -- what is read is such a list, and each such list is read
+  pub listed : {B E : Type 0} (f : B → List A) (text : List ℕ) (r : Result (Option B) E)
+      → IfOk r (λ found. option_map f found ≡ items_of value_of text)
+      → IfOk r (λ found. IsReadAs (AreListed IsItem text) (items_of value_of text) (option_map f found))
+  listed f text r was = IfOk-weaker r _ _ (λ found e. read_as e (items_are text) (items_alone text)) was

@@ -1,62 +1,51 @@
 -- Numbers with a sign.
-use Rattle.std.proofs.Common.{◌≡◌, ◌<◌, ◌≤◌, ◌^◌, ◌==◌, ap, subst, sym, ℕ, zero, suc, true, false}
-use Rattle.std.proofs.Common.{List, [], ◌∷◌, arith, Some}
+use Rattle.std.proofs.Common.{◌≡◌, ◌<◌, ◌≤◌, ◌^◌, ◌==◌, ap, ℕ, zero, suc, true, false, List, [], ◌∷◌, lit<, Some}
 use Rattle.std.specs.Prelude.{ℤ, pos, neg_ℤ, nat_abs}
 use Rattle.std.specs.Option.{option_map}
 use Rattle.std.specs.Str.{all_ascii_digits}
-use Rattle.std.specs.Char.{is_ascii_digit}
-use Rattle.std.proofs.lemmas.Bool.{and_parts, eqb-true}
-use Rattle.std.proofs.lemmas.Bool.Decides.{nat_tests}
+use Rattle.std.proofs.lemmas.Bool.{eqb-true}
 use Rattle.hum_path.proofs.Cases.{by_bool}
 use Rattle.hum_options.specs.Numbers.{IsSigned, plain, plus, minus, negated, number_of, signed_of}
 use Rattle.hum_options.proofs.Choices.{mapped}
-use Rattle.hum_options.proofs.Digits.{number_is, number_alone, number_digits}
+use Rattle.hum_options.proofs.Digits.{number_is, number_alone, number_digits, other_byte}
 
-pub signed_is : (most : ℕ) (text : List ℕ) (z : ℤ) → most < 2 ^ 64 → signed_of most text ≡ Some z → IsSigned most text z
-signed_is most [] z small e = cc
-signed_is most (sign ∷ text) z small e = by_bool (sign == 43) with_plus (λ other. by_bool (sign == 45) (with_minus other) (without other))
+pub signed_is : {most : ℕ} (text : List ℕ) {z : ℤ} → most < 2 ^ 64 → signed_of most text ≡ Some z → IsSigned most text z
+signed_is [] small e = cc
+signed_is {most} (sign ∷ text) {z} small e =
+    by_bool (sign == 43) with_plus (λ other. by_bool (sign == 45) (with_minus other) (without other))
   where
     with_plus : (sign == 43) ≡ true → IsSigned most (sign ∷ text) z
     with_plus w =
         let found = mapped pos (number_of most text) z (rw w at e) in
-        let P : ℕ → Type 0 = λ b. IsSigned most (b ∷ text) z in
-        let Q : ℤ → Type 0 = λ y. IsSigned most (43 ∷ text) y in
-        subst P (sym (eqb-true sign 43 w)) (subst Q found.2 (plus (number_is most text found.0 small found.1)))
+        rw (eqb-true sign 43 w, ← found.2) (plus (number_is small found.1))
 
     with_minus : (sign == 43) ≡ false → (sign == 45) ≡ true → IsSigned most (sign ∷ text) z
     with_minus other w =
         let found = mapped negated (number_of most text) z (rw (other, w) at e) in
-        let P : ℕ → Type 0 = λ b. IsSigned most (b ∷ text) z in
-        let Q : ℤ → Type 0 = λ y. IsSigned most (45 ∷ text) y in
-        subst P (sym (eqb-true sign 45 w)) (subst Q found.2 (minus (number_is most text found.0 small found.1)))
+        rw (eqb-true sign 45 w, ← found.2) (minus (number_is small found.1))
 
     without : (sign == 43) ≡ false → (sign == 45) ≡ false → IsSigned most (sign ∷ text) z
     without other none =
         let found = mapped pos (number_of most (sign ∷ text)) z (rw (other, none) at e) in
-        let Q : ℤ → Type 0 = λ y. IsSigned most (sign ∷ text) y in
-        subst Q found.2 (plain (number_is most (sign ∷ text) found.0 small found.1))
+        rw (← found.2) (plain (number_is small found.1))
 
 plain_alone : (most : ℕ) (text : List ℕ) (n : ℕ) → all_ascii_digits text ≡ true → number_of most text ≡ Some n
     → signed_of most text ≡ Some (pos n)
 plain_alone most [] n all e = cc
 plain_alone most (sign ∷ text) n all e =
-    let tests = and_parts (is_ascii_digit sign) (all_ascii_digits text) all in
-    let digit : 48 ≤ sign = grind (arith, nat_tests, tests.0) in
-    let not_plus : (sign == 43) ≡ false = grind (arith, nat_tests, digit) in
-    let not_minus : (sign == 45) ≡ false = grind (arith, nat_tests, digit) in
-    rw (not_plus, not_minus) (ap (option_map pos) e)
+    rw (other_byte 43 sign text (lit< tt) all, other_byte 45 sign text (lit< tt) all) (ap (option_map pos) e)
 
-pub signed_alone : (most : ℕ) (text : List ℕ) (z : ℤ) → most < 2 ^ 64 → IsSigned most text z → signed_of most text ≡ Some z
-signed_alone most _ _ small (plain {text} {n} h) =
-    plain_alone most text n (number_digits most text n small h) (number_alone most text n small h)
-signed_alone most _ _ small (plus {text} {n} h) = ap (option_map pos) (number_alone most text n small h)
-signed_alone most _ _ small (minus {text} {n} h) = ap (option_map negated) (number_alone most text n small h)
+pub signed_alone : {most : ℕ} {text : List ℕ} {z : ℤ} → most < 2 ^ 64 → IsSigned most text z
+    → signed_of most text ≡ Some z
+signed_alone {most} small (plain {text} {n} h) = plain_alone most text n (number_digits small h) (number_alone small h)
+signed_alone small (plus h) = ap (option_map pos) (number_alone small h)
+signed_alone small (minus h) = ap (option_map negated) (number_alone small h)
 
 -- its absolute value is at most so great
-pub signed_within : (most : ℕ) (text : List ℕ) (z : ℤ) → IsSigned most text z → nat_abs z ≤ most
-signed_within most _ _ (plain h) = h.within
-signed_within most _ _ (plus h) = h.within
-signed_within most _ _ (minus {text} {n} h) = by_number n h.within
+pub signed_within : {most : ℕ} {text : List ℕ} {z : ℤ} → IsSigned most text z → nat_abs z ≤ most
+signed_within (plain h) = h.within
+signed_within (plus h) = h.within
+signed_within {most} (minus {text} {n} h) = by_number n h.within
   where
     by_number : (n : ℕ) → n ≤ most → nat_abs (neg_ℤ (pos n)) ≤ most
     by_number zero within = within

@@ -1,8 +1,6 @@
 -- What the words behind a command are answered.
-use Rattle.std.specs.Prelude.{◌≡◌, ℕ, Bool, true, false, not}
-use Rattle.std.specs.Prelude.{◌&&◌, ◌||◌, ◌==◌, if◌then◌else◌, ◌⊎◌}
-use Rattle.std.specs.Prelude.{List, [], ◌∷◌, ◌++◌, map, Option, None, Some, Result, Ok, Err}
-use Rattle.std.specs.Prelude.{MatchBool}
+use Rattle.std.specs.Prelude.{◌≡◌, ℕ, Bool, true, false, not, ◌&&◌, ◌||◌, ◌==◌, if◌then◌else◌, ◌⊎◌, List, [], ◌∷◌}
+use Rattle.std.specs.Prelude.{◌++◌, map, Option, None, Some, Result, Ok, Err, MatchBool}
 use Rattle.std.specs.List.{list_any}
 use Rattle.std.specs.Option.{option_or}
 use lib.Chars.{codes}
@@ -19,8 +17,7 @@ use Rattle.hum_options.specs.declared.reading.Turn.{Turn}
 use Rattle.hum_options.specs.declared.reading.Turn.TheVariants.{Free, Awaits}
 use Rattle.hum_options.specs.Given.{letter, Given}
 use Rattle.hum_options.specs.Options.{excludes, option_of, meant}
-use Rattle.hum_options.specs.Values.{Value, Nothing, Pattern, value_of, IsRefused}
-use Rattle.hum_options.specs.Values.{IsSound}
+use Rattle.hum_options.specs.Values.{Value, Nothing, Pattern, value_of, IsRefused, IsSound}
 use Rattle.hum_choices.specs.Options.{Options, Rid}
 use Rattle.hum_options.specs.Letters.{is_letter_word, has_letter, dropped}
 

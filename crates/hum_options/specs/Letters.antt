@@ -1,6 +1,5 @@
 -- The words of rid: each is `-` and letters of what is dropped.
-use Rattle.std.specs.Prelude.{ℕ, Bool, false, not, ◌&&◌, ◌==◌}
-use Rattle.std.specs.Prelude.{List, [], ◌∷◌, length}
+use Rattle.std.specs.Prelude.{ℕ, Bool, false, not, ◌&&◌, ◌==◌, List, [], ◌∷◌, length}
 use Rattle.std.specs.List.{list_any, list_all}
 use lib.Chars.{codes}
 use Rattle.hum_choices.specs.declared.rid.RidOptions.{RidOptions}

@@ -12,4 +12,5 @@ pub mod Letters
 pub mod Answers
 pub mod Seen
 pub mod Spelling
+pub mod Read
 pub mod Refused

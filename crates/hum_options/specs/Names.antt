@@ -1,6 +1,5 @@
 -- Names, labels and what goes between data.
-use Rattle.std.specs.Prelude.{◌≡◌, ◌≢◌, ℕ, Bool, true, false, not, ◌&&◌, List, []}
-use Rattle.std.specs.Prelude.{Option, None, Some, if◌then◌else◌}
+use Rattle.std.specs.Prelude.{◌≡◌, ◌≢◌, ℕ, Bool, true, false, not, ◌&&◌, List, [], Option, None, Some, if◌then◌else◌}
 use Rattle.hum_record.specs.Spelling.{has_byte}
 use Rattle.hum_choices.specs.Cleave.{is_name, fits_in_token}
 use Rattle.hum_kern.specs.Duration.{is_empty}
@@ -22,6 +21,10 @@ pub record IsLabel (text : List ℕ) : Type 0 where
 abbrev pub is_label : List ℕ → Bool
 is_label text = not (is_empty text) && (not (has_byte 91 text) && fits_in_token text)
 
+-- a text, if it passes a test
+abbrev pub text_if : (List ℕ → Bool) → List ℕ → Option (List ℕ)
+text_if test text = if test text then Some text else None
+
 -- the name that a text is, if it is one
 abbrev pub name_of : List ℕ → Option (List ℕ)
-name_of text = if is_name text then Some text else None
+name_of = text_if is_name

@@ -1,6 +1,5 @@
 -- The options of each command, and what they mean together.
-use Rattle.std.specs.Prelude.{ℕ, Bool, ◌&&◌, ◌==◌, if◌then◌else◌, List, [], ◌∷◌, map}
-use Rattle.std.specs.Prelude.{Option, None, Some, unwrap_or}
+use Rattle.std.specs.Prelude.{ℕ, Bool, ◌&&◌, ◌==◌, if◌then◌else◌, List, [], ◌∷◌, map, Option, None, Some, unwrap_or}
 use Rattle.std.specs.List.{list_any, find}
 use Rattle.std.specs.Option.{option_map, option_or}
 use Rattle.std.specs.Str.{bytes_eq}
@@ -8,22 +7,18 @@ use lib.Chars.{codes}
 use Rattle.hum_choices.specs.Extract as choice
 use Rattle.hum_choices.specs.Extract.{range_of}
 use Rattle.hum_choices.specs.Cleave as cleave
-use Rattle.hum_choices.specs.Options.{Span, Number, Phrase, Markers, Lines, Numbers, Occurrences}
-use Rattle.hum_choices.specs.Options.{Labels, Options, Rid, Extract, Ditto, Timebase, Context}
-use Rattle.hum_choices.specs.Options.{Trans, Semits, Mint, Recip, Yank, Cleave}
+use Rattle.hum_choices.specs.Options.{Span, Number, Phrase, Markers, Lines, Numbers, Occurrences, Labels, Options}
+use Rattle.hum_choices.specs.Options.{Extract, Ditto, Timebase, Context, Trans, Semits, Mint, Recip, Yank, Cleave}
 use Rattle.hum_choices.specs.declared.ditto.DittoOptions.{DittoOptions}
 use Rattle.hum_choices.specs.declared.mint.MintOptions.{MintOptions}
 use Rattle.hum_choices.specs.declared.semits.SemitsOptions.{SemitsOptions}
 use Rattle.hum_stage.specs.declared.faults.Command.{Command}
 use Rattle.hum_stage.specs.declared.faults.Command.TheVariants as command
 use Rattle.hum_options.specs.declared.options.ValueKind.{ValueKind}
-use Rattle.hum_options.specs.declared.options.ValueKind.TheVariants.{Alone, Fields, Names, Name, Text}
-use Rattle.hum_options.specs.declared.options.ValueKind.TheVariants.{Ranges, Label, Pattern, Count}
-use Rattle.hum_options.specs.declared.options.ValueKind.TheVariants.{Steps, Semitones, Duration}
+use Rattle.hum_options.specs.declared.options.ValueKind.TheVariants.{Alone, Fields, Names, Name, Text, Ranges, Label}
+use Rattle.hum_options.specs.declared.options.ValueKind.TheVariants.{Pattern, Count, Steps, Semitones, Duration}
 use Rattle.hum_options.specs.declared.options.CommandOption.{CommandOption}
-use Rattle.hum_options.specs.Given.{Given, letter, has, get, as_fields, as_names, as_name, as_text}
-use Rattle.hum_options.specs.Given.{as_ranges, as_label, as_pattern, as_count, as_steps}
-use Rattle.hum_options.specs.Given.{as_semitones, as_duration}
+use Rattle.hum_options.specs.Given.{Given, letter, has, get}
 
 -- an option, by the text of its letter and the kind of its value
 abbrev pub takes : List ℕ → ValueKind → ℕ × ValueKind
@@ -82,46 +77,27 @@ both f None second = None
 both f (Some a) second = option_map (f a) second
 
 -- `-f`, or `-i`
-abbrev pub fields_meant : List Given → Option choice.Choice
-fields_meant given =
-    option_map (λ ranges. choice.Fields (map range_of ranges)) (get as_fields (codes "f") given)
-
 abbrev pub choice_meant : List Given → Option choice.Choice
-choice_meant given =
-    option_or (fields_meant given) (option_map choice.Names (get as_names (codes "i") given))
-
--- `-b` and `-e`
-abbrev pub phrase_meant : List Given → Option Span
-phrase_meant given =
-    both Phrase (get as_pattern (codes "b") given) (get as_pattern (codes "e") given)
+choice_meant given = option_or
+    (option_map (λ ranges. choice.Fields (map range_of ranges)) (get Fields (codes "f") given))
+    (option_map choice.Names (get Names (codes "i") given))
 
 -- `-n`, or `-b` and `-e`
 abbrev pub span_meant : List Given → Option Span
-span_meant given =
-    option_or (option_map Number (get as_count (codes "n") given)) (phrase_meant given)
+span_meant given = option_or (option_map Number (get Count (codes "n") given))
+    (both Phrase (get Pattern (codes "b") given) (get Pattern (codes "e") given))
 
--- `-s`
-abbrev pub labels_meant : List Given → Option Markers
-labels_meant given = option_map Labels (get as_label (codes "s") given)
-
--- `-o` with `-e` or without, or `-s`
-abbrev pub occurrences_meant : List Given → Option Markers
-occurrences_meant given =
-    option_or (option_map (λ begins. Occurrences begins (get as_pattern (codes "e") given))
-    (get as_pattern (codes "o") given)) (labels_meant given)
-
--- `-n`, or one of these
-abbrev pub numbers_meant : List Given → Option Markers
-numbers_meant given =
-    option_or (option_map Numbers (get as_pattern (codes "n") given)) (occurrences_meant given)
-
--- `-l`, or one of these
+-- `-l`, or `-n`, or `-o` with `-e` or without, or `-s`
 abbrev pub markers_meant : List Given → Option Markers
-markers_meant given = if has (codes "l") given then Some Lines else numbers_meant given
+markers_meant given =
+    if has (codes "l") given then Some Lines
+    else option_or (option_map Numbers (get Pattern (codes "n") given))
+    (option_or (option_map (λ begins. Occurrences begins (get Pattern (codes "e") given))
+    (get Pattern (codes "o") given)) (option_map Labels (get Label (codes "s") given)))
 
 -- `-d`, or a space
 abbrev pub separator_meant : List Given → List ℕ
-separator_meant given = unwrap_or (get as_text (codes "d") given) (codes " ")
+separator_meant given = unwrap_or (get Text (codes "d") given) (codes " ")
 
 -- `-i` and `-o`, and `-d` or a space
 abbrev pub cleave_meant : List Given → Option cleave.Options
@@ -130,17 +106,17 @@ cleave_meant given =
       name = name;
       new_name = new_name;
       separator = separator_meant given;
-    }) (get as_name (codes "i") given) (get as_name (codes "o") given)
+    }) (get Name (codes "i") given) (get Name (codes "o") given)
 
 abbrev pub ditto_meant : List Given → DittoOptions
 ditto_meant given =
-    record { skip = get as_pattern (codes "s") given; parentheses = has (codes "p") given }
+    record { skip = get Pattern (codes "s") given; parentheses = has (codes "p") given }
 
 abbrev pub mint_meant : List Given → MintOptions
 mint_meant given = record {
   signless = has (codes "a") given;
   sizeonly = has (codes "d") given;
-  breaks = get as_pattern (codes "b") given;
+  breaks = get Pattern (codes "b") given;
 }
 
 -- `-x`, and `-t` or not
@@ -156,13 +132,13 @@ meant command.Assemble given = None
 meant command.Rid given = None
 meant command.Extract given = option_map Extract (choice_meant given)
 meant command.Ditto given = Some (Ditto (ditto_meant given))
-meant command.Timebase given = option_map Timebase (get as_duration (codes "t") given)
+meant command.Timebase given = option_map Timebase (get Duration (codes "t") given)
 meant command.Context given =
-    option_map (λ span. Context span (get as_pattern (codes "o") given)) (span_meant given)
+    option_map (λ span. Context span (get Pattern (codes "o") given)) (span_meant given)
 meant command.Trans given =
-    both Trans (get as_steps (codes "d") given) (get as_semitones (codes "c") given)
+    both Trans (get Steps (codes "d") given) (get Semitones (codes "c") given)
 meant command.Semits given = option_map Semits (semits_meant given)
 meant command.Mint given = Some (Mint (mint_meant given))
 meant command.Recip given = Some Recip
-meant command.Yank given = both Yank (markers_meant given) (get as_ranges (codes "r") given)
+meant command.Yank given = both Yank (markers_meant given) (get Ranges (codes "r") given)
 meant command.Cleave given = option_map Cleave (cleave_meant given)

@@ -11,17 +11,15 @@ use Rattle.hum_options.specs.declared.options.ValueKind.{ValueKind}
 use Rattle.hum_options.specs.declared.values.Value.{Value as WrittenValue}
 use Rattle.hum_options.specs.declared.values.Value.TheVariants as value
 use Rattle.hum_options.specs.declared.grammar.ValueError.{ValueError}
-use Rattle.hum_options.specs.declared.grammar.ValueError.TheVariants.{Grammar, Pattern as Refused}
-use Rattle.hum_options.specs.declared.grammar.ValueError.TheVariants.{Memory as NoMemory}
+use Rattle.hum_options.specs.declared.grammar.ValueError.TheVariants.{Grammar, Pattern as Refused, Memory as NoMemory}
 use Rattle.hum_options.specs.declared.given.GivenOption.{GivenOption}
 use Rattle.hum_choices.specs.declared.CommandOptions.{CommandOptions}
 use Rattle.hum_options.specs.declared.reading.Turn.{Turn}
 use Rattle.hum_options.specs.declared.faults.OptionError.{OptionError}
 use Rattle.hum_options.specs.declared.faults.OptionError.TheVariants as failed
 use Rattle.hum_options.specs.declared.faults.OptionRule.TheVariants.{N10, N12}
-use Rattle.hum_options.specs.Values.{Value, Nothing, Fields, Names, Name, Text, Ranges, Label}
-use Rattle.hum_options.specs.Values.{Pattern, Count, Steps, Semitones, Duration}
-use Rattle.hum_options.specs.Values.{value_of, IsSound, IsRefused}
+use Rattle.hum_options.specs.Values.{Value, Nothing, Fields, Names, Name, Text, Ranges, Label, Pattern, Count, Steps}
+use Rattle.hum_options.specs.Values.{Semitones, Duration, value_of, IsSound, IsRefused}
 use Rattle.hum_options.specs.Given.{Given}
 use Rattle.hum_options.specs.Answers.{Word, Answer, Answers}
 
@@ -48,7 +46,7 @@ GivesValue kind text (Err (Refused refusal)) =
     (value_of kind text ≡ Some (Pattern text)) × IsRefused refusal text
 GivesValue kind text (Err NoMemory) = Unit {0}
 
-abbrev pub given_of : GivenOption → Given
+abbrev pub given_of : GivenOption WrittenValue → Given
 given_of given = record { letter = given.letter; value = seen given.value }
 
 -- the words up to the next bar, with their numbers

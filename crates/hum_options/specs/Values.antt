@@ -1,16 +1,15 @@
 -- The values of options.
-use Rattle.std.specs.Prelude.{ℕ, ℤ, Bool, if◌then◌else◌, List}
-use Rattle.std.specs.Prelude.{Option, None, Some}
+use Rattle.std.specs.Prelude.{ℕ, ℤ, List, Option, Some}
 use Rattle.std.specs.Option.{option_map}
 use Rattle.hum_frac.specs.Ratio.{Ratio}
 use Rattle.hum_pattern.specs.Meaning.{IsExpression, IsNone}
 use Rattle.hum_choices.specs.declared.extract.FieldRange.{FieldRange}
-use Rattle.hum_choices.specs.Cleave.{is_name, fits_in_token}
+use Rattle.hum_choices.specs.Cleave.{fits_in_token}
 use Rattle.hum_choices.specs.declared.yank.YankRange.{YankRange}
 use Rattle.hum_choices.specs.Timebase.{Pace}
 use Rattle.hum_options.specs.Items.{items_of}
 use Rattle.hum_options.specs.Fields.{fields_of, count_of}
-use Rattle.hum_options.specs.Names.{name_of, is_label}
+use Rattle.hum_options.specs.Names.{name_of, is_label, text_if}
 use Rattle.hum_options.specs.Passages.{passages_of}
 use Rattle.hum_options.specs.Numbers.{signed_of}
 use Rattle.hum_options.specs.Steps.{step_of}
@@ -34,9 +33,6 @@ pub data Value : Type 0 where
   Semitones : ℤ → Value
   Duration : Pace → Value
 
-abbrev pub text_if : (List ℕ → Bool) → List ℕ → Option (List ℕ)
-text_if test text = if test text then Some text else None
-
 -- a step with its text
 abbrev pub paced : List ℕ → Ratio → Pace
 paced text step = record { step = step; text = text }
@@ -46,7 +42,7 @@ abbrev pub value_of : ValueKind → List ℕ → Option Value
 value_of kind.Alone text = Some Nothing
 value_of kind.Fields text = option_map Fields (items_of fields_of text)
 value_of kind.Names text = option_map Names (items_of name_of text)
-value_of kind.Name text = option_map Name (text_if is_name text)
+value_of kind.Name text = option_map Name (name_of text)
 value_of kind.Text text = option_map Text (text_if fits_in_token text)
 value_of kind.Ranges text = option_map Ranges (items_of passages_of text)
 value_of kind.Label text = option_map Label (text_if is_label text)

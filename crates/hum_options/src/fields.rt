@@ -1,10 +1,10 @@
 //! Numbers of fields and of tokens.
-ghost use Rattle.std.specs.Prelude.{◌≡◌, ◌≤◌, ◌<◌, ℕ, List, [], Some, IfSome, IfOk};
+ghost use Rattle.std.specs.Prelude.{◌≡◌, ◌≤◌, ◌<◌, [], Some, IfSome, IfOk};
 ghost use Rattle.std.specs.Option.{option_map};
 ghost use Rattle.hum_choices.specs.declared.extract.FieldRange.{FieldRange};
 ghost use Rattle.hum_options.specs.Fields.{IsCount, AreFields, count_of, fields_of};
 ghost use Rattle.hum_options.specs.Fields.{from_number, by_dash};
-ghost use Rattle.hum_options.specs.Items.{AreListed, items_of};
+ghost use Rattle.hum_options.specs.{Items.AreListed, Items.items_of, Read.IsReadAs};
 
 use crate::cutting::cut;
 use crate::items::{Item, read_items};
@@ -29,11 +29,8 @@ fn read_count(text: &[u8]) -> Option<TokenCount>
 
 /// The number of tokens, from 1 to 4,096, that a text is, if it is one.
 pub fn count(text: &[u8]) -> Option<TokenCount>
-    ensures read { option_map (λ count. count.number) result ≡ count_of text.now }
-    ensures is { IfSome result (λ count. IsCount text.now count.number) }
-    // A text that is such a number is read as it, so it is no other.
-    ensures alone { (n : ℕ) → IsCount text.now n
-        → option_map (λ count. count.number) result ≡ Some n }
+    ensures { IsReadAs (IsCount text.now) (count_of text.now)
+        (option_map (λ count. count.number) result) }
 {
     read_count(text)
 }
@@ -98,14 +95,8 @@ impl Item for FieldRange {
 /// The fields that a list names, if it is one: 1 to 64 items between commas, each `a`, `$` for the
 /// last field, `a-b` with `a` at most `b`, or `a-$`. Numbers are from 1 to 4,096.
 pub fn field_ranges(alloc: Global, text: &[u8]) -> Result<Option<Vec<FieldRange>>, AllocError>
-    ensures read { IfOk result (λ found.
-        option_map (λ ranges. ranges.items) found ≡ items_of fields_of text.now) }
-    ensures are { IfOk result (λ found. IfSome found (λ ranges.
-        AreListed AreFields text.now ranges.items)) }
-    // A text that is such a list is read as it, so it is no other.
-    ensures alone { IfOk result (λ found. (ranges : List FieldRange)
-        → AreListed AreFields text.now ranges
-        → option_map (λ ranges. ranges.items) found ≡ Some ranges) }
+    ensures { IfOk result (λ found. IsReadAs (AreListed AreFields text.now)
+        (items_of fields_of text.now) (option_map (λ ranges. ranges.items) found)) }
 {
     read_items(alloc, text)
 }

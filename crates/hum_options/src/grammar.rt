@@ -34,60 +34,14 @@ impl From<AllocError> for ValueError {
     }
 }
 
-fn read_fields(alloc: Global, text: &[u8]) -> Result<Value, ValueError>
-    ensures { GivesValue ValueKind.Fields text.now result }
-{
-    match field_ranges(alloc, text)? {
-        Some(ranges) => Ok(Value::Fields(ranges)),
-        None => Err(ValueError::Grammar),
-    }
-}
-
-fn read_names(alloc: Global, text: &[u8]) -> Result<Value, ValueError>
-    ensures { GivesValue ValueKind.Names text.now result }
-{
-    match names(alloc, text)? {
-        Some(names) => Ok(Value::Names(names)),
-        None => Err(ValueError::Grammar),
-    }
-}
-
-fn read_name(alloc: Global, text: &[u8]) -> Result<Value, ValueError>
-    ensures { GivesValue ValueKind.Name text.now result }
-{
-    if !is_name(text) {
-        return Err(ValueError::Grammar);
-    }
-    let text = text.to_vec(alloc)?;
-    Ok(Value::Name(Name { text }))
-}
-
-fn read_text(alloc: Global, text: &[u8]) -> Result<Value, ValueError>
-    ensures { GivesValue ValueKind.Text text.now result }
-{
-    if !is_separator(text) {
-        return Err(ValueError::Grammar);
-    }
-    let text = text.to_vec(alloc)?;
-    Ok(Value::Text(Separator { text }))
-}
-
-fn read_ranges(alloc: Global, text: &[u8]) -> Result<Value, ValueError>
-    ensures { GivesValue ValueKind.Ranges text.now result }
-{
-    match passage_ranges(alloc, text)? {
-        Some(ranges) => Ok(Value::Ranges(ranges)),
-        None => Err(ValueError::Grammar),
-    }
-}
-
-fn read_label(alloc: Global, text: &[u8]) -> Result<Value, ValueError>
-    ensures { GivesValue ValueKind.Label text.now result }
-{
-    if !is_label(text) {
-        return Err(ValueError::Grammar);
-    }
-    Ok(Value::Label(text.to_vec(alloc)?))
+/// The value that was found, if the text is one.
+macro_rules! value_if {
+    ($found:expr, $it:ident => $value:expr) => {
+        match $found {
+            Some($it) => Ok($value),
+            None => Err(ValueError::Grammar),
+        }
+    };
 }
 
 fn read_pattern(alloc: Global, text: &str) -> Result<Value, ValueError>
@@ -101,42 +55,6 @@ fn read_pattern(alloc: Global, text: &str) -> Result<Value, ValueError>
     }
 }
 
-fn read_count(text: &[u8]) -> Result<Value, ValueError>
-    ensures { GivesValue ValueKind.Count text.now result }
-{
-    match count(text) {
-        Some(count) => Ok(Value::Count(count)),
-        None => Err(ValueError::Grammar),
-    }
-}
-
-fn read_steps(text: &[u8]) -> Result<Value, ValueError>
-    ensures { GivesValue ValueKind.Steps text.now result }
-{
-    match signed_number(text, 49) {
-        Some(number) => Ok(Value::Steps(Steps { number })),
-        None => Err(ValueError::Grammar),
-    }
-}
-
-fn read_semitones(text: &[u8]) -> Result<Value, ValueError>
-    ensures { GivesValue ValueKind.Semitones text.now result }
-{
-    match signed_number(text, 84) {
-        Some(number) => Ok(Value::Semitones(Semitones { number })),
-        None => Err(ValueError::Grammar),
-    }
-}
-
-fn read_duration(alloc: Global, text: &[u8]) -> Result<Value, ValueError>
-    ensures { GivesValue ValueKind.Duration text.now result }
-{
-    match step(alloc, text)? {
-        Some(options) => Ok(Value::Duration(options)),
-        None => Err(ValueError::Grammar),
-    }
-}
-
 /// The value of a kind that a text is.
 pub(crate) fn read_value(alloc: Global, kind: ValueKind, text: &str) -> Result<Value, ValueError>
     ensures { GivesValue kind text.now result }
@@ -144,16 +62,29 @@ pub(crate) fn read_value(alloc: Global, kind: ValueKind, text: &str) -> Result<V
     let bytes = text.as_bytes();
     match kind {
         ValueKind::Alone => Ok(Value::Nothing),
-        ValueKind::Fields => read_fields(alloc, bytes),
-        ValueKind::Names => read_names(alloc, bytes),
-        ValueKind::Name => read_name(alloc, bytes),
-        ValueKind::Text => read_text(alloc, bytes),
-        ValueKind::Ranges => read_ranges(alloc, bytes),
-        ValueKind::Label => read_label(alloc, bytes),
+        ValueKind::Fields => value_if!(field_ranges(alloc, bytes)?, it => Value::Fields(it)),
+        ValueKind::Names => value_if!(names(alloc, bytes)?, it => Value::Names(it)),
+        ValueKind::Name if !is_name(bytes) => Err(ValueError::Grammar),
+        ValueKind::Name => {
+            let text = bytes.to_vec(alloc)?;
+            Ok(Value::Name(Name { text }))
+        }
+        ValueKind::Text if !is_separator(bytes) => Err(ValueError::Grammar),
+        ValueKind::Text => {
+            let text = bytes.to_vec(alloc)?;
+            Ok(Value::Text(Separator { text }))
+        }
+        ValueKind::Ranges => value_if!(passage_ranges(alloc, bytes)?, it => Value::Ranges(it)),
+        ValueKind::Label if !is_label(bytes) => Err(ValueError::Grammar),
+        ValueKind::Label => Ok(Value::Label(bytes.to_vec(alloc)?)),
         ValueKind::Pattern => read_pattern(alloc, text),
-        ValueKind::Count => read_count(bytes),
-        ValueKind::Steps => read_steps(bytes),
-        ValueKind::Semitones => read_semitones(bytes),
-        ValueKind::Duration => read_duration(alloc, bytes),
+        ValueKind::Count => value_if!(count(bytes), it => Value::Count(it)),
+        ValueKind::Steps => {
+            value_if!(signed_number(bytes, 49), number => Value::Steps(Steps { number }))
+        }
+        ValueKind::Semitones => {
+            value_if!(signed_number(bytes, 84), number => Value::Semitones(Semitones { number }))
+        }
+        ValueKind::Duration => value_if!(step(alloc, bytes)?, it => Value::Duration(it)),
     }
 }

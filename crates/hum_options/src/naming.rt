@@ -1,9 +1,8 @@
 //! Names and labels.
-ghost use Rattle.std.specs.Prelude.{◌≡◌, ◌↔◌, List, ℕ, Some, IfSome, IfOk, IsTrue};
+ghost use Rattle.std.specs.Prelude.{◌≡◌, ◌↔◌, List, ℕ, IfOk, IsTrue};
 ghost use Rattle.std.specs.Option.{option_map};
 ghost use Rattle.hum_path.specs.Spines.{texts};
-ghost use Rattle.hum_record.specs.Spelling.{has_byte};
-ghost use Rattle.hum_options.specs.Items.{AreListed, items_of};
+ghost use Rattle.hum_options.specs.{Items.AreListed, Items.items_of, Read.IsReadAs};
 ghost use Rattle.hum_options.specs.Names.{IsListedName, name_of, IsLabel, is_label};
 
 use crate::items::{Item, read_items};
@@ -29,22 +28,10 @@ impl Item for Vec<u8> {
 /// The names of exclusive interpretations that a list has, if it is one: 1 to 64 between commas,
 /// each `**` and at least one more byte, without comma, tab, LF and CR.
 pub fn names(alloc: Global, text: &[u8]) -> Result<Option<Vec<Vec<u8>>>, AllocError>
-    ensures read { IfOk result (λ found.
-        option_map (λ names. texts names.items) found ≡ items_of name_of text.now) }
-    ensures are { IfOk result (λ found. IfSome found (λ names.
-        AreListed IsListedName text.now (texts names.items))) }
-    // A text that is such a list is read as it, so it is no other.
-    ensures alone { IfOk result (λ found. (names : List (List ℕ))
-        → AreListed IsListedName text.now names
-        → option_map (λ names. texts names.items) found ≡ Some names) }
+    ensures { IfOk result (λ found. IsReadAs (AreListed IsListedName text.now)
+        (items_of name_of text.now) (option_map (λ names. texts names.items) found)) }
 {
     read_items(alloc, text)
-}
-
-fn has_bracket(text: &[u8]) -> bool
-    ensures { result ≡ has_byte 91 text.now }
-{
-    text.contains(&b'[')
 }
 
 /// Whether a text is the label of a section: some bytes without `[`, tab, LF and CR.
@@ -52,5 +39,5 @@ pub fn is_label(text: &[u8]) -> bool
     ensures test { result ≡ is_label text.now }
     ensures label { IsTrue result ↔ IsLabel text.now }
 {
-    !text.is_empty() && !has_bracket(text) && is_separator(text)
+    !text.is_empty() && !text.contains(&b'[') && is_separator(text)
 }

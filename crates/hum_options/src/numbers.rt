@@ -1,7 +1,7 @@
 //! Numbers.
-ghost use Rattle.std.specs.Prelude.{◌≡◌, ◌≤◌, ◌<◌, ℕ, ℤ, pos, nat_abs, ◌≤ℤ◌, Some, IfSome};
+ghost use Rattle.std.specs.Prelude.{◌≡◌, ◌≤◌, pos, nat_abs, ◌≤ℤ◌, IfSome};
 ghost use Rattle.std.specs.Option.{option_map};
-ghost use Rattle.hum_options.specs.Numbers.{IsNumber, IsSigned};
+ghost use Rattle.hum_options.specs.{Numbers.IsNumber, Numbers.IsSigned, Read.IsReadAs};
 ghost use Rattle.hum_options.specs.Numbers.{digits_of, number_of, positive_of, signed_of};
 
 /// The number that digits write, if it is at most `most`.
@@ -33,10 +33,7 @@ fn read_number(text: &[u8], most: u64) -> Option<u64>
 /// The number that a text is, if it is one of at most `most`: `0`, or digits without a zero in
 /// front.
 pub fn number(text: &[u8], most: u64) -> Option<u64>
-    ensures read { result ≡ number_of most text.now }
-    ensures is { IfSome result (IsNumber most text.now) }
-    // A text that is such a number is read as it, so it is no other.
-    ensures alone { (n : ℕ) → IsNumber most text.now n → result ≡ Some n }
+    ensures { IsReadAs (IsNumber most text.now) (number_of most text.now) result }
 {
     read_number(text, most)
 }
@@ -71,11 +68,8 @@ fn read_signed(text: &[u8], most: u8) -> Option<i32>
 /// The number from `-most` to `most` that a text is, if it is one: a number with `+`, with `-` or
 /// without a sign. `-0` is 0.
 pub fn signed_number(text: &[u8], most: u8) -> Option<i32>
-    ensures read { result ≡ signed_of most text.now }
-    ensures is { IfSome result (IsSigned most text.now) }
+    ensures read { IsReadAs (IsSigned most text.now) (signed_of most text.now) result }
     ensures within { IfSome result (λ n. nat_abs n ≤ most) }
-    // A text that is such a number is read as it, so it is no other.
-    ensures alone { (n : ℤ) → IsSigned most text.now n → result ≡ Some n }
 {
     read_signed(text, most)
 }

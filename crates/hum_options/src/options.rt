@@ -1,17 +1,14 @@
 //! The options of each command, and what those that were given are together.
 ghost use Rattle.std.specs.Prelude.{◌≡◌, ◌||◌, IfOk, Some};
 ghost use Rattle.std.specs.Option.{option_map};
-ghost use Rattle.hum_choices.specs.Extract.{choice_of};
 ghost use Rattle.hum_choices.specs.Options.{span_of, markers_of, options_of};
 ghost use Rattle.hum_stage.specs.declared.faults.Command.TheVariants as command;
 ghost use Rattle.hum_options.specs.Answers.{is_alone};
 ghost use Rattle.hum_options.specs.Options.{table, is_spelled, option_of, excludes, are_in};
-ghost use Rattle.hum_options.specs.Options.{choice_meant, phrase_meant, span_meant, meant};
-ghost use Rattle.hum_options.specs.Options.{labels_meant, occurrences_meant, numbers_meant};
-ghost use Rattle.hum_options.specs.Options.{markers_meant, separator_meant};
+ghost use Rattle.hum_options.specs.Options.{span_meant, markers_meant, separator_meant, meant};
 
 use crate::given::GivenOptions;
-use crate::values::{Semitones, Separator, Steps};
+use crate::values::{Separator, Value};
 use hum_choices::{
     CleaveOptions, CommandOptions, ContextOptions, DittoOptions, ExtractOptions, Markers,
     MintOptions, RecipOptions, SemitsOptions, Span, TransOptions, YankOptions,
@@ -149,23 +146,16 @@ impl ValueKind {
     }
 }
 
-fn choice(given: &mut GivenOptions) -> Option<ExtractOptions>
-    ensures { option_map choice_of result ≡ choice_meant given.old }
-{
-    match given.fields(b'f') {
-        Some(ranges) => Some(ExtractOptions::Fields(ranges)),
-        None => match given.names(b'i') {
-            Some(names) => Some(ExtractOptions::Names(names)),
-            None => None,
-        },
-    }
-}
-
 fn extract(given: &mut GivenOptions) -> Option<CommandOptions>
     ensures { option_map options_of result ≡ meant command.Extract given.old }
 {
-    let choice = choice(given)?;
-    Some(CommandOptions::Extract(choice))
+    match given.fields(b'f') {
+        Some(ranges) => Some(CommandOptions::Extract(ExtractOptions::Fields(ranges))),
+        None => match given.take(b'i')? {
+            Value::Names(names) => Some(CommandOptions::Extract(ExtractOptions::Names(names))),
+            other => other.of_another_kind(),
+        },
+    }
 }
 
 fn ditto(given: &mut GivenOptions) -> CommandOptions
@@ -181,25 +171,21 @@ fn ditto(given: &mut GivenOptions) -> CommandOptions
 fn timebase(given: &mut GivenOptions) -> Option<CommandOptions>
     ensures { option_map options_of result ≡ meant command.Timebase given.old }
 {
-    let options = given.duration(b't')?;
-    Some(CommandOptions::Timebase(options))
-}
-
-fn phrase(given: &mut GivenOptions) -> Option<Span>
-    ensures { option_map span_of result ≡ phrase_meant given.old }
-{
-    let begin = given.pattern(b'b')?;
-    let end = given.pattern(b'e')?;
-    Some(Span::Phrase(begin, end))
+    match given.take(b't')? {
+        Value::Duration(options) => Some(CommandOptions::Timebase(options)),
+        other => other.of_another_kind(),
+    }
 }
 
 fn span(given: &mut GivenOptions) -> Option<Span>
     ensures { option_map span_of result ≡ span_meant given.old }
 {
-    match given.count(b'n') {
-        Some(count) => Some(Span::Number(count)),
-        None => phrase(given),
+    if let Some(count) = given.count(b'n') {
+        return Some(Span::Number(count));
     }
+    let begin = given.pattern(b'b')?;
+    let end = given.pattern(b'e')?;
+    Some(Span::Phrase(begin, end))
 }
 
 fn context(given: &mut GivenOptions) -> Option<CommandOptions>
@@ -210,22 +196,17 @@ fn context(given: &mut GivenOptions) -> Option<CommandOptions>
     Some(CommandOptions::Context(ContextOptions { span, omit }))
 }
 
-fn transposition(steps: Steps, semitones: Semitones) -> TransOptions
-    ensures steps { result.steps ≡ steps.number }
-    ensures semitones { result.semitones ≡ semitones.number }
-{
-    TransOptions {
-        steps: steps.number,
-        semitones: semitones.number,
-    }
-}
-
 fn trans(given: &mut GivenOptions) -> Option<CommandOptions>
     ensures { option_map options_of result ≡ meant command.Trans given.old }
 {
     let steps = given.steps(b'd')?;
-    let semitones = given.semitones(b'c')?;
-    Some(CommandOptions::Trans(transposition(steps, semitones)))
+    match given.take(b'c')? {
+        Value::Semitones(semitones) => Some(CommandOptions::Trans(TransOptions {
+            steps: steps.number,
+            semitones: semitones.number,
+        })),
+        other => other.of_another_kind(),
+    }
 }
 
 fn semits(given: &GivenOptions) -> Option<CommandOptions>
@@ -251,41 +232,22 @@ fn mint(given: &mut GivenOptions) -> CommandOptions
     })
 }
 
-fn labels(given: &mut GivenOptions) -> Option<Markers>
-    ensures { option_map markers_of result ≡ labels_meant given.old }
-{
-    let label = given.label(b's')?;
-    Some(Markers::Labels(label))
-}
-
-fn occurrences(given: &mut GivenOptions) -> Option<Markers>
-    ensures { option_map markers_of result ≡ occurrences_meant given.old }
-{
-    match given.pattern(b'o') {
-        Some(begins) => {
-            let ends = given.pattern(b'e');
-            Some(Markers::Occurrences(begins, ends))
-        }
-        None => labels(given),
-    }
-}
-
-fn numbers(given: &mut GivenOptions) -> Option<Markers>
-    ensures { option_map markers_of result ≡ numbers_meant given.old }
-{
-    match given.pattern(b'n') {
-        Some(numbered) => Some(Markers::Numbers(numbered)),
-        None => occurrences(given),
-    }
-}
-
 fn markers(given: &mut GivenOptions) -> Option<Markers>
     ensures { option_map markers_of result ≡ markers_meant given.old }
 {
     if given.has(b'l') {
-        Some(Markers::Lines)
-    } else {
-        numbers(given)
+        return Some(Markers::Lines);
+    }
+    if let Some(numbered) = given.pattern(b'n') {
+        return Some(Markers::Numbers(numbered));
+    }
+    if let Some(begins) = given.pattern(b'o') {
+        let ends = given.pattern(b'e');
+        return Some(Markers::Occurrences(begins, ends));
+    }
+    match given.take(b's')? {
+        Value::Label(label) => Some(Markers::Labels(label)),
+        other => other.of_another_kind(),
     }
 }
 
@@ -300,9 +262,9 @@ fn yank(given: &mut GivenOptions) -> Option<CommandOptions>
 fn separator(alloc: Global, given: &mut GivenOptions) -> Result<Separator, AllocError>
     ensures { IfOk result (λ separator. separator.text.items ≡ separator_meant given.old) }
 {
-    match given.text(b'd') {
-        Some(separator) => Ok(separator),
-        None => Separator::space(alloc),
+    match given.take(b'd') {
+        Some(Value::Text(separator)) => Ok(separator),
+        _ => Separator::space(alloc),
     }
 }
 

@@ -1,11 +1,11 @@
 //! Numbers of passages.
-ghost use Rattle.std.specs.Prelude.{◌≡◌, List, Some, IfSome, IfOk};
+ghost use Rattle.std.specs.Prelude.{◌≡◌, Some, IfOk};
 ghost use Rattle.std.specs.Option.{option_map};
 ghost use Rattle.hum_choices.specs.declared.yank.YankRange.{YankRange};
 ghost use Rattle.hum_options.specs.Numbers.{number_of, positive_of};
 ghost use Rattle.hum_options.specs.Passages.{ArePassages, passages_of, greatest, distance_of};
 ghost use Rattle.hum_options.specs.Passages.{through, by_distance, by_number};
-ghost use Rattle.hum_options.specs.Items.{AreListed, items_of};
+ghost use Rattle.hum_options.specs.{Items.AreListed, Items.items_of, Read.IsReadAs};
 
 use crate::cutting::cut;
 use crate::items::{Item, read_items};
@@ -107,14 +107,8 @@ impl Item for YankRange {
 /// before it, `$-m-$`, or `$-m-$-n` with `m` at least `n`. Numbers are at most 4,294,967,295; `m`
 /// and `n` are from 1.
 pub fn passage_ranges(alloc: Global, text: &[u8]) -> Result<Option<Vec<YankRange>>, AllocError>
-    ensures read { IfOk result (λ found.
-        option_map (λ ranges. ranges.items) found ≡ items_of passages_of text.now) }
-    ensures are { IfOk result (λ found. IfSome found (λ ranges.
-        AreListed ArePassages text.now ranges.items)) }
-    // A text that is such a list is read as it, so it is no other.
-    ensures alone { IfOk result (λ found. (ranges : List YankRange)
-        → AreListed ArePassages text.now ranges
-        → option_map (λ ranges. ranges.items) found ≡ Some ranges) }
+    ensures { IfOk result (λ found. IsReadAs (AreListed ArePassages text.now)
+        (items_of passages_of text.now) (option_map (λ ranges. ranges.items) found)) }
 {
     read_items(alloc, text)
 }

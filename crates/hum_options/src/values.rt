@@ -64,7 +64,7 @@ pub(crate) enum Value {
 
 impl Value {
     /// Nothing, since the value is of another kind.
-    pub(crate) fn of_another_kind<T: Drop>(self) -> Option<T>
+    pub(crate) fn of_another_kind<T>(self) -> Option<T>
         ensures { result ≡ None }
     {
         None

@@ -20,13 +20,15 @@ pub returns-in_default-behind : goal.returns-in_default-behind
 returns-in_default-behind g c =
     let next = next_part c.loop-items.rest.now c.loop-items.invariant c.cut.ensures.front c.cut.ensures.remainder in
     let last = rw (none_behind c.cut.result.1.now c.in_default-behind.len_below) at next in
-    rw c.in_ok-push.ensures.items (listing_ends (listing_goes_on last c.in-Some.item (rw c.in-Some.is at c.in_ok-item.ensures)
+    rw c.in_ok-push.ensures.items (listing_ends
+    (listing_goes_on last c.in-Some.item (rw c.in-Some.is at c.in_ok-item.ensures)
     (omega (arith, c.if-len-ge-MOST_ITEMS.false, c.loop-items.items.ok.0))))
 
 pub loop-items-smaller : goal.loop-items-smaller
 loop-items-smaller g c =
     let next = next_part c.loop-items.rest.now c.loop-items.invariant c.cut.ensures.front c.cut.ensures.remainder in
-    rw (← left_behind c.cut.result.1.now c.in-len1-up.len_at_least) (omega (arith, next.count, c.loop-items.invariant.count))
+    rw (← left_behind c.cut.result.1.now c.in-len1-up.len_at_least)
+    (omega (arith, next.count, c.loop-items.invariant.count))
 
 pub loop-items-preserved : goal.loop-items-preserved
 loop-items-preserved g c =

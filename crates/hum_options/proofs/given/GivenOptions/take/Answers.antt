@@ -1,4 +1,4 @@
-use Rattle.hum_options.proofs.Lookups.{value_taken, rest_taken, nothing_taken}
+use Rattle.hum_options.proofs.Lookups.{value_taken, others_kept, nothing_taken}
 use Rattle.hum_options.proofs.given.GivenOptions.take.Goals as goal
 
 pub returns-in-Some-clause-value : goal.returns-in-Some-clause-value
@@ -6,17 +6,12 @@ returns-in-Some-clause-value c =
     let found = rw c.deref.ensures.value at c.in-Some.ensures in
     rw (← c.self.view_is) (value_taken c.args.letter c.self.inside.entries.items found c.remove-value.ensures.value)
 
-pub returns-in-Some-clause-remainder : goal.returns-in-Some-clause-remainder
-returns-in-Some-clause-remainder c =
+pub returns-in-Some-clause-others : goal.returns-in-Some-clause-others
+returns-in-Some-clause-others c =
     let found = rw c.deref.ensures.value at c.in-Some.ensures in
-    rw (← c.self.view_is) (rest_taken c.args.letter c.self.inside.entries.items _ found c.remove-value.ensures.items)
+    rw (← c.self.view_is) (others_kept c.args.letter c.self.inside.entries.items _ found c.remove-value.ensures.items)
 
 pub returns-in-None-clause-value : goal.returns-in-None-clause-value
 returns-in-None-clause-value c =
     let lost = rw c.deref.ensures.value at c.in-None.ensures in
-    rw (← c.self.view_is) (nothing_taken c.args.letter c.self.inside.entries.items lost).0
-
-pub returns-in-None-clause-remainder : goal.returns-in-None-clause-remainder
-returns-in-None-clause-remainder c =
-    let lost = rw c.deref.ensures.value at c.in-None.ensures in
-    rw (← c.self.view_is) (nothing_taken c.args.letter c.self.inside.entries.items lost).1
+    rw (← c.self.view_is) (nothing_taken c.args.letter c.self.inside.entries.items lost)
