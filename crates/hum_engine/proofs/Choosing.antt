@@ -1,7 +1,12 @@
 -- One step of a run: the actor that is asked, and what its turn leaves known of who is ready.
-use Rattle.std.proofs.Common.{◌≡◌, ◌∙◌, ℕ, ◌+◌, ◌<◌, ◌≤◌, Bool, true, false, List, [], length, Option, Some, None, refl, sym}
-use Rattle.std.proofs.Common.{ap, subst, arith, ⊎_elim, ◌⊎◌, inl, inr, slice_set, slice_get, get_or, ◌∷◌, Vec, Global}
-use Rattle.std.specs.Prelude.{is_some, IfSome}
+use Rattle.std.proofs.Common.{◌≡◌, ◌∙◌, ℕ, ◌+◌, ◌<◌, ◌≤◌, Bool, true, false, List, [], length, Option, Some, None, refl}
+use Rattle.std.proofs.Common.{sym, ap, subst, arith, ⊎_elim, ◌⊎◌, inl, inr, slice_set, slice_get, get_or, ◌∷◌, Vec}
+use Rattle.std.proofs.Common.{Global}
+use Rattle.std.specs.Prelude.{is_some, is_none, IfSome, ◌&&◌}
+use Rattle.std.proofs.Math.Bool.{and-false}
+use Rattle.hum_turns.specs.Links.{has_some}
+use Rattle.hum_turns.specs.Turns.{ready}
+use Rattle.hum_turns.proofs.Near.{ready_sink}
 use Rattle.std.proofs.lemmas.Bool.{false≢true, cases_Bool, cases_lt}
 use Rattle.std.proofs.lemmas.Option.{slice_get-get_or, none-some}
 use Rattle.hum_record.specs.Row.{Row}
@@ -21,20 +26,21 @@ use Rattle.hum_nodes.proofs.Followed.{read_none}
 use Rattle.hum_engine.specs.declared.net.Net.{Net}
 use Rattle.hum_engine.specs.declared.net.Turned.{Turned}
 use Rattle.hum_engine.specs.declared.search.Search.{Search}
-use Rattle.hum_engine.specs.Search.{IsNearer, outer, passed, changed, skipped, reached, is_left}
-use Rattle.hum_engine.specs.Scene.{Scene, plan_of, moved, before_all}
+use Rattle.hum_engine.specs.Search.{IsNearer, outer, passed, stayed, changed, skipped, reached, is_left}
+use Rattle.hum_engine.specs.Scene.{Scene, plan_of, moved, before_all, IsCrowded, HasIdleLink}
 use Rattle.hum_engine.specs.Nets.{NetAt, AtEach, AreOver, GoesTo, IsChanged, Sees, IsRunning, MayAsk, MayStep}
-use Rattle.hum_engine.specs.Nets.{MayAdvance, HasPicked, IsNext, HasMoved, HasRested, HasWorked, HasStepped, HasAdvanced}
-use Rattle.hum_engine.specs.Nets.{IsCloser, MarksFailures, IsGoing, IsFront}
+use Rattle.hum_engine.specs.Nets.{MayAdvance, HasPicked, IsNext, HasMoved, HasRested, HasWorked, HasStepped}
+use Rattle.hum_engine.specs.Nets.{HasAdvanced, IsCloser, MarksFailures, IsGoing, IsFront}
 use Rattle.hum_engine.proofs.Advancing.{pick_now, none_yet, then_at, marks_none}
 use Rattle.hum_engine.proofs.Flags.{IsTurn, touched_below, two_set}
-use Rattle.hum_engine.proofs.HeldUp.{held_by}
+use Rattle.hum_engine.proofs.HeldUp.{held_by, held_unready, crowded_by}
 use Rattle.hum_engine.proofs.Leaning.{leaning_choice}
 use Rattle.hum_engine.proofs.Moving.{nth}
-use Rattle.hum_engine.proofs.Netting.{is_at, not_over}
+use Rattle.hum_engine.proofs.Netting.{is_at, not_over, at_now, ready_at}
 use Rattle.hum_engine.proofs.Running.{at_some, relisted, picked, any_ready, now_unfailed, unfailed_at, no_rests, seen}
 use Rattle.hum_engine.proofs.Searching.{IsTaker, front_passed, passed_fewer, front_changed, front_skipped, moves_past}
-use Rattle.hum_engine.proofs.Searching.{stays_past, others_as_ready, reached_on, reached_over}
+use Rattle.hum_engine.proofs.Searching.{stays_past, stays_on, others_as_ready, reached_on, reached_over, left_side}
+use Rattle.hum_engine.proofs.Searching.{skipped_side}
 
 -- a search, or none
 searches : (look : Option Search) → ((by : Search) × (look ≡ Some by)) ⊎ (look ≡ None)
@@ -345,12 +351,12 @@ module _ {S R W O : Type 0} {stage : S → Moment → Type 0} {contents : W → 
         → after ≡ changed by (outer by.side turned.link taker)) → Advances (Some after) behind is_over
     on_advanced is same to = told_so behind.actors (leans_on a is same) (stepped_on a worked is to)
 
-    pub over_advanced : {by after : Search} → turned.is_full ≡ true → look ≡ Some by → after.side ≡ by.side
-        → ((taker : ℕ) → slice_get behind.takers.items turned.link ≡ Some taker → after ≡ skipped by turned.link taker)
-        → Advances (Some after) behind is_over
-    over_advanced full is same to = told_so behind.actors (leans_on a is same) (searched_on a worked is
-        (λ taker at start s now n goes here front. subst (λ l. IsFront l s n.goes.to) (sym (to taker at))
-        (front_skipped (turn_of a worked n goes) (taker_of a worked n goes at) here front
+    pub over_advanced : {by after : Search} → turned.is_full ≡ true → look ≡ Some by → is_left by.side ≡ true
+        → after ≡ skipped by turned.link → Advances (Some after) behind is_over
+    over_advanced {by} full is left to = told_so behind.actors (leans_on a is (ap (λ (b : Search). b.side) to ∙ skipped_side by turned.link))
+        (searched_on a worked is
+        (λ taker at start s now n goes here front. subst (λ l. IsFront l s n.goes.to) (sym to)
+        (front_skipped (turn_of a worked n goes) (taker_of a worked n goes at) (left_side by turned.link taker left) here front
         (held_by n.goes.at goes n.within (w.gone.full full)) (any_ready n.goes.at goes))))
 
     -- It has taken a record, and the search is from the left.
@@ -359,11 +365,49 @@ module _ {S R W O : Type 0} {stage : S → Moment → Type 0} {contents : W → 
     reached_advanced {by} taken is left to =
         let below : turned.link < by.from = omega (arith, (w.gone.room taken).0, (a.here by is).0) in
         ⊎_elim
-        (λ full. over_advanced full is (ap (λ (b : Search). b.side) to)
-        (λ taker at. to ∙ ap (reached by turned.link) full ∙ reached_over by turned.link taker left below))
+        (λ full. over_advanced full is left (to ∙ ap (reached by turned.link) full ∙ reached_over by turned.link below))
         (λ isnt. on_advanced is (ap (λ (b : Search). b.side) to)
         (λ taker at. to ∙ ap (reached by turned.link) isnt ∙ reached_on by turned.link taker left below))
         (cases_Bool turned.is_full)
+
+    -- The search is from the right, and its turn was nothing to anyone nearer.
+    module _ {by : Search} (is : look ≡ Some by) (right : by.side ≡ side.Right) (quiet : turned.link ≡ k → IsCrowded k behind.web) where
+      front_on : {taker : ℕ} → slice_get behind.takers.items turned.link ≡ Some taker
+          → {start : Option (List ℕ)} {s : Scene} {now : Now Row} (n : Next a worked start s now)
+          → result (plan_of s) n.goes.to ≡ None → k ≡ by.from → IsFront by s now → IsFront (stayed by) s n.goes.to
+      front_on at n goes here front = stays_on (turn_of a worked n goes) (taker_of a worked n goes at) here front right
+          (λ own. crowded_by n.goes.at goes n.within (quiet own))
+
+      pub stayed_advanced : {after : Search} → after ≡ stayed by → Advances (Some after) behind is_over
+      stayed_advanced to = rw to (told_so behind.actors (leans_on a is refl)
+          (searched_on a worked is (λ taker at start s now n goes here front. front_on at n goes here front)))
+
+      -- It is known not to be ready then.
+      pub rested_advanced : {hand after : Search} → (turned.is_full ≡ true)
+          ⊎ ((k ≡ length behind.web.nodes.items) × HasIdleLink turned.link behind.web)
+          → hand ≡ stayed by → after ≡ passed hand → Advances (Some after) behind is_over
+      rested_advanced rests stays to = rw (to, stays) (told_so behind.actors (leans_on a is refl)
+          (searched_on a worked is (λ taker at start s now n goes here front.
+          front_passed (front_on at n goes here front)
+          (subst (λ i. is_ready (plan_of s) s.size n.goes.to i ≡ false) here (isnt n goes rests)) (any_ready n.goes.at goes))))
+        where
+          isnt : {start : Option (List ℕ)} {s : Scene} {now : Now Row} (n : Next a worked start s now)
+              → result (plan_of s) n.goes.to ≡ None
+              → (turned.is_full ≡ true) ⊎ ((k ≡ length behind.web.nodes.items) × HasIdleLink turned.link behind.web)
+              → is_ready (plan_of s) s.size n.goes.to k ≡ false
+          isnt {s = s} {now = now} n goes rests = ⊎_elim
+              (λ full. ap (λ o. is_none o && ready (plan_of s) s.size n.goes.to.links k) goes
+              ∙ held_unready s n.goes.to.links k (held_by n.goes.at goes n.within (w.gone.full full)))
+              (λ idle.
+              let at = at_now n.goes.at goes in
+              let past : s.count ≤ k = omega (arith, idle.0, at.stand.count) in
+              let last_is : turned.link ≡ last (plan_of s) =
+              (turn_of a worked n goes).link_is ∙ ap (touched k) (sink_state (plan_of s) now.links k past) in
+              let p = at.stand.links turned.link idle.1.link idle.1.its in
+              sym (ready_at n.goes.at goes k (sym (ready_sink (plan_of s) s.size k n.goes.to.links past
+              ∙ ap (λ i. has_some (n.goes.to.links i)) (sym last_is)
+              ∙ rw (sym p.waiting ∙ idle.1.idle.empty, sym p.mark ∙ idle.1.idle.unset, and-false) refl))))
+              rests
 
   pub out_advanced : turned.is_over ≡ true → Advances look behind true
   out_advanced over = told_so over behind.actors (leans_still a) (stepped_out a worked over)
@@ -372,6 +416,12 @@ module _ {S R W O : Type 0} {stage : S → Moment → Type 0} {contents : W → 
   module _ (on : turned.is_over ≡ false) where
     pub link_by : turned.link < length behind.takers.items
     link_by = link_few a worked on
+
+    pub port_by : turned.link < length behind.web.links.items
+    port_by =
+        let t = next_now a worked on in
+        let at = at_now t.3.goes.at t.4 in
+        omega (arith, link_within a worked t.3 t.4, at.stand.as_many)
 
     -- The two ends of the link may be asked,
     module _ {taker : ℕ} (read : taker ≡ get_or behind.takers.items turned.link taker) where

@@ -1,12 +1,23 @@
 -- A record that goes from one stage to another and never lies on the link between them.
-use Rattle.std.proofs.Common.{◌≡◌, ◌∙◌, ◌<◌, ℕ, zero, suc, length, true, false, List, [], ◌∷◌, ◌++◌, Option, Some, slice_get}
-use Rattle.std.proofs.Common.{slice_set, slice_index, get_or, refl, sym, ap, subst, lt-ltb, arith}
-use Rattle.std.specs.Prelude.{nat_lt, is_some, ◌||◌}
+use Rattle.std.proofs.Common.{◌≡◌, ◌∙◌, ◌<◌, ℕ, zero, suc, length, true, false, List, [], ◌∷◌, ◌++◌, Option, Some}
+use Rattle.std.proofs.Common.{slice_get, slice_set, slice_index, get_or, refl, sym, ap, subst, lt-ltb, arith, ⊎_elim}
+use Rattle.std.proofs.Common.{inl, inr}
+use Rattle.std.specs.Prelude.{nat_lt, is_some, is_none, ◌||◌, ◌&&◌, MatchOption, None}
+use Rattle.hum_turns.specs.Links.{has_room, view}
+use Rattle.hum_turns.proofs.Near.{source_touches}
+use Rattle.hum_engine.specs.Scene.{IsHanding, Somewhere, HandsOut, Scene, plan_of, at_of, IsAt, IsKind, IsAbout}
+use Rattle.hum_engine.specs.Scene.{IsActor, HasActor, MayAct, MayTurn, Done, Fed, KeepsOthers, HasRoom, HasIdleLink}
+use Rattle.hum_engine.specs.Scene.{laid, WantsFrom, IsOffered, IsWaiting}
+use Rattle.std.proofs.lemmas.Bool.{false≢true}
+use Rattle.std.specs.Vec.{with_item}
+use Rattle.hum_engine.proofs.Acting.{gives_some, keeps, gave, passing, Passing, link_here, may_take, passed}
+use Rattle.hum_engine.proofs.Netting.{source_here}
+use Rattle.hum_engine.proofs.Readying.{source_ready, room_in, room_stage, some_takes, within_links, touched_gives}
+use Rattle.hum_engine.proofs.Readying.{touched_takes}
 use Rattle.std.proofs.lemmas.Option.{none-some, same_Some, slice_get_within, get_or_from_slice_get}
 use Rattle.hum_record.specs.Row.{Row}
 use Rattle.hum_stage.specs.Meaning.{Moment}
 use Rattle.hum_turns.specs.Flow.{Flow}
-use Rattle.hum_turns.specs.Links.{view}
 use Rattle.hum_turns.specs.Turns.{can, ready, state, pushed, popped}
 use Rattle.hum_turns.specs.Near.{touched}
 use Rattle.hum_nodes.specs.At.{sources_of, At, doing_of, HasPut, HasTaken, MayPut, MayDo, MayChange}
@@ -21,14 +32,10 @@ use Rattle.hum_engine.specs.Links.{IsLink, IsIdle, Goes, Tells, is_some_of, take
 use Rattle.hum_engine.specs.declared.link.Taken.{Taken}
 use Rattle.hum_engine.specs.declared.link.Taken.TheVariants as taken
 use Rattle.hum_engine.specs.Traffic.{Traffic}
-use Rattle.hum_engine.specs.Scene.{Scene, plan_of, at_of, IsAt, IsKind, IsAbout, IsActor, HasActor, MayAct, MayTurn, Done}
-use Rattle.hum_engine.specs.Scene.{Fed, KeepsOthers, HasRoom, HasIdleLink, laid, WantsFrom, IsOffered, IsWaiting}
-use Rattle.hum_engine.proofs.Acting.{keeps, gave, passing, Passing, link_here, may_take, passed}
-use Rattle.hum_engine.proofs.Doings.{wants_of}
-use Rattle.hum_engine.proofs.Feeding.{node_at}
+use Rattle.hum_engine.proofs.Doings.{wants_of, gives_of}
+use Rattle.hum_engine.proofs.Feeding.{node_of, node_at}
 use Rattle.hum_engine.proofs.Moving.{nth, set_here}
 use Rattle.hum_engine.proofs.Polling.{state_gives}
-use Rattle.hum_engine.proofs.Readying.{room_in, room_stage, some_takes, within_links, touched_gives, touched_takes}
 use Rattle.hum_engine.proofs.Stepping.{has_done}
 use Rattle.hum_engine.proofs.Taking.{left, wants_at}
 use Rattle.hum_engine.proofs.Tried.{record_left, tells_some}
@@ -97,8 +104,76 @@ room_idle {k = k} at i =
           ∙ lt-ltb 0 i.link.waiting.capacity (subst (λ c. 0 < c) (sym p.capacity) at.reached.some);
     }
 
--- A record more, and one taken.
+-- A stage that may hand a record on is ready, and changes its own link.
+module _ {S R : Type 0} {stage : S → Moment → Type 0} {k : ℕ} {web : Web S R} (h : IsHanding (StandsAs stage) k web) {s : Scene} where
+  handing_less : IsAt (StandsAs stage) web s → k < s.count
+  handing_less at = omega (arith, h.less, at.stand.count)
 
+  pub handing_at : {node : Node S R} → IsKind false k web → IsAt (StandsAs stage) web s → node ≡ get_or web.nodes.items k node
+      → IsAhead stage k web node
+  handing_at {node} kind at value =
+      let there = node_at (handing_less at) at.stand value in
+      let is : node ≡ h.node = same_Some _ _ (sym there ∙ h.is) in
+      ahead at (room_idle at h.idle) value (λ rest t stand. (
+        kind node there,
+        ⊎_elim
+            (λ source. absurd (false≢true (sym (kind h.node h.is) ∙ source)))
+            (λ other. other.1 rest t (subst (λ n. StandsAs stage n rest t) is stand))
+            h.next,
+      ))
+
+  handing_ahead : is_source h.node ≡ false → IsAt (StandsAs stage) web s → IsAhead stage k web h.node
+  handing_ahead kind at =
+      handing_at (one_kind k web h.is kind) at (sym (get_or_from_slice_get web.nodes.items k h.node h.node h.is))
+
+  pub handing_turn : IsAt (StandsAs stage) web s → MayTurn (StandsAs stage) k web s
+  handing_turn at = ⊎_elim
+      (λ source.
+      let p = at.stand.links k h.idle.link h.idle.its in
+      record {
+        at = at;
+        less = handing_less at;
+        ready = source_ready stage k web s h.node h.idle.link at (handing_less at) h.is source
+            ∙ ap (λ o. is_none o && has_room s.size (s.links k)) (sym p.mark ∙ h.idle.idle.unset)
+            ∙ ap (λ (ws : List Row). nat_lt (length ws) s.size) (sym p.waiting ∙ h.idle.idle.empty)
+            ∙ lt-ltb 0 s.size at.reached.some;
+      })
+      (λ other. ahead_turn (handing_ahead other.0 at) at)
+      h.next
+
+  pub handing_touches : IsActor (StandsAs stage) k web s → k ≡ touched k (state (plan_of s) s.links k)
+  handing_touches actor = ⊎_elim
+      (λ source. sym (source_touches (plan_of s) actor.at.reached.ok s.size k s.links
+      (source_here stage k web s actor.at (handing_less actor.at) (one_kind k web h.is source))))
+      (λ other. ahead_touches (handing_ahead other.0 actor.at) actor)
+      h.next
+
+-- A stage whose link is idle may hand a record on: a source, or one that gives next.
+module _ {S R : Type 0} {stage : S → Moment → Type 0} {k : ℕ} {web : Web S R} (at : Somewhere (IsAt (StandsAs stage) web))
+    (less : k < length web.nodes.items) (idle : HasIdleLink k web) where
+  pub source_hands : IsKind true k web → IsHanding (StandsAs stage) k web
+  source_hands kind =
+      let node = node_of (StandsAs stage) k web at.scene (omega (arith, less, at.holds.stand.count)) at.holds.stand in
+      record { less = less; node = node.0; is = node.1; next = inl (kind node.0 node.1); idle = idle }
+
+  pub stage_hands : {node : Node S R} → IsKind false k web → node ≡ get_or web.nodes.items k node
+      → ((rest : List ℕ) (t : At) → StandsAs stage node rest t → kinds.Gives ≡ readiness_at (is_source node) (doing_of t))
+      → IsHanding (StandsAs stage) k web
+  stage_hands {node} kind value gives =
+      let there = nth web.nodes.items k node less value in
+      record {
+        less = less;
+        node = node;
+        is = there;
+        next = inr (
+          kind node there,
+          λ rest t stand. gives_of (doing_of t)
+              (subst (λ b. readiness_at b (doing_of t) ≡ kinds.Gives) (kind node there) (sym (gives rest t stand))),
+        );
+        idle = idle;
+      }
+
+-- a record more
 pub goes_loaded : (row : Row) (link : port.Link) → Goes link (loaded row link) (λ l. pushed l row)
 goes_loaded row link size l h = record {
   waiting = ap (λ (xs : List Row). xs ++ row ∷ []) h.waiting;
@@ -106,6 +181,26 @@ goes_loaded row link size l h = record {
   mark = h.mark;
   heard = h.heard;
 }
+
+-- What it has taken out, which lies nowhere as yet.
+pub gave_out : {S R : Type 0} {stage : S → Moment → Type 0} (tells : R → Option (List ℕ)) {k : ℕ} {web : Web S R} {s : Scene}
+    {node : Node S R} {given : Option Row} {pool : _} → IsAt (StandsAs stage) web s → HasIdleLink k web → IsAhead stage k web node
+    → (after : Node S R) → ((rest : List ℕ) → HasTaken (StandsAs stage node rest) (StandsAs stage after rest) given)
+    → is_source after ≡ false → let new = record web { nodes = with_item web.nodes k after; pool = pool } in
+    MatchOption given (Fed (StandsAs stage) tells k web new) (λ row. HandsOut (StandsAs stage) tells k row web new)
+gave_out tells {given = None} at idle a after taken kind =
+    absurd (none-some _ (gives_some (a.may _ at) after a.there taken).1)
+gave_out tells {given = Some row} at idle a after taken kind = record {
+  links = refl;
+  fed = λ link its. stage_fed (ahead_turn a at) (ahead_kind a)
+      (λ u turn. ahead_done after (loaded row link) a its taken (goes_loaded row link) refl refl turn) (keeps after kind refl);
+}
+
+pub hand_turn : {S R : Type 0} {stage : S → Moment → Type 0} {k : ℕ} {web : Web S R} → Somewhere (IsAt (StandsAs stage) web)
+    → IsHanding (StandsAs stage) k web → Somewhere (MayTurn (StandsAs stage) k web)
+hand_turn at h = record { scene = at.scene; holds = handing_turn h at.holds }
+
+-- A record taken.
 
 module _ (row : Row) (link : port.Link) (empty : link.waiting.items ≡ []) where
   pub alone : (size : ℕ) (l : Traffic) → IsLink size (loaded row link) l → l.waiting ≡ row ∷ []

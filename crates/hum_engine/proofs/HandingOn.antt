@@ -1,11 +1,10 @@
 -- The steps in which a record is handed on.
-use Rattle.std.proofs.Common.{◌≡◌, ◌∙◌, ℕ, zero, suc, pred, ◌+◌, ◌<◌, ◌≤◌, Bool, true, false, List, length, Option, Some, None}
-use Rattle.std.proofs.Common.{refl, sym, ap, subst, slice_get, get_or, arith, inr, ⊎_elim}
-use Rattle.std.proofs.lemmas.Bool.{false≢true, cases_Bool, cond-false, ne_eqb}
+use Rattle.std.proofs.Common.{◌≡◌, ◌∙◌, ℕ, zero, suc, pred, ◌+◌, ◌<◌, ◌≤◌, Bool, true, false, List, length, Option}
+use Rattle.std.proofs.Common.{Some, None, refl, sym, ap, subst, slice_get, get_or, arith, inr, ⊎_elim}
+use Rattle.std.proofs.lemmas.Bool.{cases_Bool, cond-false, ne_eqb}
 use Rattle.std.proofs.lemmas.Option.{same_Some, slice_get-get_or, slice_get_within}
 use Rattle.hum_turns.specs.Failures.{is_ready, result}
 use Rattle.hum_turns.specs.Orders.{Order}
-use Rattle.hum_turns.specs.declared.order.Side.{Side}
 use Rattle.hum_turns.specs.declared.order.Side.TheVariants as side
 use Rattle.hum_stage.specs.Meaning.{Moment}
 use Rattle.hum_nodes.specs.At.{At}
@@ -15,12 +14,13 @@ use Rattle.hum_engine.specs.declared.net.Net.{Net}
 use Rattle.hum_engine.specs.declared.search.Search.{Search}
 use Rattle.hum_engine.specs.Search.{outer, changed, handed, passed, is_left}
 use Rattle.hum_engine.specs.Scene.{plan_of, moved, Somewhere, IsAt, HasActor, IsWaiting, WantsFrom}
-use Rattle.hum_engine.specs.Nets.{AtEach, HasStepped, HasAdvanced, HasHandedOn, MarksFailures, MayStep, MayAdvance}
+use Rattle.hum_engine.specs.Nets.{AtEach, HasStepped, HasAdvanced, HasHanded, MayStep, MayAdvance}
 use Rattle.hum_engine.proofs.Advancing.{stepped_twice, may_on, pick_now}
 use Rattle.hum_engine.proofs.Choosing.{Asked, asked_from, front_of, leans_on, stepped_on, stepped_out, stepped_past}
 use Rattle.hum_engine.proofs.Choosing.{stepped_past_it, stepped_there}
 use Rattle.hum_engine.proofs.Handing.{waiting_unready, wants_above}
 use Rattle.hum_engine.proofs.Moving.{nth}
+use Rattle.hum_engine.proofs.Searching.{right_side}
 use Rattle.hum_engine.proofs.Netting.{actor_now, ready_by}
 
 -- Where a search stands, and what there is.
@@ -86,13 +86,6 @@ module _ {S R W O : Type 0} {stage : S → Moment → Type 0} {contents : W → 
     {order : Order O} {look : Option Search} {by : Search} {k : ℕ} {o : O} {old : Net S R W}
     (may : MayAdvance (StandsAs stage) contents flushed order o look old) (is : look ≡ Some by) (from : k ≡ by.from)
     {b : Bool} (tells : b ≡ is_left by.side) (isnt : b ≡ false) where
-  right_side : by.side ≡ side.Right
-  right_side = of by.side (sym tells ∙ isnt)
-    where
-      of : (s : Side) → is_left s ≡ false → s ≡ side.Right
-      of side.Left h = absurd (false≢true (sym h))
-      of side.Right h = refl
-
   pub to_stage : {taker : ℕ} → k < length old.web.nodes.items → taker ≡ get_or old.takers.items k taker
       → (place : ℕ) × WantsFrom (StandsAs stage) taker place k old.web
       → Hands stage contents flushed order look by k taker o old
@@ -102,46 +95,45 @@ module _ {S R W O : Type 0} {stage : S → Moment → Type 0} {contents : W → 
         may = may;
         is = is;
         from = from;
-        right = right_side;
+        right = right_side tells isnt;
         takes = nth old.takers.items k taker (omega (arith, less, fits.takers)) read;
         above = wants_above stage taker wants.0 k old.web wants.1 fits.at.scene fits.at.holds;
       }
 
-  pub to_sink : {taker : ℕ} → k + 1 ≡ taker → taker ≡ length old.web.nodes.items
-      → Hands stage contents flushed order look by k taker o old
-  to_sink {taker} next sink = record {
+  pub to_sink : k + 1 ≡ length old.web.nodes.items → Hands stage contents flushed order look by k (k + 1) o old
+  to_sink next = record {
     may = may;
     is = is;
     from = from;
-    right = right_side;
-    takes = (search_fits may.step is).last k (next ∙ sink) ∙ ap Some (sym sink);
-    above = omega (arith, next);
+    right = right_side tells isnt;
+    takes = (search_fits may.step is).last k next ∙ ap Some (sym next);
+    above = omega arith;
   }
 
 -- A stage has handed a record on; where it waits then, it isn't ready.
 module _ {S R W O : Type 0} {stage : S → Moment → Type 0} {remaining : R → Option (List ℕ)} {failed : R → Bool}
     {contents : W → Option (List ℕ)} {flushed broken : W → Bool} {order : Order O} {look : Option Search} {by : Search}
     {k taker : ℕ} {o : O} {old new : Net S R W} {is_over : Bool}
-    (x : Hands stage contents flushed order look by k taker o old) (marks : MarksFailures failed broken old new)
-    (h : HasHandedOn (StandsAs stage) remaining contents flushed k taker old new is_over) where
+    (x : Hands stage contents flushed order look by k taker o old)
+    (h : HasHanded (StandsAs stage) remaining failed contents flushed broken k taker old new is_over) where
   abbrev pub Steps : Search → Net S R W → Bool → Type 0
   Steps after net over = HasStepped (StandsAs stage) remaining contents flushed order o o look (Some after) old net over
 
   ask : Asked (StandsAs stage) contents flushed order look k o o old
   ask = asked_from x.may x.is x.from
 
-  takes_between : slice_get h.between.takers.items k ≡ Some taker
-  takes_between = ap (λ v. slice_get v.items k) h.takers ∙ x.takes
+  takes_between : slice_get h.both.between.takers.items k ≡ Some taker
+  takes_between = ap (λ v. slice_get v.items k) h.both.takers ∙ x.takes
 
-  to_between : (t : ℕ) → slice_get h.between.takers.items k ≡ Some t → handed by taker false ≡ changed by (outer by.side k t)
+  to_between : (t : ℕ) → slice_get h.both.between.takers.items k ≡ Some t → handed by taker false ≡ changed by (outer by.side k t)
   to_between t at =
       sym (ap (changed by) (ap (λ s. outer s k t) x.right ∙ sym (same_Some taker t (sym takes_between ∙ at)))
       ∙ cond-false _ _ _ (ne_eqb taker by.from (λ e. absurd (omega (arith, x.above, x.from, e)))))
 
-  first : (w : Bool) → (w ≡ true → IsWaiting k new.web) → Steps (handed by taker w) h.between false
-  first false waits = stepped_on ask h.given x.is to_between
-  first true waits = stepped_past_it ask h.given x.is x.right refl (omega (arith, (waits refl).less)) takes_between
-      (waiting_idle contents flushed (h.waits (waits refl)))
+  first : (w : Bool) → (w ≡ true → IsWaiting k new.web) → Steps (handed by taker w) h.both.between false
+  first false waits = stepped_on ask h.both.given x.is to_between
+  first true waits = stepped_past_it ask h.both.given x.is x.right refl (omega (arith, (waits refl).less)) takes_between
+      (waiting_idle contents flushed (h.both.waits (waits refl)))
 
   isnt_behind : (w : Bool) → (w ≡ true → IsWaiting k new.web) → AtEach (StandsAs stage) contents flushed new (λ start s now.
       result (plan_of s) now ≡ None → (handed by taker w).behind < k → is_ready (plan_of s) s.size now k ≡ false)
@@ -154,15 +146,15 @@ module _ {S R W O : Type 0} {stage : S → Moment → Type 0} {remaining : R →
     ask_then net step = asked_from (record { step = may_on step x.may.step; leans = (ask.here by x.is).2 }) refl refl
 
     both : Steps (handed by taker w) new is_over
-    both = stepped_twice (first w waits) (stepped_there (ask_then h.between (first w waits)) h.taken refl x.right
-        (ap (λ v. slice_get v.items k) marks.takers ∙ x.takes) (isnt_behind w waits))
+    both = stepped_twice (first w waits) (stepped_there (ask_then h.both.between (first w waits)) h.both.taken refl x.right
+        (ap (λ v. slice_get v.items k) h.marks.takers ∙ x.takes) (isnt_behind w waits))
 
     both_on : is_over ≡ false → Steps (handed by taker w) new false
     both_on on = subst (Steps (handed by taker w) new) on both
 
     pub handed_advanced : {after : Search} → after ≡ handed by taker w
         → HasAdvanced (StandsAs stage) remaining failed contents flushed broken order o o look (Some after) old new is_over
-    handed_advanced to = rw to (record { stepped = both; leans = leans_on ask x.is refl; marks = marks })
+    handed_advanced to = rw to (record { stepped = both; leans = leans_on ask x.is refl; marks = h.marks })
 
     -- While the run goes on it is an actor still,
     pub actor_still : is_over ≡ false → Somewhere (HasActor (StandsAs stage) k new.web)
@@ -178,11 +170,11 @@ module _ {S R W O : Type 0} {stage : S → Moment → Type 0} {remaining : R →
         → HasAdvanced (StandsAs stage) remaining failed contents flushed broken order o o look (Some after) old new is_over
     passed_advanced quiet to past = rw (past, to) (record {
       stepped = ⊎_elim
-          (λ over. stepped_twice (first w waits) (stepped_out (ask_then h.between (first w waits)) h.taken over))
+          (λ over. stepped_twice (first w waits) (stepped_out (ask_then h.both.between (first w waits)) h.both.taken over))
           (λ on. subst (Steps (passed (handed by taker w)) new) (sym on)
           (stepped_twice (both_on on) (stepped_past (ask_then new (both_on on))
           (record { idle = λ start s now n none within. quiet start s now n none; same = refl }) refl refl)))
           (cases_Bool is_over);
       leans = leans_on ask x.is refl;
-      marks = marks;
+      marks = h.marks;
     })

@@ -1,17 +1,19 @@
--- Stages that wait until a record is taken from their own link, which is full.
-use Rattle.std.proofs.Common.{◌≡◌, ◌≢◌, ◌∙◌, ℕ, ◌<◌, ◌≤◌, Bool, true, false, List, map, inl, inr, None, refl, sym, ap, subst}
-use Rattle.std.proofs.Common.{arith, ⊎_elim, is_none, nat_lt, length, ◌&&◌}
+-- Who else is ready behind a turn that changed the stage's own link; and stages that wait until a record is taken from their own
+-- link, which is full.
+use Rattle.std.proofs.Common.{◌≡◌, ◌≢◌, ◌∙◌, ℕ, ◌<◌, ◌≤◌, Bool, true, false, List, map, inl, inr, None, refl, sym, ap}
+use Rattle.std.proofs.Common.{subst, arith, ⊎_elim, is_none, nat_lt, length, length-append, ◌&&◌, ◌+◌, [], ◌∷◌, ap₂}
+use Rattle.std.proofs.Common.{lt-ltb, if◌then◌else◌}
 use Rattle.std.proofs.lemmas.Bool.{false≢true, cases_Bool, cases_eq, cases_lt, cond-true, cond-false}
 use Rattle.std.proofs.Math.Path.{fun_ext}
 use Rattle.hum_record.specs.Row.{Row}
 use Rattle.hum_turns.specs.Flow.{Flow}
 use Rattle.hum_turns.specs.Plan.{Plan, IsPlan}
-use Rattle.hum_turns.specs.Links.{Moment, view, has_room, inputs}
-use Rattle.hum_turns.specs.Turns.{State, Gives, Reads, Takes, Ends, stage_state, state, can, ready, is_source, Does, Turns}
-use Rattle.hum_turns.specs.Turns.{Step}
+use Rattle.hum_turns.specs.Links.{Moment, view, has_room, has_some, inputs}
+use Rattle.hum_turns.specs.Turns.{State, Gives, Reads, Takes, Ends, stage_state, state, can, ready, is_source, Does}
+use Rattle.hum_turns.specs.Turns.{Turns, Step}
 use Rattle.hum_turns.specs.Near.{touched}
-use Rattle.hum_turns.proofs.States.{state_is, gives_less, last_less, wanted, sink_state, takes_same, source_less, source_takes}
-use Rattle.hum_turns.proofs.States.{reads_source, source_is}
+use Rattle.hum_turns.proofs.States.{state_is, gives_less, last_less, wanted, sink_state, takes_same, source_less}
+use Rattle.hum_turns.proofs.States.{source_takes, reads_source, source_is}
 use Rattle.hum_turns.proofs.Near.{step_touches}
 use Rattle.hum_nodes.specs.declared.node.Readiness.TheVariants as kinds
 use Rattle.hum_nodes.specs.Doing.{Doing}
@@ -23,7 +25,7 @@ use Rattle.hum_engine.proofs.Doings.{gives_of}
 use Rattle.hum_engine.proofs.Polling.{state_gives}
 use Rattle.std.proofs.lemmas.Option.{slice_get_within}
 use Rattle.std.specs.Prelude.{Option}
-use Rattle.hum_engine.specs.Scene.{Scene, plan_of, IsFull}
+use Rattle.hum_engine.specs.Scene.{Scene, plan_of, IsFull, IsCrowded}
 use Rattle.hum_turns.specs.Failures.{Now, result}
 use Rattle.hum_engine.specs.declared.net.Net.{Net}
 use Rattle.hum_engine.specs.Nets.{IsHeldUp, NetAt}
@@ -47,7 +49,7 @@ held_unready s m k h = ⊎_elim
 
 -- What the reader of a stage's link has had stays as it is in a turn of the stage that changes that link.
 module _ {R : Type 0} (plan : Plan R) (ok : IsPlan plan) (k : ℕ) where
-  takes_lower : (m : Moment R) (t : ℕ) → state plan m k ≡ Takes t → k ≢ t
+  pub takes_lower : (m : Moment R) (t : ℕ) → state plan m k ≡ Takes t → k ≢ t
   takes_lower m t e same = ⊎_elim
       (λ (less : k < plan.count). omega (arith, (wanted plan ok m k t less e).below, same))
       (λ (past : plan.count ≤ k).
@@ -73,32 +75,91 @@ module _ {R : Type 0} (plan : Plan R) (ok : IsPlan plan) (k : ℕ) where
       t.does
       ∙ ap view t.reads.becomes.here
 
--- Another stage's turn that changes its own link leaves it as it was.
-pub held_stays : (s : Scene) → IsPlan (plan_of s) → (k j : ℕ) (old new : Moment Row)
-    → Step (plan_of s) s.size k old new → k ≡ touched k (state (plan_of s) old k) → j ≢ k
-    → IsHeldUp s old j → IsHeldUp s new j
-held_stays s ok k j old new step own other h =
-    let plan = plan_of s in
-    let elsewhere : (i : ℕ) → i ≢ k → new i ≡ old i =
-    λ i apart. step_touches plan ok s.size k old new step i (λ is. apart (is ∙ sym own)) in
-    let views : (i : ℕ) → view (new i) ≡ view (old i) = λ i. ⊎_elim
-    (λ (is : i ≡ k). subst (λ a. view (new a) ≡ view (old a)) (sym is)
-    (turns_own plan ok k (state plan old k) old new refl
-    (λ t takes. takes_lower plan ok k old t takes (own ∙ ap (touched k) takes)) step.turns))
-    (λ apart. ap view (elsewhere i apart))
-    (cases_eq i k) in
-    record {
-      gives = ⊎_elim inl
-          (λ (gives : state plan old j ≡ Gives).
-          let less = gives_less plan old j gives in
-          let st = plan.stage j in
-          inr (state_is plan new j less
-          ∙ ap (λ l. stage_state st l (inputs plan new j)) (elsewhere j other)
-          ∙ ap (λ (f : ℕ → Flow Row). stage_state st (old j) (map f st.sources)) (fun_ext views)
-          ∙ sym (state_is plan old j less) ∙ gives))
-          h.gives;
-      full = ap (has_room s.size) (elsewhere j other) ∙ h.full;
-    }
+  -- It puts one record there at most.
+  does_more : (st : State) (old new : Moment R) → ((t : ℕ) → st ≡ Takes t → ⊥) → Does plan k st old new
+      → length (new k).waiting ≤ length (old k).waiting + 1
+  does_more Gives old new none d =
+      omega (arith, ap (λ l. length l.waiting) d.becomes.here, length-append (old k).waiting (d.next ∷ []))
+  does_more Reads old new none d = omega (arith, ap (λ l. length l.waiting) (d k))
+  does_more (Takes t) old new none d = absurd (none t refl)
+  does_more Ends old new none d = omega (arith, ap (λ l. length l.waiting) d.here)
+
+  turns_more : (st : State) (old new : Moment R) → state plan old k ≡ st → ((t : ℕ) → st ≡ Takes t → ⊥) → Turns plan k st old new
+      → length (new k).waiting ≤ length (old k).waiting + 1
+  turns_more Gives old new e none t = does_more Gives old new none t
+  turns_more (Takes s) old new e none t = does_more (Takes s) old new none t
+  turns_more Ends old new e none t = does_more Ends old new none t
+  turns_more Reads old new e none t =
+      let read = ap (λ l. length l.waiting) t.reads.becomes.here in
+      ⊎_elim
+      (λ stays. omega (arith, ap (λ l. length l.waiting) (stays.1 k), read))
+      (λ does. omega (
+        arith,
+        read,
+        does_more (state plan t.between k) t.between new
+            (λ i is. source_takes plan ok t.between k i (reads_source plan ok old k e) is) does,
+      ))
+      t.does
+
+-- A turn of stage k that changes its own link.
+module _ (s : Scene) (ok : IsPlan (plan_of s)) (k : ℕ) (old new : Moment Row) (step : Step (plan_of s) s.size k old new)
+    (own : k ≡ touched k (state (plan_of s) old k)) where
+  gives_own : (t : ℕ) → state (plan_of s) old k ≡ Takes t → ⊥
+  gives_own t takes = takes_lower (plan_of s) ok k old t takes (own ∙ ap (touched k) takes)
+
+  elsewhere : (i : ℕ) → i ≢ k → new i ≡ old i
+  elsewhere i apart = step_touches (plan_of s) ok s.size k old new step i (λ is. apart (is ∙ sym own))
+
+  views : (i : ℕ) → view (new i) ≡ view (old i)
+  views i = ⊎_elim
+      (λ (is : i ≡ k). subst (λ a. view (new a) ≡ view (old a)) (sym is)
+      (turns_own (plan_of s) ok k (state (plan_of s) old k) old new refl gives_own step.turns))
+      (λ apart. ap view (elsewhere i apart))
+      (cases_eq i k)
+
+  -- Any other actor is about to do what it was about to do.
+  state_stays : (j : ℕ) → j ≢ k → state (plan_of s) new j ≡ state (plan_of s) old j
+  state_stays j other = ⊎_elim
+      (λ (less : j < s.count).
+      let st = (plan_of s).stage j in
+      state_is (plan_of s) new j less
+      ∙ ap (λ l. stage_state st l (inputs (plan_of s) new j)) (elsewhere j other)
+      ∙ ap (λ (f : ℕ → Flow Row). stage_state st (old j) (map f st.sources)) (fun_ext views)
+      ∙ sym (state_is (plan_of s) old j less))
+      (λ (past : s.count ≤ j). sink_state (plan_of s) new j past ∙ sym (sink_state (plan_of s) old j past))
+      (cases_lt j s.count)
+
+  -- Who is held up stays so.
+  pub held_stays : (j : ℕ) → j ≢ k → IsHeldUp s old j → IsHeldUp s new j
+  held_stays j other h = record {
+    gives = ⊎_elim inl (λ (gives : state (plan_of s) old j ≡ Gives). inr (state_stays j other ∙ gives)) h.gives;
+    full = ap (has_room s.size) (elsewhere j other) ∙ h.full;
+  }
+
+  -- Where several records lie on the link then, nobody else is ready who wasn't.
+  module _ (more : 1 < length (new k).waiting) where
+    some_before : 0 < length (old k).waiting
+    some_before =
+        omega (arith, more, turns_more (plan_of s) ok k (state (plan_of s) old k) old new refl gives_own step.turns)
+
+    heard_same : (t : ℕ) → t ≡ k → has_some (new t) ≡ has_some (old t)
+    heard_same t is = rw (
+      is,
+      ap (λ (f : Flow Row). f.end) (views k),
+      lt-ltb 0 (length (new k).waiting) (omega (arith, more)),
+      lt-ltb 0 (length (old k).waiting) some_before,
+    ) refl
+
+    can_stays : (st : State) (j : ℕ) → j ≢ k → can s.size new j st ≡ can s.size old j st
+    can_stays Gives j other = ap (has_room s.size) (elsewhere j other)
+    can_stays Reads j other = ap (has_room s.size) (elsewhere j other)
+    can_stays (Takes t) j other = ⊎_elim (λ is. heard_same t is) (λ apart. ap has_some (elsewhere t apart)) (cases_eq t k)
+    can_stays Ends j other = ap (λ l. is_none l.mark) (elsewhere j other)
+
+    pub crowded_as_ready : (j : ℕ) → j ≢ k → ready (plan_of s) s.size new j ≡ ready (plan_of s) s.size old j
+    crowded_as_ready j other = ap₂ (λ l c. if is_source (plan_of s) j then is_none l.mark && has_room s.size l else c)
+        (elsewhere j other)
+        (ap (can s.size new j) (state_stays j other) ∙ can_stays (state (plan_of s) old j) j other)
 
 -- It is a stage.
 pub held_less : (s : Scene) (m : Moment Row) (k : ℕ) → IsHeldUp s m k → k < s.count
@@ -108,6 +169,15 @@ held_less s m k h = ⊎_elim (λ src. (source_less (plan_of s) k src).0) (λ giv
 
 gives_by : (b : Bool) (d : Doing) → readiness_at b d ≡ kinds.Gives → b ≡ false → d ≡ does.Gives
 gives_by b d is other = gives_of d (subst (λ x. readiness_at x d ≡ kinds.Gives) other is)
+
+-- So many records wait there in a net.
+pub crowded_by : {S R W : Type 0} {stands : S → stage.Moment → Type 0} {contents : W → Option (List ℕ)} {flushed : W → Bool}
+    {k : ℕ} {net : Net S R W} {start : Option (List ℕ)} {s : Scene} {now : Now Row}
+    → NetAt (StandsAs stands) contents flushed start s net now → result (plan_of s) now ≡ None → k ≤ s.count
+    → IsCrowded k net.web → 1 < length (now.links k).waiting
+crowded_by {stands = stands} {contents} {flushed} {k} {net} {start} {s} {now} h none within c =
+    let st = h.going (unfailed_now (StandsAs stands) contents flushed start s net now k h none) in
+    omega (arith, c.more, ap length (st.links k c.link c.its).waiting)
 
 -- The actor of a net that a turn has left so, while the run goes on.
 pub held_by : {S R W : Type 0} {stands : S → stage.Moment → Type 0} {contents : W → Option (List ℕ)} {flushed : W → Bool}

@@ -1,7 +1,7 @@
 -- Who is known not to be ready once an actor was asked.
-use Rattle.std.proofs.Common.{◌≡◌, ◌≢◌, ◌∙◌, ◌⊎◌, ℕ, ◌+◌, ◌<◌, ◌≤◌, Bool, true, false, List, Option, None, Some, is_none, ◌&&◌}
-use Rattle.std.proofs.Common.{refl, sym, ap, subst, arith, inl, inr, ⊎_elim}
-use Rattle.std.specs.Prelude.{IfSome}
+use Rattle.std.proofs.Common.{◌≡◌, ◌≢◌, ◌∙◌, ◌⊎◌, ℕ, ◌+◌, ◌<◌, ◌≤◌, Bool, true, false, List, Option, None, Some}
+use Rattle.std.proofs.Common.{is_none, ◌&&◌, refl, sym, ap, subst, arith, inl, inr, ⊎_elim}
+use Rattle.std.specs.Prelude.{IfSome, length, nat_eq, if◌then◌else◌}
 use Rattle.std.proofs.lemmas.Bool.{false≢true, cases_eq, cond-true, cond-false, eq-eqb, ne_eqb}
 use Rattle.hum_record.specs.Row.{Row}
 use Rattle.hum_turns.specs.declared.order.Side.{Side}
@@ -12,12 +12,12 @@ use Rattle.hum_turns.specs.Turns.{ready}
 use Rattle.hum_turns.specs.Near.{LooksAt}
 use Rattle.hum_turns.proofs.Near.{ready_untouched}
 use Rattle.hum_engine.specs.Search.{IsNearer, away, outer, end_of, beginning, passed, changed, left_to_ask, is_left}
-use Rattle.hum_engine.specs.Search.{kept_behind, skipped_to, skipped, reached}
+use Rattle.hum_engine.specs.Search.{kept_behind, stayed, skipped, reached}
 use Rattle.hum_engine.specs.declared.search.Search.{Search}
 use Rattle.hum_engine.specs.Scene.{Scene, plan_of, TakesFrom}
 use Rattle.hum_engine.specs.declared.net.Net.{Net}
 use Rattle.hum_engine.specs.Nets.{IsFront, IsHeldUp, Sees, still_to_ask}
-use Rattle.hum_engine.proofs.HeldUp.{held_unready, held_stays, held_less}
+use Rattle.hum_engine.proofs.HeldUp.{held_unready, held_stays, held_less, crowded_as_ready}
 use Rattle.hum_engine.proofs.Flags.{IsTurn, moves, took}
 
 -- Nearer and further, as numbers.
@@ -83,6 +83,10 @@ away_few side.Right a count few = omega (arith, few)
 right_left : side.Right ≡ side.Left → ⊥
 right_left e = false≢true (ap is_left e)
 
+pub right_side : {to : Side} {b : Bool} → b ≡ is_left to → b ≡ false → to ≡ side.Right
+right_side {to = side.Left} tells isnt = absurd (false≢true (sym isnt ∙ tells))
+right_side {to = side.Right} tells isnt = refl
+
 none_left : (to : Side) (a j : ℕ) → to ≡ side.Left → a < j → j < away to a → ⊥
 none_left side.Left a j e past low = absurd (omega (arith, past, low))
 none_left side.Right a j e past low = absurd (right_left e)
@@ -128,29 +132,37 @@ few_still (Some look) = few_ask look.side look.from
 
 -- What a search from the left does behind a turn that has changed a link.
 module _ (look : Search) (link taker : ℕ) (left : is_left look.side ≡ true) where
-  left_side : look.side ≡ side.Left
+  pub left_side : look.side ≡ side.Left
   left_side = by look.side left
     where
       by : (s : Side) → is_left s ≡ true → s ≡ side.Left
       by side.Left h = refl
       by side.Right h = absurd (false≢true h)
 
-  -- To the left of its actor, which has taken a record from there and is held up, or isn't;
-  pub reached_over : link < look.from → reached look link true ≡ skipped look link taker
-  reached_over less = sym (ap (λ s. skipped_to s look link taker) left_side
-      ∙ cond-false _ _ _ (ne_eqb link look.from (λ e. absurd (omega (arith, less, e)))))
-
+  -- To the left of its actor, which has taken a record from there;
   pub reached_on : link < look.from → reached look link false ≡ changed look (outer look.side link taker)
   reached_on less = sym (ap (λ s. changed look (outer s link taker)) left_side
       ∙ cond-false _ _ _ (ne_eqb link look.from (λ e. absurd (omega (arith, less, e)))))
 
-  -- the own one of its actor, which is held up, or isn't: then it stands where it stood.
-  pub passes_own : link ≡ look.from → passed look ≡ skipped look link taker
-  passes_own own = sym (ap (λ s. skipped_to s look link taker) left_side ∙ cond-true _ _ _ (eq-eqb link look.from own))
-
+  -- the own one of its actor: then it stands where it stood.
   pub stays_there : link ≡ look.from → look ≡ changed look (outer look.side link taker)
   stays_there own = sym (cond-true _ _ _ (eq-eqb _ look.from (ap (λ s. outer s link taker) left_side ∙ own))
       ∙ ap (λ s. record look { behind = kept_behind s look }) left_side)
+
+-- Where its actor is held up.
+module _ (look : Search) (link : ℕ) where
+  pub reached_over : link < look.from → reached look link true ≡ skipped look link
+  reached_over less = sym (cond-false _ _ _ (ne_eqb link look.from (λ e. absurd (omega (arith, less, e)))))
+
+  pub passes_own : link ≡ look.from → passed look ≡ skipped look link
+  passes_own own = sym (cond-true _ _ _ (eq-eqb link look.from own))
+
+  pub skipped_side : (skipped look link).side ≡ look.side
+  skipped_side = by (nat_eq link look.from)
+    where
+      by : (b : Bool) → (if b then passed look else record look { from = link }).side ≡ look.side
+      by true = refl
+      by false = refl
 
 -- some actor that is ready
 pub record AnyReady (s : Scene) (now : Now Row) : Type 0 where
@@ -228,7 +240,7 @@ module _ {s : Scene} {k link taker : ℕ} {old new : Now Row} (t : IsTurn s k li
   before j less apart isnt = others_as_ready j less apart.0 apart.1 ∙ isnt
 
   -- Who is held up isn't ready.
-  held_isnt : (j : ℕ) → IsHeldUp s new.links j → is_ready (plan_of s) s.size new j ≡ false
+  pub held_isnt : (j : ℕ) → IsHeldUp s new.links j → is_ready (plan_of s) s.size new j ≡ false
   held_isnt j held =
       ap (λ o. is_none o && ready (plan_of s) s.size new.links j) t.none ∙ held_unready s new.links j held
 
@@ -249,7 +261,7 @@ module _ {s : Scene} {k link taker : ℕ} {old new : Now Row} (t : IsTurn s k li
     stays_left front own =
         let waits : (j : ℕ) → from < j → j < behind → (TakesFrom s.count s.kinds j from → ⊥) ⊎ IsHeldUp s new.links j =
         λ j past low. ⊎_elim inl
-        (λ held. inr (held_stays s t.plan.ok k j old.links new.links (moves t) (here ∙ sym own ∙ t.link_is)
+        (λ held. inr (held_stays s t.plan.ok k old.links new.links (moves t) (here ∙ sym own ∙ t.link_is) j
         (λ e. absurd (omega (arith, past, e, here))) held))
         (front.waits j refl past low) in
         record {
@@ -322,23 +334,24 @@ module _ {s : Scene} {k link taker : ℕ} {old new : Now Row} (t : IsTurn s k li
               (cases_eq j k);
         }
 
-    skipped_front : (to : Side) → IsFront (record { side = to; from = from; behind = behind }) s old → IsHeldUp s new.links k
-        → AnyReady s new → IsFront (skipped_to to (record { side = to; from = from; behind = behind }) link taker) s new
-    skipped_front side.Left front held some = ⊎_elim
+    skipped_front : IsFront (record { side = side.Left; from = from; behind = behind }) s old → IsHeldUp s new.links k
+        → AnyReady s new → IsFront (skipped (record { side = side.Left; from = from; behind = behind }) link) s new
+    skipped_front front held some = ⊎_elim
         (λ (own : link ≡ from). subst (λ l. IsFront l s new) (sym (cond-true _ _ _ (eq-eqb link from own)))
         (front_passed (stays_left front own) (subst (λ i. is_ready (plan_of s) s.size new i ≡ false) here (held_isnt k held)) some))
         (λ (apart : link ≢ from). subst (λ l. IsFront l s new) (sym (cond-false _ _ _ (ne_eqb link from apart)))
         (skips_left front held apart))
         (cases_eq link from)
-    skipped_front side.Right front held some = changed_front side.Right front
 
   pub front_changed : {look : Search} → k ≡ look.from → IsFront look s old
       → IsFront (changed look (outer look.side link taker)) s new
   front_changed {look} here front = changed_front here look.side front
 
-  pub front_skipped : {look : Search} → k ≡ look.from → IsFront look s old → IsHeldUp s new.links k → AnyReady s new
-      → IsFront (skipped look link taker) s new
-  front_skipped {look} here front = skipped_front here look.side front
+  pub front_skipped : {look : Search} → look.side ≡ side.Left → k ≡ look.from → IsFront look s old → IsHeldUp s new.links k
+      → AnyReady s new → IsFront (skipped look link) s new
+  front_skipped {look} left here front held some =
+      subst (λ to. IsFront (skipped (record look { side = to }) link) s new) (sym left) (skipped_front here
+      (subst (λ to. IsFront (record look { side = to }) s old) left front) held some)
 
 -- From the right.
 module _ {s : Scene} {k link taker : ℕ} {old new : Now Row} (t : IsTurn s k link old new) (u : IsTaker s link taker)
@@ -363,6 +376,22 @@ module _ {s : Scene} {k link taker : ℕ} {old new : Now Row} (t : IsTurn s k li
         waits = λ j left past near. absurd (right_left left);
       }
 
+  -- A turn that takes from the link, or puts a record behind others, is nothing to anyone nearer.
+  stays_on_right : (link ≡ k → 1 < length (new.links k).waiting)
+      → IsFront (record { side = side.Right; from = from; behind = away side.Right from }) s new
+  stays_on_right crowded = front_away side.Right from front.within (λ j less near.
+      let was = front.nearer j less near in
+      ⊎_elim
+      (λ (own : link ≡ k). ap (λ o. is_none o && ready (plan_of s) s.size new.links j) t.none
+      ∙ crowded_as_ready s t.plan.ok k old.links new.links (moves t) (sym own ∙ t.link_is) (crowded own) j
+      (λ e. absurd (omega (arith, near, e, here)))
+      ∙ sym (ap (λ o. is_none o && ready (plan_of s) s.size old.links j) t.going) ∙ was)
+      (λ (apart : link ≢ k).
+      let taken : k ≡ taker = ⊎_elim (λ is. absurd (apart (sym is))) (λ is. is) (one t u) in
+      before t u j less (λ e. absurd (omega (arith, near, e, here, taken, u.behind)), λ e. absurd (omega (arith, near, e, here, taken)))
+      was)
+      (cases_eq link k))
+
   stays_right : k ≡ taker → (behind < link → is_ready (plan_of s) s.size new link ≡ false)
       → IsFront (record { side = side.Right; from = from; behind = behind }) s new
   stays_right own isnt = record {
@@ -382,6 +411,11 @@ module _ {s : Scene} {k link taker : ℕ} {old new : Now Row} (t : IsTurn s k li
 
 module _ {s : Scene} {k link taker : ℕ} {old new : Now Row} (t : IsTurn s k link old new) (u : IsTaker s link taker)
     {look : Search} (here : k ≡ look.from) (front : IsFront look s old) (right : look.side ≡ side.Right) where
+  pub stays_on : (link ≡ k → 1 < length (new.links k).waiting) → IsFront (stayed look) s new
+  stays_on crowded =
+      subst (λ to. IsFront (stayed (record look { side = to })) s new) (sym right) (stays_on_right t u here
+      (subst (λ to. IsFront (record look { side = to }) s old) right front) crowded)
+
   -- It gave onto its own link and isn't ready any more: whoever was to be asked behind it is still.
   pub moves_past : k ≡ link → 0 < k → is_ready (plan_of s) s.size new k ≡ false → IsFront (record look { from = taker }) s new
   moves_past own some isnt =

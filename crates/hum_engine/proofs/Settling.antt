@@ -1,6 +1,6 @@
 -- A turn of a stage, which a net counts.
-use Rattle.std.proofs.Common.{◌≡◌, ◌≢◌, ◌∙◌, ℕ, ◌+◌, ◌<◌, ◌≤◌, ◌||◌, Bool, true, false, List, length, Option, Some, None, Result, Ok, Err}
-use Rattle.std.proofs.Common.{refl, sym, ap, inl, inr, arith, ⊎_elim, eq-eqb, ne_eqb}
+use Rattle.std.proofs.Common.{◌≡◌, ◌≢◌, ◌∙◌, ℕ, ◌+◌, ◌<◌, ◌≤◌, ◌||◌, Bool, true, false, List, length, Option, Some}
+use Rattle.std.proofs.Common.{None, Result, Ok, Err, refl, sym, ap, inl, inr, arith, ⊎_elim, eq-eqb, ne_eqb}
 use Rattle.std.specs.Prelude.{OnOk, is_some}
 use Rattle.std.proofs.lemmas.Bool.{false≢true, cases_eq}
 use Rattle.std.proofs.Math.Bool.{or-false}
@@ -28,8 +28,10 @@ use Rattle.hum_engine.specs.Readers.{failed_at, is_read_of, is_write}
 use Rattle.hum_engine.specs.Scene.{Scene, plan_of, moved, Somewhere, IsAt, HasActor, IsKind, HasRoom, Fed}
 use Rattle.hum_engine.specs.Told.{HasTold, AsksOne}
 use Rattle.hum_engine.specs.Nets.{AtEach, MayAsk, HasTurned, HasGone, HasWorked, MarksFailures, failed_by, turned_by}
+use Rattle.hum_engine.specs.Nets.{fault_by}
 use Rattle.hum_engine.proofs.Bounds.{turns_few}
-use Rattle.hum_engine.proofs.Netting.{at_now, ready_at, unfailed_at, unheard_at, ready_result, source_here, stage_turned}
+use Rattle.hum_engine.proofs.Netting.{at_now, ready_at, unfailed_at, unheard_at, ready_result, source_here}
+use Rattle.hum_engine.proofs.Netting.{stage_turned}
 use Rattle.hum_engine.proofs.Showing.{shows_alike}
 
 -- An actor that may be asked.
@@ -85,18 +87,13 @@ sink_ready {k = k} here tells told start s now h none =
     ∙ sym (ready_sink (plan_of s) s.size k now.links (omega (arith, here, at.stand.count)))))
 
 -- How a run has failed by what a stage k has told, if it has.
-abbrev pub fault : ℕ → ReadError → RunResult
-fault k error.Read = ends.Read (k + 1)
-fault k error.Memory = ends.Memory
-
 abbrev pub fault_of : {A : Type 0} → ℕ → Result A ReadError → Option RunResult
 fault_of k (Ok x) = None
-fault_of k (Err e) = Some (fault k e)
+fault_of k (Err e) = Some (fault_by k e)
 
 failed_so : (k : ℕ) (told : Result Moved ReadError) → failed_by k told None ≡ fault_of k told
 failed_so k (Ok moved) = refl
-failed_so k (Err error.Read) = refl
-failed_so k (Err error.Memory) = refl
+failed_so k (Err e) = refl
 
 -- The marks of all readers, where it marks its own or none.
 told_marks : {S R A : Type 0} {remaining : R → Option (List ℕ)} {calls : R → ℕ} {failed : R → Bool} {k : ℕ} {old new : Web S R}

@@ -34,11 +34,10 @@ use Rattle.hum_engine.specs.declared.net.Net.{Net}
 use Rattle.hum_engine.specs.declared.net.Turned.{Turned}
 use Rattle.hum_engine.specs.declared.net.Stepped.{Stepped as Step}
 use Rattle.hum_engine.specs.declared.net.Stepped.TheVariants as steps
-use Rattle.hum_engine.specs.declared.net.Handed.{Handed}
-use Rattle.hum_engine.specs.declared.net.Handed.TheVariants as handed
 use Rattle.hum_engine.specs.Readers.{ended_at, remaining_at, calls_at, failed_at, is_read_of, is_write, ShowsSame}
 use Rattle.hum_engine.specs.Scene.{Scene, plan_of, moved, before_all, Stands, IsAt, IsNetPlan, IsBegun, Done}
-use Rattle.hum_engine.specs.Scene.{IsActor, AreTakers, TakesFrom, IsFull, HasRoom, HasIdleLink, IsWaiting}
+use Rattle.hum_engine.specs.Scene.{IsActor, AreTakers, TakesFrom, IsFull, HasRoom, IsWaiting, IsHanding, HandsOut}
+use Rattle.hum_engine.specs.Scene.{KeepsOthers}
 use Rattle.hum_engine.specs.declared.search.Search.{Search}
 use Rattle.hum_engine.specs.Writing.{WroteFront as WroteSome}
 use Rattle.hum_engine.specs.Search.{IsNearer, left_to_ask}
@@ -227,11 +226,15 @@ pub record IsNext {S R W O : Type 0} (stands : Node S R → List ℕ → At → 
   pub picked : look ≡ None → AtEach stands contents flushed net (λ start s now. result (plan_of s) now ≡ None
       → Sees None s now net → HasPicked order (plan_of s) s.size o p now actor)
 
+-- how stage k ends a run by this
+abbrev pub fault_by : ℕ → ReadError → RunResult
+fault_by k error.Read = ends.Read (k + 1)
+fault_by k error.Memory = ends.Memory
+
 -- how a net has failed whose stage k has told this of its turn; as before, where that didn't fail
 abbrev pub failed_by : ℕ → Result Moved ReadError → Option RunResult → Option RunResult
 failed_by k (Ok moved) failure = failure
-failed_by k (Err error.Read) failure = Some (ends.Read (k + 1))
-failed_by k (Err error.Memory) failure = Some ends.Memory
+failed_by k (Err error) failure = Some (fault_by k error)
 
 -- what that turn is to the net
 abbrev pub turned_by : ℕ → Result Moved ReadError → Turned
@@ -294,14 +297,28 @@ pub record MarksFailures {S R W : Type 0} (failed : R → Bool) (broken : W → 
   pub writes : broken new.sink ≡ (broken old.sink || is_write new.failure)
   pub takers : new.takers ≡ old.takers
 
--- What has come of a record that was to be handed on from stage k to actor t: both have had their turns; or
--- there was none, and stage k alone has had its turn.
-abbrev pub HasHanded : {S R W : Type 0} → (Node S R → List ℕ → At → Type 0) → (R → Option (List ℕ))
-    → (W → Option (List ℕ)) → (W → Bool) → ℕ → ℕ → Net S R W → Net S R W → Handed → Type 0
-HasHanded stands remaining contents flushed k t old new (handed.On is_over) =
-    HasHandedOn stands remaining contents flushed k t old new is_over
-HasHanded stands remaining contents flushed k t old new (handed.Alone is_over) =
-    HasMoved stands remaining contents flushed k k old new is_over
+-- Stage k has had its turn and has given this record, which is in hand and lies nowhere as yet.
+pub record HasInHand {S R W : Type 0} (stands : Node S R → List ℕ → At → Type 0) (remaining : R → Option (List ℕ))
+    (failed : R → Bool) (k : ℕ) (old new : Net S R W) (row : Row) : Type 0 where
+  pub net : new ≡ record old { web = new.web; turns = old.turns + 1 }
+  pub out : HandsOut stands remaining k row old.web new.web
+  pub others : KeepsOthers k old.web new.web
+  pub marks : failed_at failed k new.web.nodes.items ≡ failed_at failed k old.web.nodes.items
+
+-- It has had its turn, and no record has come of it. The run is over where that has failed.
+pub record HasGoneAlone {S R W : Type 0} (stands : Node S R → List ℕ → At → Type 0) (remaining : R → Option (List ℕ))
+    (failed : R → Bool) (contents : W → Option (List ℕ)) (flushed broken : W → Bool) (k : ℕ) (old new : Net S R W)
+    : Type 0 where
+  pub moved : HasMoved stands remaining contents flushed k k old new (is_some new.failure)
+  pub marks : MarksFailures failed broken old new
+
+-- Stage k has handed a record on to actor t, and tells whether the run is over.
+pub record HasHanded {S R W : Type 0} (stands : Node S R → List ℕ → At → Type 0) (remaining : R → Option (List ℕ))
+    (failed : R → Bool) (contents : W → Option (List ℕ)) (flushed broken : W → Bool) (k t : ℕ) (old new : Net S R W)
+    (is_over : Bool) : Type 0 where
+  pub both : HasHandedOn stands remaining contents flushed k t old new is_over
+  pub marks : MarksFailures failed broken old new
+  pub turns : new.turns ≡ old.turns + 2
 
 -- In a turn of an actor its reader is called once at most, and no other. The sink is asked for no write
 -- but those of the record that it takes, or for one flush at the end; by a stage for nothing.
@@ -483,13 +500,12 @@ pub record MayAdvance {S R W O : Type 0} (stands : Node S R → List ℕ → At 
   pub step : MayStep stands contents flushed look net
   pub leans : IfSome look (λ look. LeansTo look.side order.pick order.next o)
 
--- The run goes on however the bytes do, and this is a stage on whose link nothing lies.
+-- The run goes on however the bytes do, and this stage may hand a record on.
 pub record MayHand {S R W : Type 0} (stands : Node S R → List ℕ → At → Type 0)
     (contents : W → Option (List ℕ)) (flushed : W → Bool) (k : ℕ) (net : Net S R W) : Type 0 where
   pub look : Option Search
   pub step : MayStep stands contents flushed look net
-  pub less : k < length net.web.nodes.items
-  pub idle : HasIdleLink k net.web
+  pub handing : IsHanding stands k net.web
 
 -- Nodes that were asked nothing yet, of a plan by what is still to come of the bytes.
 pub record AreBegun {S R : Type 0} (stands : Node S R → List ℕ → At → Type 0) (size : ℕ)

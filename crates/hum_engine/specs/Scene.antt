@@ -230,6 +230,22 @@ pub record HasIdleLink {S R : Type 0} (k : ℕ) (web : Web S R) : Type 0 where
   pub its : slice_get web.links.items k ≡ Some link
   pub idle : IsIdle link
 
+-- Several records lie on the link of stage k.
+pub record IsCrowded {S R : Type 0} (k : ℕ) (web : Web S R) : Type 0 where
+  pub link : Link
+  pub its : slice_get web.links.items k ≡ Some link
+  pub more : 1 < length link.waiting.items
+
+-- Stage k may hand a record on: nothing lies on its link, and it reads bytes or gives next.
+pub record IsHanding {S R : Type 0} (stands : Node S R → List ℕ → At → Type 0) (k : ℕ) (web : Web S R)
+    : Type 0 where
+  pub less : k < length web.nodes.items
+  pub node : Node S R
+  pub is : slice_get web.nodes.items k ≡ Some node
+  pub next : (is_source node ≡ true) ⊎ ((is_source node ≡ false)
+      × ((rest : List ℕ) (t : At) → stands node rest t → doing_of t ≡ does.Gives))
+  pub idle : HasIdleLink k web
+
 -- Stage k waits: it takes next from the link of a stage before it, on which nothing lies.
 pub record IsWaiting {S R : Type 0} (k : ℕ) (web : Web S R) : Type 0 where
   pub node : Node S R
@@ -327,10 +343,10 @@ pub record Fed {S R : Type 0} (stands : Node S R → List ℕ → At → Type 0)
       → MayTurn stands k old (before read k s) → Stepped stands k new s
 
 -- Stage k has had its turn and has given this record, but that the record doesn't lie on its link.
-abbrev pub HandsOut : {S R : Type 0} → (Node S R → List ℕ → At → Type 0) → (R → Option (List ℕ)) → ℕ → Row
-    → Web S R → Web S R → Type 0
-HandsOut stands remaining k row old new =
-    (link : Link) → slice_get new.links.items k ≡ Some link → Fed stands remaining k old (laid k row link new)
+pub record HandsOut {S R : Type 0} (stands : Node S R → List ℕ → At → Type 0) (remaining : R → Option (List ℕ))
+    (k : ℕ) (row : Row) (old new : Web S R) : Type 0 where
+  pub links : new.links ≡ old.links
+  pub fed : (link : Link) → slice_get new.links.items k ≡ Some link → Fed stands remaining k old (laid k row link new)
 
 -- Stage k has had its turn, in which it has taken this record from a link on which it would have been alone.
 abbrev pub HasAccepted : {S R : Type 0} → (Node S R → List ℕ → At → Type 0) → (R → Option (List ℕ)) → ℕ

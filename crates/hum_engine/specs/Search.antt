@@ -45,11 +45,15 @@ abbrev pub kept_behind : Side → Search → ℕ
 kept_behind side.Left look = look.behind
 kept_behind side.Right look = away look.side look.from
 
+-- It is asked again, and the turn was nothing to anyone nearer to the side.
+abbrev pub stayed : Search → Search
+stayed look = record look { behind = kept_behind look.side look }
+
 -- A turn of the actor that was asked has changed a link, of which this is the outer end. Where that is
 -- another actor, nobody between the two is ready: they weren't, and the turn was nothing to them.
 abbrev pub changed : Search → ℕ → Search
 changed look end =
-    if nat_eq end look.from then record look { behind = kept_behind look.side look }
+    if nat_eq end look.from then stayed look
     else record look { from = end; behind = look.from }
 
 -- The actor that was asked has given a record to this one, which is asked next; and behind it the actor itself
@@ -62,16 +66,10 @@ handed look taker waits = record look { from = taker; behind = if waits then loo
 abbrev pub reached : Search → ℕ → Bool → Search
 reached look link is_full = record look { from = link; behind = if is_full then look.behind else look.from }
 
--- The same where the actor can't go on until a record is taken from its own link: it isn't asked again.
-abbrev pub skipped_left : Search → ℕ → Search
-skipped_left look link = if nat_eq link look.from then passed look else record look { from = link }
-
-abbrev pub skipped_to : Side → Search → ℕ → ℕ → Search
-skipped_to side.Left look link taker = skipped_left look link
-skipped_to side.Right look link taker = changed look taker
-
-abbrev pub skipped : Search → ℕ → ℕ → Search
-skipped look link taker = skipped_to look.side look link taker
+-- On the left a turn of the actor that was asked has changed this link, and it can't go on until a record is taken
+-- from its own one: it isn't asked again.
+abbrev pub skipped : Search → ℕ → Search
+skipped look link = if nat_eq link look.from then passed look else record look { from = link }
 
 -- How many actors at most are asked before one of 256 is ready.
 abbrev pub left_to_ask : Side → ℕ → ℕ

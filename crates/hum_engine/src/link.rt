@@ -1,5 +1,5 @@
 //! The link of a stage.
-ghost use Rattle.std.specs.Prelude.{◌≡◌, ◌≤◌, ℕ, true, is_none, is_some, IfOk, ◌||◌};
+ghost use Rattle.std.specs.Prelude.{◌≡◌, ◌≤◌, ◌<◌, ℕ, true, is_none, is_some, IfOk, ◌||◌};
 ghost use Rattle.std.specs.Prelude.{nat_lt, length};
 ghost use Rattle.hum_turns.specs.Links.{fresh, linked, has_room, has_some};
 ghost use Rattle.hum_turns.specs.Turns.{pushed, popped};
@@ -66,6 +66,14 @@ impl Link {
         ensures { result ≡ true → IsIdle self.now }
     {
         self.waiting.is_empty() && self.mark.is_none()
+    }
+
+    /// Whether more than one record waits.
+    #[inline(always)]
+    pub fn is_crowded(&self) -> bool
+        ensures { result ≡ true → 1 < length self.now.waiting.items }
+    {
+        self.waiting.len() > 1
     }
 
     /// Takes the record that has waited longest. Where none waits the end is heard, if it was set.

@@ -1,5 +1,5 @@
 //! A web whose last stage is written.
-ghost use Rattle.std.specs.Prelude.{◌≡◌, ◌≢◌, ◌≤◌, ◌<◌, ◌+◌, ◌-◌, ◌||◌, ◌^◌, ℕ, true, false};
+ghost use Rattle.std.specs.Prelude.{◌≡◌, ◌≢◌, ◌⊎◌, ◌≤◌, ◌<◌, ◌+◌, ◌-◌, ◌||◌, ◌^◌, ℕ, true, false};
 ghost use Rattle.std.specs.Prelude.{List, length, slice_set, Option, None, Some, is_some};
 ghost use Rattle.std.specs.Prelude.{IfSome, MatchOption, IfOk, IfErr};
 ghost use Rattle.hum_record.specs.Row.{Row};
@@ -13,17 +13,17 @@ ghost use Rattle.hum_turns.specs.Holds.{SomeReady};
 ghost use Rattle.hum_nodes.specs.Nodes.{StandsAs};
 ghost use Rattle.hum_engine.specs.Readers.{ShowsSame, is_read_of, is_write};
 ghost use Rattle.hum_engine.specs.Scene.{Scene, plan_of, Somewhere, IsAt, IsNetPlan, IsBegun};
-ghost use Rattle.hum_engine.specs.Scene.{held_of, HoldsFew, HasRoom, IsKind, IsOffered, HasAccepted};
-ghost use Rattle.hum_engine.specs.Scene.{WantsFrom, HasActor, IsWaiting};
+ghost use Rattle.hum_engine.specs.Scene.{held_of, HoldsFew, HasRoom, IsOffered, HasAccepted};
+ghost use Rattle.hum_engine.specs.Scene.{WantsFrom, HasActor, IsWaiting, IsCrowded, HasIdleLink};
 ghost use Rattle.hum_engine.specs.Search.{is_left};
 ghost use Rattle.hum_engine.specs.Told.{AsksNone};
 ghost use Rattle.hum_engine.specs.declared.net.Stepped.TheVariants as steps;
 ghost use Rattle.hum_engine.specs.Nets.{HasSent, MayWrite, CallsSink, SinkWent, MayGo, IsRunning, IsAmong, IsGoing};
 ghost use Rattle.hum_engine.specs.Nets.{NetAt, AtEach, AreBegun, IsNet, RunsBy, WroteFront};
 ghost use Rattle.hum_engine.specs.Nets.{MayPick, IsNext, MayAsk, HasRested, HasWorked};
-ghost use Rattle.hum_engine.specs.Nets.{HasGone, AsksLittle, turned_by, failed_by, is_over};
+ghost use Rattle.hum_engine.specs.Nets.{HasGone, AsksLittle, fault_by, turned_by, failed_by, is_over};
 ghost use Rattle.hum_engine.specs.Nets.{MayAdvance, HasAdvanced, IsCloser};
-ghost use Rattle.hum_engine.specs.Nets.{MayHand, HasHanded, HasHandedOn, MarksFailures};
+ghost use Rattle.hum_engine.specs.Nets.{MayHand, HasInHand, HasGoneAlone, HasHanded};
 
 use crate::link::Taken;
 use crate::search::Search;
@@ -73,15 +73,6 @@ enum Stepped {
     Room,
     /// The run is over.
     Over,
-}
-
-/// What has come of a stage's record that was to be handed on, and whether the run is over.
-#[derive(Clone, Copy)]
-enum Handed {
-    /// It was taken.
-    On(bool),
-    /// There was none, and the stage alone has had its turn.
-    Alone(bool),
 }
 
 impl<S: Stage + Drop, R: Source + Drop, W: Sink> Net<S, R, W> {
@@ -141,11 +132,14 @@ impl<S: Stage + Drop, R: Source + Drop, W: Sink> Net<S, R, W> {
 
     // A failed read, or running out of memory, ends the run. It happens once, so no turn has a place for it.
     #[inline(never)]
-    fn fail_to_read(&mut self, k: usize)
+    fn fail(&mut self, k: usize, error: ReadError)
         requires { k < 255 }
-        ensures { self.new ≡ record self.old { failure = Some (ends.Read (k + 1)) } }
+        ensures { self.new ≡ record self.old { failure = Some (fault_by k error) } }
     {
-        self.failure = Some(RunResult::Read((k + 1) as u8));
+        self.failure = Some(match error {
+            ReadError::Read => RunResult::Read((k + 1) as u8),
+            ReadError::Memory => RunResult::Memory,
+        });
     }
 
     #[inline(never)]
@@ -183,8 +177,7 @@ impl<S: Stage + Drop, R: Source + Drop, W: Sink> Net<S, R, W> {
                     has_taken: moved.has_taken,
                 };
             }
-            Err(ReadError::Read) => self.fail_to_read(k),
-            Err(ReadError::Memory) => self.fail_for_memory(),
+            Err(error) => self.fail(k, error),
         }
         Turned {
             link: k,
@@ -307,6 +300,27 @@ impl<S: Stage + Drop, R: Source + Drop, W: Sink> Net<S, R, W> {
         choose(&self.actors, pick)
     }
 
+    // Whether an actor's turn that has changed this link may have made ready who takes from there: not where the actor
+    // took from it, nor where other records lie in front.
+    #[inline(always)]
+    fn wakes(&self, k: usize, link: usize) -> bool
+        requires { link < length self.now.web.links.items }
+        ensures { result ≡ false → link ≡ k → IsCrowded k self.now.web }
+    {
+        link == k && !self.web.is_crowded(k)
+    }
+
+    // Whether an actor is known not to be ready behind its turn: a stage whose link is full, or the sink where nothing
+    // is left on the link that it took from.
+    #[inline(always)]
+    fn rests(&self, k: usize, turned: Turned) -> bool
+        requires { turned.link < length self.now.web.links.items }
+        ensures { result ≡ true → (turned.is_full ≡ true)
+            ⊎ ((k ≡ length self.now.web.nodes.items) × HasIdleLink turned.link self.now.web) }
+    {
+        turned.is_full || (k == self.web.count() && self.web.is_idle(turned.link))
+    }
+
     // Asks the actor that is next and, if it is ready, gives it its turn.
     #[inline(always)]
     fn step<O: Order>(&mut self, order: &mut O, search: &mut Option<Search>) -> Stepped
@@ -332,14 +346,23 @@ impl<S: Stage + Drop, R: Source + Drop, W: Sink> Net<S, R, W> {
         }
         match search {
             Some(search) => {
-                if turned.has_taken && search.is_left() {
-                    search.reach(turned.link, turned.is_full);
-                    return Stepped::Room;
-                }
-                if turned.is_full {
-                    search.skip(turned.link, &self.takers);
-                } else {
+                if search.is_left() {
+                    if turned.has_taken {
+                        search.reach(turned.link, turned.is_full);
+                        return Stepped::Room;
+                    }
+                    if turned.is_full {
+                        search.skip(turned.link);
+                    } else {
+                        search.change(turned.link, &self.takers);
+                    }
+                } else if self.wakes(actor, turned.link) {
                     search.change(turned.link, &self.takers);
+                } else {
+                    search.stay();
+                    if self.rests(actor, turned) {
+                        search.pass();
+                    }
                 }
             }
             None => {
@@ -369,73 +392,57 @@ impl<S: Stage + Drop, R: Source + Drop, W: Sink> Net<S, R, W> {
         }
     }
 
-    // The turn of a stage that has its next record at hand and, behind it, that of the stage which takes it; or
-    // nothing.
+    // The turn of a stage that may hand a record on, but that the record which it gives doesn't come to lie on its
+    // link.
     #[inline(always)]
-    fn hand_to_stage(&mut self, k: usize, taker: usize) -> Option<bool>
-        requires may { MayHand (StandsAs S.stands) W.contents W.flushed k self.old }
-        requires wants { (place : ℕ) × WantsFrom (StandsAs S.stands) taker place k self.old.web }
-        ensures handed { IfSome result (HasHandedOn (StandsAs S.stands) R.remaining
-            W.contents W.flushed k taker self.old self.new) }
-        ensures marks { IfSome result (λ is_over. MarksFailures R.failed W.failed self.old self.new) }
-        ensures turns { IfSome result (λ is_over. self.new.turns ≡ self.old.turns + 2) }
-        ensures same { result ≡ None → self.new ≡ self.old }
+    fn fetch(&mut self, k: usize) -> Option<Record>
+        requires { MayHand (StandsAs S.stands) W.contents W.flushed k self.old }
+        ensures fetched { MatchOption result
+            (HasGoneAlone (StandsAs S.stands) R.remaining R.failed W.contents W.flushed W.failed k self.old self.new)
+            (HasInHand (StandsAs S.stands) R.remaining R.failed k self.old self.new) }
+        ensures turns { self.new.turns ≡ self.old.turns + 1 }
     {
-        let row = self.web.hand_out(k)?;
-        self.turns += 2;
-        Some(self.accept(taker, row))
-    }
-
-    // The same of a source, which reads where it has no record at hand.
-    #[inline(always)]
-    fn read_to_stage(&mut self, k: usize, taker: usize) -> Handed
-        requires may { MayHand (StandsAs S.stands) W.contents W.flushed k self.old }
-        requires source { IsKind true k self.old.web }
-        requires wants { (place : ℕ) × WantsFrom (StandsAs S.stands) taker place k self.old.web }
-        ensures handed { HasHanded (StandsAs S.stands) R.remaining W.contents W.flushed k taker
-            self.old self.new result }
-        ensures marks { MarksFailures R.failed W.failed self.old self.new }
-        ensures turns { self.old.turns < self.new.turns }
-    {
+        self.turns += 1;
         match self.web.fetch(k) {
-            Ok(Some(row)) => {
-                self.turns += 2;
-                Handed::On(self.accept(taker, row))
-            }
-            Ok(None) => {
-                self.turns += 1;
-                Handed::Alone(false)
-            }
-            Err(ReadError::Read) => {
-                self.turns += 1;
-                self.fail_to_read(k);
-                Handed::Alone(true)
-            }
-            Err(ReadError::Memory) => {
-                self.turns += 1;
-                self.fail_for_memory();
-                Handed::Alone(true)
+            Ok(given) => given,
+            Err(error) => {
+                self.fail(k, error);
+                None
             }
         }
     }
 
-    // The same where it is the sink that takes from the stage. It isn't ready then.
+    // Such a turn and, behind it, that of the stage that takes the record. Tells whether the run is over; none, where
+    // there was no record.
     #[inline(always)]
-    fn hand_to_sink(&mut self, k: usize, sink: usize) -> Option<bool>
+    fn hand_to_stage(&mut self, k: usize, taker: usize) -> Option<bool>
         requires may { MayHand (StandsAs S.stands) W.contents W.flushed k self.old }
-        requires sink { sink ≡ length self.old.web.nodes.items }
-        requires last { k + 1 ≡ sink }
-        ensures handed { IfSome result (HasHandedOn (StandsAs S.stands) R.remaining
-            W.contents W.flushed k sink self.old self.new) }
-        ensures marks { IfSome result (λ is_over. MarksFailures R.failed W.failed self.old self.new) }
-        ensures turns { IfSome result (λ is_over. self.new.turns ≡ self.old.turns + 2) }
+        requires wants { (place : ℕ) × WantsFrom (StandsAs S.stands) taker place k self.old.web }
+        ensures { MatchOption result
+            (HasGoneAlone (StandsAs S.stands) R.remaining R.failed W.contents W.flushed W.failed k self.old self.new)
+            (HasHanded (StandsAs S.stands) R.remaining R.failed W.contents W.flushed W.failed k taker
+            self.old self.new) }
+    {
+        let row = self.fetch(k)?;
+        self.turns += 1;
+        Some(self.accept(taker, row))
+    }
+
+    // The same where it is the sink that takes the record. It isn't ready then.
+    #[inline(always)]
+    fn hand_to_sink(&mut self, k: usize) -> Option<bool>
+        requires may { MayHand (StandsAs S.stands) W.contents W.flushed k self.old }
+        requires last { k + 1 ≡ length self.old.web.nodes.items }
+        ensures handed { MatchOption result
+            (HasGoneAlone (StandsAs S.stands) R.remaining R.failed W.contents W.flushed W.failed k self.old self.new)
+            (HasHanded (StandsAs S.stands) R.remaining R.failed W.contents W.flushed W.failed k (k + 1)
+            self.old self.new) }
         ensures idle { IfSome result (λ is_over. AtEach (StandsAs S.stands) W.contents W.flushed self.new
             (λ start s now. ended (plan_of s) now ≡ None
-            → is_ready (plan_of s) s.size now sink ≡ false)) }
-        ensures same { result ≡ None → self.new ≡ self.old }
+            → is_ready (plan_of s) s.size now (k + 1) ≡ false)) }
     {
-        let row = self.web.hand_out(k)?;
-        self.turns += 2;
+        let row = self.fetch(k)?;
+        self.turns += 1;
         Some(self.send(row))
     }
 
@@ -471,30 +478,32 @@ impl<S: Stage + Drop, R: Source + Drop, W: Sink> Net<S, R, W> {
         }
         let sink = self.web.count();
         if k + 1 == sink {
-            let is_over = self.hand_to_sink(k, sink)?;
-            look.hand(sink, self.waits(k, is_over));
-            look.pass();
-            return Some(is_over);
+            return Some(match self.hand_to_sink(k) {
+                Some(is_over) => {
+                    look.hand(sink, self.waits(k, is_over));
+                    look.pass();
+                    is_over
+                }
+                None => {
+                    look.change(k, &self.takers);
+                    self.failure.is_some()
+                }
+            });
         }
         let taker = self.takers[k];
         if !self.web.wants_from(taker, k) {
             return None;
         }
-        if self.web.is_source(k) {
-            return Some(match self.read_to_stage(k, taker) {
-                Handed::On(is_over) => {
-                    look.hand(taker, false);
-                    is_over
-                }
-                Handed::Alone(is_over) => {
-                    look.change(k, &self.takers);
-                    is_over
-                }
-            });
-        }
-        let is_over = self.hand_to_stage(k, taker)?;
-        look.hand(taker, self.waits(k, is_over));
-        Some(is_over)
+        Some(match self.hand_to_stage(k, taker) {
+            Some(is_over) => {
+                look.hand(taker, self.waits(k, is_over));
+                is_over
+            }
+            None => {
+                look.change(k, &self.takers);
+                self.failure.is_some()
+            }
+        })
     }
 
     // From the left a stage onto whose link room has come has its turn, if it gives or reads at once: it was to be

@@ -1,7 +1,7 @@
 //! Where a run by an order that leans to a side looks for an actor that is ready.
 ghost use Rattle.std.specs.Prelude.{◌≡◌, ◌<◌, ◌-◌, ◌^◌, ℕ, Some, length, slice_get};
-ghost use Rattle.hum_engine.specs.Search.{beginning, away, outer, passed, changed, skipped, kept_behind};
-ghost use Rattle.hum_engine.specs.Search.{skipped_left, handed, reached, is_left};
+ghost use Rattle.hum_engine.specs.Search.{beginning, away, outer, passed, stayed, changed, skipped, kept_behind};
+ghost use Rattle.hum_engine.specs.Search.{handed, reached, is_left};
 
 use hum_turns::Side;
 
@@ -89,7 +89,7 @@ impl Search {
             Side::Right => takers[link],
         };
         if outer == self.from {
-            self.behind = self.kept_behind();
+            self.stay();
         } else {
             self.behind = self.from;
             self.from = outer;
@@ -131,27 +131,21 @@ impl Search {
         }
     }
 
-    /// The same of an actor that gives or reads next and whose own link is full: it isn't asked again
-    /// before a record was taken from that.
+    /// It is asked again: its turn was nothing to anyone nearer to the side.
     #[inline(always)]
-    pub fn skip(&mut self, link: usize, takers: &[usize])
-        requires from { self.old.from < 2 ^ 64 - 1 }
-        requires behind { self.old.behind < 2 ^ 64 - 1 }
-        requires link { link < length takers.now }
-        ensures skipped { (taker : ℕ) → slice_get takers.now link ≡ Some taker
-            → self.new ≡ skipped self.old link taker }
-        ensures side { self.new.side ≡ self.old.side }
+    pub fn stay(&mut self)
+        requires { self.old.from < 2 ^ 64 - 1 }
+        ensures { self.new ≡ stayed self.old }
     {
-        match self.side {
-            Side::Left => self.skip_left(link),
-            Side::Right => self.change(link, takers),
-        }
+        self.behind = self.kept_behind();
     }
 
+    /// From the left it gives or reads next and its own link is full, once it has changed this link: it isn't
+    /// asked again before a record was taken from its own.
     #[inline(always)]
-    fn skip_left(&mut self, link: usize)
+    pub fn skip(&mut self, link: usize)
         requires { self.old.behind < 2 ^ 64 - 1 }
-        ensures { self.new ≡ skipped_left self.old link }
+        ensures { self.new ≡ skipped self.old link }
     {
         if link == self.from {
             self.pass();

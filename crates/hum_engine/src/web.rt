@@ -1,7 +1,7 @@
 //! Nodes and their links.
 ghost use Rattle.std.specs.Prelude.{◌≡◌, ◌≤◌, ◌<◌, ℕ, true, false, length};
 ghost use Rattle.std.specs.Prelude.{IfSome, MatchOption, is_some, ◌-◌};
-ghost use Rattle.std.specs.Prelude.{IfOk, OnOk, Some, None};
+ghost use Rattle.std.specs.Prelude.{IfOk, OnOk, Some, None, Err};
 ghost use Rattle.hum_turns.specs.Turns.{Gives, Takes, Ends, state, can, ready};
 ghost use Rattle.hum_turns.specs.Plan.{last};
 ghost use Rattle.hum_turns.specs.Near.{touched};
@@ -13,13 +13,13 @@ ghost use Rattle.hum_nodes.specs.declared.node.Readiness.TheVariants as kinds;
 ghost use Rattle.hum_record.specs.Row.{Row};
 ghost use Rattle.hum_engine.specs.Links.{taken_of, is_some_of};
 ghost use Rattle.hum_engine.specs.declared.link.Taken.TheVariants as taken;
-ghost use Rattle.hum_engine.specs.Told.{HasTold, AsksOne, AsksNone};
+ghost use Rattle.hum_engine.specs.Told.{HasTold, HasFetched, AsksOne, AsksNone};
 ghost use Rattle.hum_engine.specs.Scene.{Scene, plan_of, Somewhere, IsAt, IsActor, MayTurn, MayAct};
-ghost use Rattle.hum_engine.specs.Scene.{IsKind, Keeps, KeepsOthers, Fed, Done, IsAbout};
+ghost use Rattle.hum_engine.specs.Scene.{IsKind, Keeps, Fed, Done, IsAbout};
 ghost use Rattle.hum_engine.specs.Scene.{IsAboutKind, IsDoing, HasActor};
 ghost use Rattle.hum_engine.specs.Scene.{IsBegun, Stands, HasStage, held_of, HasFullLink, HasRoom};
 ghost use Rattle.hum_engine.specs.Scene.{HasIdleLink, HandsOut, WantsFrom, IsOffered, HasAccepted, IsWaiting};
-ghost use Rattle.hum_engine.specs.Readers.{failed_at};
+ghost use Rattle.hum_engine.specs.Scene.{IsCrowded, IsHanding};
 
 use crate::link::{Link, Taken};
 use hum_nodes::{Node, Readiness};
@@ -112,20 +112,32 @@ impl<S: Stage + Drop, R: Source + Drop> Web<S, R> {
         gives && !self.links[k].has_room()
     }
 
-    /// A turn of a source, which changes its own link, but that the record which it gives, if it gives one,
-    /// doesn't come to lie there.
+    /// The turn of a stage that may hand a record on, but that the record which it gives, if it gives one, doesn't
+    /// come to lie on its link.
     ///
     /// # Errors
     /// A failed read, and running out of memory.
     #[inline(always)]
     pub fn fetch(&mut self, k: usize) -> Result<Option<Record>, ReadError>
+        requires at { Somewhere (IsAt (StandsAs S.stands) self.old) }
+        requires may { IsHanding (StandsAs S.stands) k self.old }
+        ensures { HasFetched (StandsAs S.stands) R.remaining R.calls R.failed k self.old self.new result }
+    {
+        if self.nodes[k].gives_ahead() {
+            return Ok(Some(self.nodes[k].take_ahead()));
+        }
+        if self.is_source(k) {
+            return self.read_next(k);
+        }
+        self.make_next(k)
+    }
+
+    // The same of a source.
+    #[inline(always)]
+    fn read_next(&mut self, k: usize) -> Result<Option<Record>, ReadError>
         requires turn { Somewhere (MayTurn (StandsAs S.stands) k self.old) }
         requires source { IsKind true k self.old }
-        ensures fetched { IfOk result (λ given. MatchOption given
-            (Fed (StandsAs S.stands) R.remaining k self.old self.new)
-            (λ row. HandsOut (StandsAs S.stands) R.remaining k row self.old self.new)) }
-        ensures links { IfOk result (λ given. IfSome given (λ row. self.new.links ≡ self.old.links)) }
-        ensures asked { AsksOne R.remaining R.calls R.failed k self.old self.new result }
+        ensures { HasFetched (StandsAs S.stands) R.remaining R.calls R.failed k self.old self.new result }
     {
         match self.nodes[k].next(&mut self.pool) {
             Some(row) => Ok(Some(row)),
@@ -140,8 +152,31 @@ impl<S: Stage + Drop, R: Source + Drop> Web<S, R> {
         }
     }
 
+    // The same of another stage.
+    #[inline(always)]
+    fn make_next(&mut self, k: usize) -> Result<Option<Record>, ReadError>
+        requires at { Somewhere (IsAt (StandsAs S.stands) self.old) }
+        requires may { IsHanding (StandsAs S.stands) k self.old }
+        requires stage { IsKind false k self.old }
+        ensures { HasFetched (StandsAs S.stands) R.remaining R.calls R.failed k self.old self.new result }
+    {
+        match self.nodes[k].take(&mut self.pool) {
+            Ok(given) => Ok(given),
+            Err(_) => Err(ReadError::Memory),
+        }
+    }
+
+    // Whether a stage is a source.
+    #[inline(always)]
+    fn is_source(&self, k: usize) -> bool
+        requires { k < length self.now.nodes.items }
+        ensures { IsKind result k self.now }
+    {
+        self.nodes[k].is_source()
+    }
+
     // A turn of a source, which changes its own link.
-    // It is `fetch` and a push; with a call of that here, a stage's turn and a source's meet again behind it, and
+    // It is `read_next` and a push; with a call of that here, a stage's turn and a source's meet again behind it, and
     // each record takes 3 % more.
     #[inline(always)]
     fn poll(&mut self, k: usize) -> Result<Moved, ReadError>
@@ -384,49 +419,40 @@ impl<S: Stage + Drop, R: Source + Drop> Web<S, R> {
         }
     }
 
-    /// Whether a stage may give a record on an idle link: it reads bytes, or has taken the record ahead that it
-    /// gives next.
+    /// Whether a stage may hand a record on: nothing lies on its link, and it reads bytes or gives next.
+    #[inline(always)]
     pub fn may_hand(&self, k: usize) -> bool
-        requires { length self.now.links.items ≡ length self.now.nodes.items }
-        ensures stage { result ≡ true → k < length self.now.nodes.items }
-        ensures idle { result ≡ true → HasIdleLink k self.now }
+        requires { Somewhere (IsAt (StandsAs S.stands) self.now) }
+        ensures { result ≡ true → IsHanding (StandsAs S.stands) k self.now }
     {
-        k < self.nodes.len()
-            && (self.nodes[k].gives_ahead() || self.nodes[k].is_source())
-            && self.links[k].is_idle()
-    }
-
-    /// Whether a stage reads bytes.
-    #[inline(always)]
-    pub fn is_source(&self, k: usize) -> bool
-        requires { k < length self.now.nodes.items }
-        ensures { IsKind result k self.now }
-    {
-        self.nodes[k].is_source()
-    }
-
-    /// The record that a stage gives next, if it has taken that ahead. It is the turn of that stage, but that
-    /// the record doesn't come to lie on its link, which is idle. Where there is none nothing changes.
-    #[inline(always)]
-    pub fn hand_out(&mut self, k: usize) -> Option<Record>
-        requires at { Somewhere (HasActor (StandsAs S.stands) k self.old) }
-        requires idle { HasIdleLink k self.old }
-        ensures ready { IfSome result (λ row. (s : Scene) → IsAt (StandsAs S.stands) self.old s
-            → MayTurn (StandsAs S.stands) k self.old s) }
-        ensures given { IfSome result (λ row.
-            HandsOut (StandsAs S.stands) R.remaining k row self.old self.new) }
-        ensures touches { IfSome result (λ row. (s : Scene) → IsActor (StandsAs S.stands) k self.old s
-            → k ≡ touched k (state (plan_of s) s.links k)) }
-        ensures links { self.new.links ≡ self.old.links }
-        ensures others { KeepsOthers k self.old self.new }
-        ensures marks { failed_at R.failed k self.new.nodes.items
-            ≡ failed_at R.failed k self.old.nodes.items }
-        ensures same { result ≡ None → self.new ≡ self.old }
-    {
-        if !self.nodes[k].gives_ahead() {
-            return None;
+        if k >= self.nodes.len() || !self.is_idle(k) {
+            return false;
         }
-        Some(self.nodes[k].take_ahead())
+        if self.is_source(k) {
+            return true;
+        }
+        match self.nodes[k].readiness() {
+            Readiness::Gives => true,
+            Readiness::Wants(_) | Readiness::Reads | Readiness::Done => false,
+        }
+    }
+
+    /// Whether several records lie on the link of a stage.
+    #[inline(always)]
+    pub fn is_crowded(&self, k: usize) -> bool
+        requires { k < length self.now.links.items }
+        ensures { result ≡ true → IsCrowded k self.now }
+    {
+        self.links[k].is_crowded()
+    }
+
+    /// Whether nothing lies there.
+    #[inline(always)]
+    pub fn is_idle(&self, k: usize) -> bool
+        requires { k < length self.now.links.items }
+        ensures { result ≡ true → HasIdleLink k self.now }
+    {
+        self.links[k].is_idle()
     }
 
     /// Whether a stage takes from this other one next.
