@@ -1,8 +1,9 @@
 -- What a web stands for after an actor has done something.
 use Rattle.std.proofs.Common.{◌≡◌, sub-one, ◌∙◌, ℕ, pred, ◌-◌, ◌<◌, true, false, List, length, Option, Some, refl, sym, ap}
-use Rattle.std.proofs.Common.{subst, arith, get_or, slice_get, slice_set, slice_index, length-set, ⊎_elim}
-use Rattle.std.proofs.lemmas.Option.{slice_get_cases, get_or_from_slice_get}
+use Rattle.std.proofs.Common.{subst, arith, get_or, slice_get, slice_set, slice_index, length-set, inl, inr}
+use Rattle.std.proofs.lemmas.Option.{get_or_from_slice_get}
 use Rattle.std.proofs.lemmas.List.{set-get_or}
+use Rattle.circular_buffer.proofs.Places.{slice_get-some}
 use Rattle.hum_record.specs.Row.{Row}
 use Rattle.hum_stage.specs.declared.faults.End.{End}
 use Rattle.hum_turns.specs.Flow.{Flow}
@@ -63,14 +64,11 @@ module _ {S R : Type 0} {stands : Node S R → List ℕ → At → Type 0} {old 
       subst (λ i. Done stands s.count (Takes i) new s) is_last
       (done_by stands s.count (Takes (n - 1)) old new s st _ _ refl (length-set old.links.items (n - 1) after)
       (did_sink s (n - 1) stands old.nodes.items old.links.items st.nodes st.links st.count link after
-      last_there goes at.reached.ok is_last)
-      en el)
+      last_there goes at.reached.ok is_last) en el)
 
   pub told_taken : {answer : Taken} → Tells link answer (λ size l. taken_of l.waiting l.mark)
       → answer ≡ taken_of (s.links (last (plan_of s))).waiting (s.links (last (plan_of s))).mark
-  told_taken {answer} tells =
-      subst (λ i. answer ≡ taken_of (s.links i).waiting (s.links i).mark) is_last
-      (tells s.size (s.links (n - 1)) (at.stand.links (n - 1) link last_there))
+  told_taken tells = rw is_last at (tells s.size (s.links (n - 1)) (at.stand.links (n - 1) link last_there))
 
   pub told_end : {answer : Option End} → Tells link answer (λ size l. l.heard)
       → answer ≡ (s.links (last (plan_of s))).heard
@@ -89,8 +87,7 @@ pub finished : {S R : Type 0} {stands : Node S R → List ℕ → At → Type 0}
 finished {S} {R} {stands} {k} {old} {new} {s} {e} {link} after may at goes en el =
     let st = may.at.stand in
     let node = node_of stands k old s may.less st in
-    done_by stands k Ends old new s st (slice_set old.nodes.items k node.0) (slice_set old.links.items k after)
-    (length-set old.nodes.items k node.0) (length-set old.links.items k after)
+    done_by stands k Ends old new s st _ _ (length-set old.nodes.items k node.0) (length-set old.links.items k after)
     (did_end stands s k s.links old.nodes.items old.links.items (λ i y o g. st.nodes i y g) st.links node.0 after e
     (done_end s s.links k e may.does) (st.nodes k node.0 node.1) (goes s.size (s.links k) (st.links k link at)))
     (en ∙ sym (set_same old.nodes.items k node.0 node.1)) el
@@ -102,10 +99,10 @@ pub keeps : {S R : Type 0} {k : ℕ} {old new : Web S R} (node : Node S R) → i
 keeps {S} {R} {k} {old} {new} node kind e = record {
   others = λ i o. ap (λ (ns : List (Node S R)). slice_get ns i) e ∙ set_other old.nodes.items k node i o;
   kind = λ x at.
-      ⊎_elim
-      (λ here. subst (λ y. is_source y ≡ false) here.1 kind)
-      (λ there. absurd (there.0 refl))
-      (set_cases old.nodes.items k node k x (ap (λ (ns : List (Node S R)). slice_get ns k) (sym e) ∙ at));
+      elim (set_cases old.nodes.items k node k x (ap (λ (ns : List (Node S R)). slice_get ns k) (sym e) ∙ at)) [
+        | inl here ↦ rw here.1 at kind
+        | inr there ↦ absurd (there.0 refl)
+      ];
 }
 
 module _ {S R : Type 0} {stands : Node S R → List ℕ → At → Type 0} {k : ℕ} {old : Web S R} {s : Scene}
@@ -125,20 +122,17 @@ module _ {S R : Type 0} {stands : Node S R → List ℕ → At → Type 0} {k : 
         let st = may.at.stand in
         let t = at_of s.kinds s.links k in
         let h = rw is at (taken (s.rests k) t (st.nodes k node at_node)) in
-        done_by stands k Gives old new s st (slice_set old.nodes.items k after)
-        (slice_set old.links.items k put) (length-set old.nodes.items k after)
-        (length-set old.links.items k put)
+        done_by stands k Gives old new s st _ _ (length-set old.nodes.items k after) (length-set old.links.items k put)
         (did_give stands s k s.links old.nodes.items old.links.items (λ i y o g. st.nodes i y g) st.links
-        after put x (sym h.0) h.1 (goes s.size (s.links k) (st.links k link at_link)))
-        en el
+        after put x (sym h.0) h.1 (goes s.size (s.links k) (st.links k link at_link))) en el
 
     -- it has something to give
     pub gives_some : (x : Row) × (o ≡ Some x)
     gives_some =
         let t = at_of s.kinds s.links k in
         let more = gives_more (plan_of s) s.links k (state_gives s s.links k may.less may.does) in
-        ⊎_elim (λ f. (f.0, (taken (s.rests k) t (may.at.stand.nodes k node at_node)).0 ∙ f.2))
-        (λ past. absurd (omega (arith, more, past.0))) (slice_get_cases (output_of t) t.given).1
+        let next = slice_get-some (output_of t) t.given more in
+        (next.0, (taken (s.rests k) t (may.at.stand.nodes k node at_node)).0 ∙ next.1)
 
 -- A stage takes from this link, at this place.
 pub record Passing {S R : Type 0} (stands : Node S R → List ℕ → At → Type 0) (k place : ℕ) (old : Web S R)
@@ -160,10 +154,8 @@ module _ {S R : Type 0} {stands : Node S R → List ℕ → At → Type 0} {k pl
         may = may;
         at = w.is_there ∙ ap Some (sym e);
         index = e;
-        lower = subst (λ j. j < k) (sym e) w.lower;
-        some = subst (λ j. has_some (s.links j) ≡ true) (sym e)
-            (sym (ap (can s.size s.links k) (state_at s s.links k may.less may.does))
-            ∙ may.can);
+        lower = rw e w.lower;
+        some = rw e (sym (ap (can s.size s.links k) (state_at s s.links k may.less may.does)) ∙ may.can);
         at_link = nth old.links.items i link (omega (arith, w.lower, may.at.stand.as_many, may.less, e)) value;
       }
 
@@ -188,9 +180,7 @@ module _ {S R : Type 0} {stands : Node S R → List ℕ → At → Type 0} {k pl
         let st = w.may.at.stand in
         has_done (state_at s s.links k w.may.less w.may.does)
         (subst (λ j. Done stands k (Takes j) new s) w.index
-        (done_by stands k (Takes i) old new s st (slice_set old.nodes.items k after)
-        (slice_set old.links.items i put) (length-set old.nodes.items k after)
-        (length-set old.links.items i put)
+        (done_by stands k (Takes i) old new s st _ _ (length-set old.nodes.items k after) (length-set old.links.items i put)
         (did_take s i stands old.nodes.items old.links.items st.nodes st.links st.count link put
         w.at_link goes k place after change w.may.at.reached.tree w.may.less w.lower w.at v
         (puts (s.rests k) (at_of s.kinds s.links k) (st.nodes k node at_node) may_take))

@@ -1,5 +1,5 @@
 -- One step behind another.
-use Rattle.std.proofs.Common.{◌≡◌, ◌∙◌, ◌||◌, ℕ, Bool, false, List, [], ◌++◌, Option, None, refl, sym, ap, subst, append_assoc}
+use Rattle.std.proofs.Common.{◌≡◌, ◌∙◌, ℕ, Bool, false, List, [], ◌++◌, Option, None, refl, sym, ap, subst, append_assoc, arith}
 use Rattle.std.proofs.Math.Path.{fun_ext}
 use Rattle.std.specs.Prelude.{is_some, IfSome}
 use Rattle.hum_record.specs.Row.{Row}
@@ -13,10 +13,10 @@ use Rattle.hum_nodes.proofs.Followed.{read_none, read_more}
 use Rattle.hum_engine.specs.declared.net.Net.{Net}
 use Rattle.hum_engine.specs.declared.search.Search.{Search}
 use Rattle.hum_engine.specs.Scene.{Scene, plan_of, before_all}
-use Rattle.hum_engine.specs.Readers.{failed_at, is_read_of, is_write, ended_at, remaining_at}
+use Rattle.hum_engine.specs.Readers.{ended_at, remaining_at}
 use Rattle.hum_engine.specs.Nets.{NetAt, IsRunning, AreOver, Sees, HasStepped, HasAdvanced, MarksFailures, MayPick, MayStep}
 use Rattle.hum_engine.specs.Nets.{MayAdvance, Leads, Watches}
-use Rattle.hum_engine.proofs.Netting.{not_over, or_false}
+use Rattle.hum_engine.proofs.Netting.{not_over}
 use Rattle.hum_engine.proofs.Running.{driven_on, no_rests, seen, unfailed_at}
 
 -- A run goes on.
@@ -118,8 +118,8 @@ module _ {S R W O : Type 0} {stands : Node S R → List ℕ → At → Type 0} {
 pub marks_none : {S R W : Type 0} {failed : R → Bool} {broken : W → Bool} {old new : Net S R W} → new ≡ old → old.failure ≡ None
     → MarksFailures failed broken old new
 marks_none {S} {R} {W} {failed} {broken} {old} {new} same none = subst (MarksFailures failed broken old) (sym same) (record {
-  reads = λ i. or_false _ ∙ ap (λ f. failed_at failed i old.web.nodes.items || is_read_of i f) (sym none);
-  writes = or_false _ ∙ ap (λ f. broken old.sink || is_write f) (sym none);
+  reads = λ i. grind (arith, none);
+  writes = grind (arith, none);
   takers = refl;
 })
 
@@ -157,10 +157,8 @@ module _ {S R W O : Type 0} {stands : Node S R → List ℕ → At → Type 0} {
         stepped = stepped_twice one.stepped two.stepped;
         leans = two.leans;
         marks = record {
-          reads = λ i. two.marks.reads i ∙ ap (λ b. b || is_read_of i new.failure)
-              (one.marks.reads i ∙ ap (λ f. failed_at failed i old.web.nodes.items || is_read_of i f) none ∙ sym (or_false _));
-          writes = two.marks.writes ∙ ap (λ b. b || is_write new.failure)
-              (one.marks.writes ∙ ap (λ f. broken old.sink || is_write f) none ∙ sym (or_false _));
+          reads = λ i. grind (arith, one.marks.reads i, two.marks.reads i, none);
+          writes = grind (arith, one.marks.writes, two.marks.writes, none);
           takers = two.marks.takers ∙ one.marks.takers;
         };
       }

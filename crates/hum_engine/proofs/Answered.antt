@@ -144,14 +144,9 @@ told_taken {S} {R} {stage} {k = k} {place} {source = source} {web = web} {new = 
             its = at;
             full = (full is).0 its.0 at;
           };
-      room = λ is. (
-        p.lower,
-        record {
-          link = put;
-          its = ap (λ ls. slice_get ls source) el ∙ set_here web.links.items source put link p.at_link;
-          room = has is;
-        },
-      );
+      room = λ is.
+          let its = ap (λ ls. slice_get ls source) el ∙ set_here web.links.items source put link p.at_link in
+          (p.lower, record { link = put; its = its; room = has is });
       read = λ h. cc;
       asked = asks_no_one (next_kind w) keep _ refl;
     }

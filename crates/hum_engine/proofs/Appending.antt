@@ -1,13 +1,12 @@
 -- A text that is written in parts.
 use Rattle.std.proofs.Common.{◌≡◌, ◌∙◌, ◌||◌, ◌≤◌, ◌+◌, ◌-◌, Bool, true, false, ℕ}
-use Rattle.std.proofs.Common.{List, [], ◌∷◌, ◌++◌, length, Option, Some, None}
+use Rattle.std.proofs.Common.{List, [], ◌++◌, length, Option, Some, None}
 use Rattle.std.proofs.Common.{refl, sym, ap, arith, ne_eqb, append_assoc, append-nil, take, drop, length-drop}
 use Rattle.std.specs.Bool.{◌==◌}
 use Rattle.std.specs.Io.KnownBytes.{Appends, Keeps}
 use Rattle.std.specs.Prelude.{Result, Ok, Err}
 use Rattle.std.proofs.lemmas.Bool.{or_right, eqb-false}
-use Rattle.std.proofs.Math.Bool.{or-false}
-use Rattle.std.proofs.lemmas.List.{take_all, take-append-drop}
+use Rattle.std.proofs.lemmas.List.{nil_from_length, take_all, take-append-drop}
 use Rattle.std.proofs.Math.Nat.{min-le_left}
 use Rattle.hum_text.specs.Calls.{counted}
 use Rattle.hum_engine.specs.Writing.{Wrote, HasWritten}
@@ -30,10 +29,6 @@ keeps_appends (Some a) (Some b) h = h ∙ sym (append-nil a)
 -- one call more is one at most
 one_call : (n m : ℕ) → m ≡ counted n → m ≤ n + 1
 one_call n m is = rw is (min-le_left (n + 1) 18446744073709551615)
-
--- a call that took bytes sets no mark
-no_mark : (f : Bool) (n : ℕ) → (n ≡ 0 → ⊥) → (f || (n == 0)) ≡ f
-no_mark f n some = rw (ne_eqb n 0 some, or-false) refl
 
 -- Some of a text was written, by calls that didn't fail, and the rest is left.
 pub record IsWriting {W : Type 0} (contents : W → Option (List ℕ)) (failed : W → Bool) (calls : W → ℕ) (old now : W)
@@ -63,39 +58,9 @@ module _ {W : Type 0} {contents : W → Option (List ℕ)} {failed : W → Bool}
           sum = rw (append_assoc, take-append-drop n rest) w.wrote.sum;
           appends = appends_trans (contents old) (contents now) (contents new) w.wrote.bytes (take n rest) w.wrote.appends appends;
         };
-        sound = marked ∙ no_mark (failed now) n some ∙ w.sound;
+        sound = grind (arith, ne_eqb n 0 some, marked, w.sound);
         few = omega (arith, length-drop n rest, w.few, one_call (calls now) (calls new) called, some, within);
       })
-
-  -- A call fails, and takes none.
-  pub gives_up : {A E : Type 0} {new : W} {e : E} → false ≡ (length rest == 0) → Appends (contents now) (contents new) []
-      → calls new ≡ counted (calls now) → failed new ≡ (failed now || true)
-      → HasWritten {A = A} contents failed calls old new text (Err e)
-  gives_up {new = new} some appends called marked = record {
-    ok = tt;
-    err = record {
-      bytes = w.wrote.bytes ++ [];
-      front = (rest, rw append-nil w.wrote.sum);
-      appends = appends_trans (contents old) (contents now) (contents new) w.wrote.bytes [] w.wrote.appends appends;
-    };
-    sound = tt;
-    marked = marked ∙ or_right (failed now) true refl;
-    few = omega (arith, w.few, one_call (calls now) (calls new) called, eqb-false (length rest) 0 (sym some));
-  }
-
-  -- Nothing is left.
-  pub all_written : {A E : Type 0} {x : A} → length rest ≡ 0 → HasWritten {E = E} contents failed calls old now text (Ok x)
-  all_written none = record {
-    ok = rw (sym w.wrote.sum) (rw (nothing rest none, append-nil) w.wrote.appends);
-    err = tt;
-    sound = w.sound;
-    marked = tt;
-    few = omega (arith, w.few);
-  }
-    where
-      nothing : (l : List ℕ) → length l ≡ 0 → l ≡ []
-      nothing [] e = refl
-      nothing (x ∷ l) e = absurd (omega (arith, e))
 
   -- Another call writes the rest.
   pub written_behind : {A E : Type 0} {new : W} {result : Result A E} → HasWritten contents failed calls now new rest result
@@ -117,6 +82,28 @@ module _ {W : Type 0} {contents : W → Option (List ℕ)} {failed : W → Bool}
     sound = tt;
     marked = h.marked;
     few = omega (arith, w.few, h.few);
+  }
+
+  -- A call fails, and takes none.
+  pub gives_up : {A E : Type 0} {new : W} {e : E} → false ≡ (length rest == 0) → Appends (contents now) (contents new) []
+      → calls new ≡ counted (calls now) → failed new ≡ (failed now || true)
+      → HasWritten {A = A} contents failed calls old new text (Err e)
+  gives_up {new = new} some appends called marked = written_behind (record {
+    ok = tt;
+    err = record { bytes = []; front = (rest, refl); appends = appends };
+    sound = tt;
+    marked = marked ∙ or_right (failed now) true refl;
+    few = omega (arith, one_call (calls now) (calls new) called, eqb-false (length rest) 0 (sym some));
+  })
+
+  -- Nothing is left.
+  pub all_written : {A E : Type 0} {x : A} → length rest ≡ 0 → HasWritten {E = E} contents failed calls old now text (Ok x)
+  all_written none = record {
+    ok = rw (sym w.wrote.sum) (rw (nil_from_length rest none, append-nil) w.wrote.appends);
+    err = tt;
+    sound = w.sound;
+    marked = tt;
+    few = omega (arith, w.few);
   }
 
 -- what is left of a text behind a call that took some bytes of it

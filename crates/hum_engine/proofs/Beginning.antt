@@ -1,9 +1,8 @@
 -- Nodes that were asked nothing yet, and links over which nothing has passed.
-use Rattle.std.proofs.Common.{◌≡◌, ◌∙◌, ◌⊎◌, ℕ, zero, suc, List, [], ◌∷◌, ◌++◌, length, Some, sym, ap, subst, inl, inr}
+use Rattle.std.proofs.Common.{◌≡◌, ◌∙◌, ◌⊎◌, ℕ, zero, suc, List, [], ◌∷◌, ◌++◌, length, Some, sym, ap, subst, inl, inr, map}
 use Rattle.std.proofs.Common.{slice_get}
 use Rattle.std.proofs.lemmas.Option.{none-some, same_Some}
 use Rattle.hum_record.specs.Row.{Row}
-use Rattle.hum_turns.specs.Flow.{so_far}
 use Rattle.hum_turns.specs.Links.{Moment, view, fresh, IsOpening}
 use Rattle.hum_nodes.specs.At.{Kind, At, fresh as fresh_at}
 use Rattle.hum_nodes.specs.declared.node.Node.{Node}
@@ -11,7 +10,7 @@ use Rattle.hum_engine.specs.declared.link.Link as port
 use Rattle.hum_engine.specs.Links.{IsLink}
 use Rattle.hum_engine.specs.declared.web.Web.{Web}
 use Rattle.hum_engine.specs.Scene.{Scene, at_of, IsBegun, Stands}
-use Rattle.hum_engine.proofs.Moving.{map_each}
+use Rattle.std.proofs.Math.Path.{fun_ext}
 
 pub push_cases : {X : Type 0} (xs : List X) (y : X) (k : ℕ) (x : X)
     → slice_get (xs ++ y ∷ []) k ≡ Some x → (slice_get xs k ≡ Some x) ⊎ (y ≡ x)
@@ -23,7 +22,7 @@ push_cases (z ∷ xs) y (suc k) x h = push_cases xs y k x h
 at_fresh : (kinds : ℕ → Kind) (m : Moment Row) → IsOpening m → (k : ℕ)
     → at_of kinds m k ≡ fresh_at (kinds k)
 at_fresh kinds m start k =
-    rw (map_each (λ i. view (m i)) (λ i. so_far []) (λ i. ap view (start i)) (kinds k).stage.sources, start k)
+    rw (ap (λ f. map f (kinds k).stage.sources) (fun_ext (λ i. ap view (start i))), start k)
 
 pub begins : {S R : Type 0} {stands : Node S R → List ℕ → At → Type 0} {size : ℕ} {web : Web S R} {s : Scene}
     → IsOpening s.links → IsBegun stands size web.nodes.items s

@@ -1,6 +1,6 @@
 -- What a stage does next, by its kind.
-use Rattle.std.proofs.Common.{◌≡◌, ◌∙◌, ℕ, Bool, true, false, List, Some, slice_get, get_or, refl, ⊎_elim, sym, ap}
-use Rattle.std.proofs.lemmas.Bool.{cases_Bool}
+use Rattle.std.proofs.Common.{◌≡◌, ◌∙◌, ℕ, Bool, true, false, List, Some, slice_get, get_or, refl, sym, ap, arith}
+use Rattle.std.proofs.lemmas.Bool.{false_from_ne_true, true_from_ne_false}
 use Rattle.hum_stage.specs.declared.faults.End.{End}
 use Rattle.hum_nodes.specs.At.{At, doing_of, readiness_of}
 use Rattle.hum_nodes.specs.declared.node.Node.{Node}
@@ -18,37 +18,19 @@ use Rattle.hum_engine.proofs.Readying.{never}
 use Rattle.hum_engine.proofs.Turning.{one_kind}
 
 pub gives_of : (d : Doing) → readiness_of d ≡ kind.Gives → d ≡ does.Gives
-gives_of does.Gives h = refl
-gives_of does.Reads h = cc
-gives_of (does.Wants p) h = cc
-gives_of (does.Done e) h = cc
+gives_of d h = grind (arith, h)
 
 reads_of : (d : Doing) → readiness_of d ≡ kind.Reads → d ≡ does.Reads
-reads_of does.Gives h = cc
-reads_of does.Reads h = refl
-reads_of (does.Wants p) h = cc
-reads_of (does.Done e) h = cc
+reads_of d h = grind (arith, h)
 
 pub wants_of : (d : Doing) (p : ℕ) → readiness_of d ≡ kind.Wants p → d ≡ does.Wants p
-wants_of does.Gives p h = cc
-wants_of does.Reads p h = cc
-wants_of (does.Wants q) p h = cc
-wants_of (does.Done e) p h = cc
+wants_of d p h = grind (arith, h)
 
 done_of : (d : Doing) → readiness_of d ≡ kind.Done → (e : End) × (d ≡ does.Done e)
 done_of does.Gives h = absurd cc
 done_of does.Reads h = absurd cc
 done_of (does.Wants p) h = absurd cc
 done_of (does.Done e) h = (e, refl)
-
-pub gives_not_reads : kind.Gives ≡ kind.Reads → ⊥
-gives_not_reads e = cc
-
-pub wants_not_reads : (p : ℕ) → kind.Wants p ≡ kind.Reads → ⊥
-wants_not_reads p e = cc
-
-pub done_not_reads : kind.Done ≡ kind.Reads → ⊥
-done_not_reads e = cc
 
 -- A stage that is about to do something of a kind is about to do that.
 module _ {S R : Type 0} {stands : Node S R → List ℕ → At → Type 0} {k : ℕ} {web : Web S R} {s : Scene}
@@ -77,14 +59,12 @@ module _ {S R : Type 0} {stage : S → Moment → Type 0} {k : ℕ} {web : Web S
 
   -- at one moment it is known whether it is a source
   says : (b : Bool) → is_source node ≡ b → readiness_at b (doing_of (at_of h.scene.kinds h.scene.links k)) ≡ r
-  says b is =
-      sym (told _ _ (h.holds.at.stand.nodes k node says_at)
-      ∙ ap (λ b. readiness_at b (doing_of (at_of h.scene.kinds h.scene.links k))) is)
+  says b is = grind (arith, told _ _ (h.holds.at.stand.nodes k node says_at), is)
 
   -- one that doesn't read isn't one, and what it does next is known whatever else the web stands for
   pub doing_is : {other : Readiness} → r ≡ other → (other ≡ kind.Reads → ⊥) → IsDoing (StandsAs stage) k web other
   doing_is is other =
-      let none = ⊎_elim (λ yes. absurd (other (sym (says true yes ∙ is)))) (λ no. no) (cases_Bool (is_source node)) in (
+      let none = false_from_ne_true _ (λ src. other (sym (says true src ∙ is))) in (
         one_kind k web says_at none,
         λ u at less.
             let here = at.stand.nodes k node says_at in
@@ -100,13 +80,9 @@ module _ {S R : Type 0} {stage : S → Moment → Type 0} {k : ℕ} {web : Web S
   pub reader_is : r ≡ kind.Reads → IsKind true k web
   reader_is e =
       let a = h.holds in
-      one_kind k web says_at
-      (⊎_elim
-      (λ yes. yes)
-      (λ no. absurd (never (record {
+      one_kind k web says_at (true_from_ne_false _ (λ isnt. never (record {
         at = a.at;
         less = a.less;
-        bytes = stage_bytes stage node (h.scene.rests k) _ no (a.at.stand.nodes k node says_at);
-        does = reads_of _ (says false no ∙ e);
+        bytes = stage_bytes stage node (h.scene.rests k) _ isnt (a.at.stand.nodes k node says_at);
+        does = reads_of _ (says false isnt ∙ e);
       })))
-      (cases_Bool (is_source node)))

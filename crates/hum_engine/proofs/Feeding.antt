@@ -1,37 +1,35 @@
 -- A turn of a source of a web.
-use Rattle.std.proofs.Common.{◌≡◌, ◌∙◌, ℕ, ◌<◌, Bool, true, false, ◌||◌, List, ◌++◌, length, Option, Some, None, refl, sym}
-use Rattle.std.proofs.Common.{ap, subst, arith, slice_get, slice_set, get_or, length-set, eq-eqb, ne_eqb, nat_lt, is_none}
-use Rattle.std.proofs.Common.{⊎_elim, inl, Result, Ok, Err}
+use Rattle.std.proofs.Common.{◌≡◌, ◌∙◌, ℕ, ◌<◌, Bool, true, false, ◌||◌, List, ◌++◌, length, Option, Some, refl, sym}
+use Rattle.std.proofs.Common.{ap, arith, slice_get, slice_set, get_or, length-set, eq-eqb, ne_eqb, nat_lt, is_none}
+use Rattle.std.proofs.Common.{inl, Result, Ok, Err}
 use Rattle.std.specs.Prelude.{IfOk, OnErr}
-use Rattle.std.proofs.lemmas.Option.{slice_get_cases, slice_get_within, same_Some}
+use Rattle.std.proofs.lemmas.Option.{slice_get_within, same_Some}
 use Rattle.std.proofs.lemmas.Bool.{cond-true, cond-false, and_parts, false≢true}
+use Rattle.circular_buffer.proofs.Places.{slice_get-some}
 use Rattle.hum_turns.specs.Links.{has_room}
 use Rattle.hum_turns.proofs.Near.{ready_reader, source_touches}
 use Rattle.hum_turns.proofs.States.{source_is}
 use Rattle.hum_stage.specs.Meaning.{Moment}
 use Rattle.hum_nodes.specs.At.{At}
 use Rattle.hum_nodes.specs.declared.node.Node.{Node}
-use Rattle.hum_read.specs.Reading.{Polled, Gave, ReadOn, Ended}
+use Rattle.hum_read.specs.Reading.{Polled}
 use Rattle.hum_nodes.specs.Nodes.{StandsAs, is_source, remaining_of, ended_of, calls_of, failed_of, stopped_of}
 use Rattle.hum_nodes.specs.Polls.{HasPolled, HasStayed, AsksAtMostOnce, is_failed_read}
 use Rattle.hum_nodes.proofs.Standing.{source_bytes}
 use Rattle.hum_stage.specs.declared.faults.End.{End}
 use Rattle.hum_read.specs.declared.ReadError.{ReadError}
-use Rattle.hum_engine.specs.Readers.{or_none}
 use Rattle.hum_engine.specs.Told.{AsksOne, HasTold}
 use Rattle.hum_engine.specs.declared.link.Link as port
 use Rattle.hum_engine.specs.Links.{room}
 use Rattle.hum_engine.specs.declared.web.Web.{Web}
-use Rattle.hum_engine.specs.Scene.{Scene, plan_of, moved, at_of, NodesStand, LinksStand, Stands, MayTurn, Fed, Somewhere}
+use Rattle.hum_engine.specs.Scene.{Scene, plan_of, at_of, Stands, MayTurn, Fed, Somewhere}
 use Rattle.hum_engine.specs.Scene.{IsKind, IsFull, HasFullLink, KeepsOthers}
 use Rattle.hum_engine.proofs.Moving.{OthersStand, nth, set_other, set_here}
 use Rattle.hum_engine.proofs.Polling.{LinkGoes, links_by, polls}
 
 as_many : (p : Polled) (links : List port.Link) (k : ℕ) (after : port.Link)
     → length (links_by p links k after) ≡ length links
-as_many (Gave row) links k after = length-set links k after
-as_many ReadOn links k after = refl
-as_many (Ended e) links k after = length-set links k after
+as_many p links k after = grind (arith, length-set links k after)
 
 -- A place that a list has is one of a scene with as many stages.
 pub within : {A : Type 0} (xs : List A) (k count : ℕ) (x : A) → length xs ≡ count → slice_get xs k ≡ Some x → k < count
@@ -56,17 +54,11 @@ module _ {S R : Type 0} (stands : Node S R → List ℕ → At → Type 0) (k : 
     (s : Scene) where
   pub node_of : k < s.count → Stands stands web s
       → (node : Node S R) × (slice_get web.nodes.items k ≡ Some node)
-  node_of less st =
-      let n = st.count in
-      ⊎_elim (λ f. (f.0, f.2)) (λ past. let p = past.0 in absurd (omega arith))
-      (slice_get_cases web.nodes.items k).1
+  node_of less st = slice_get-some web.nodes.items k (omega (arith, less, st.count))
 
   pub link_of : k < s.count → Stands stands web s
       → (link : port.Link) × (slice_get web.links.items k ≡ Some link)
-  link_of less st =
-      let n = st.as_many in
-      ⊎_elim (λ f. (f.0, f.2)) (λ past. let p = past.0 in absurd (omega arith))
-      (slice_get_cases web.links.items k).1
+  link_of less st = slice_get-some web.links.items k (omega (arith, less, st.as_many))
 
 -- A link has room where the plan's has.
 pub room_same : {S R : Type 0} {stands : Node S R → List ℕ → At → Type 0} (k : ℕ) {web : Web S R} {s : Scene} {link : port.Link}
@@ -113,10 +105,6 @@ module _ {S R : Type 0} {stage : S → Moment → Type 0} {k : ℕ} {old : Web S
     is_after : slice_get new.nodes.items k ≡ Some after
     is_after = ap (λ (ns : List (Node S R)). slice_get ns k) nodes ∙ set_here old.nodes.items k after node polled_at
 
-    shown : {B : Type 0} (none : B) (f : Node S R → B)
-        → (or_none none f (slice_get old.nodes.items k) ≡ f node) × (or_none none f (slice_get new.nodes.items k) ≡ f after)
-    shown none f = (ap (or_none none f) polled_at, ap (or_none none f) is_after)
-
     -- its link may be full
     pub source_full : {link : port.Link} (put : port.Link) → is_source after ≡ true → slice_get old.links.items k ≡ Some link
         → new.links.items ≡ slice_set old.links.items k put → HasFullLink k new → IsFull k new
@@ -146,11 +134,9 @@ module _ {S R : Type 0} {stage : S → Moment → Type 0} {k : ℕ} {old : Web S
           turns = λ s last may.
               let st = may.at.stand in
               let here : stands node (h.read ++ s.rests k) (at_of s.kinds s.links k) =
-              subst (λ r. stands node r (at_of s.kinds s.links k)) (cond-true _ _ _ (eq-eqb k k refl))
-              (st.nodes k node polled_at) in
+              rw (cond-true _ _ _ (eq-eqb k k refl)) at (st.nodes k node polled_at) in
               let others : OthersStand stands s k s.links old.nodes.items = λ i y o g.
-              subst (λ r. stands y r (at_of s.kinds s.links i)) (cond-false _ _ _ (ne_eqb i k o))
-              (st.nodes i y g) in
+              rw (cond-false _ _ _ (ne_eqb i k o)) at (st.nodes i y g) in
               let t = polls stands s k old.nodes.items old.links.items may.less after link put at_link
               others st.links may.ready p (h.polls (s.rests k) (at_of s.kinds s.links k) last here) goes in
               record {
@@ -159,8 +145,8 @@ module _ {S R : Type 0} {stage : S → Moment → Type 0} {k : ℕ} {old : Web S
                 stand = record {
                   count = ap length nodes ∙ length-set old.nodes.items k after ∙ st.count;
                   as_many = ap length links ∙ as_many p old.links.items k put ∙ st.as_many;
-                  nodes = subst (NodesStand stands (moved s t.new)) (sym nodes) t.at_nodes;
-                  links = subst (LinksStand s.size t.new) (sym links) t.at_links;
+                  nodes = rw nodes t.at_nodes;
+                  links = rw links t.at_links;
                 };
               };
         }
@@ -174,15 +160,11 @@ module _ {S R : Type 0} {stage : S → Moment → Type 0} {k : ℕ} {old : Web S
           → OnErr told (HasStayed (ended_of node) (ended_of after) (remaining_of tells node) (remaining_of tells after))
           → AsksOne tells calls failed k old new told
       asked same stays =
-          let mark = shown false (failed_of failed) in
-          let call = shown 0 (calls_of calls) in
-          let end = shown false ended_of in
-          let rest = shown None (remaining_of tells) in
           record {
             others = others_same;
-            marks = rw (mark.1, mark.0, same) (marks _ _ (turn.holds.at.stand.nodes k node polled_at));
-            once = rw (call.0, mark.0, call.1, mark.1) once;
-            stays = rw (end.0, end.1, rest.0, rest.1) stays;
+            marks = rw (is_after, polled_at, same) (marks _ _ (turn.holds.at.stand.nodes k node polled_at));
+            once = rw (is_after, polled_at) once;
+            stays = rw (is_after, polled_at) stays;
           }
 
       pub asked_ok : {A : Type 0} {x : A} {p : Polled} → r ≡ Ok p → AsksOne tells calls failed k old new (Ok x)

@@ -1,5 +1,5 @@
 -- The flags of a net's actors, once a link has changed.
-use Rattle.std.proofs.Common.{◌≡◌, ◌≢◌, ◌∙◌, ℕ, zero, suc, ◌<◌, ◌≤◌, Bool, false, List, [], ◌∷◌, map, length, Option, Some}
+use Rattle.std.proofs.Common.{◌≡◌, ◌≢◌, ◌∙◌, ℕ, zero, suc, ◌<◌, ◌≤◌, Bool, false, List, [], ◌∷◌, map, length, Some}
 use Rattle.std.proofs.Common.{None, refl, sym, ap, subst, arith, inl, inr, ⊎_elim, slice_get, slice_set, get_or, length-append}
 use Rattle.std.proofs.Common.{length-set, get_or-set_same, get_or-set_other}
 use Rattle.std.specs.List.{AllByRecursion}
@@ -7,11 +7,8 @@ use Rattle.std.proofs.lemmas.Bool.{cases_eq}
 use Rattle.std.proofs.lemmas.List.{map-append, same_lists, get_or_default}
 use Rattle.std.proofs.lemmas.Option.{none-some, same_Some}
 use Rattle.hum_record.specs.Row.{Row, text_of}
-use Rattle.hum_stage.specs.declared.faults.End.{End}
-use Rattle.hum_turns.specs.declared.result.RunResult.{RunResult}
-use Rattle.hum_turns.specs.Plan.{last}
 use Rattle.hum_turns.specs.Turns.{State, Gives, Reads, Takes, Ends, state, Step}
-use Rattle.hum_turns.specs.Failures.{Now, Turn, ended_by, result}
+use Rattle.hum_turns.specs.Failures.{Now, Turn, result}
 use Rattle.hum_turns.specs.Orders.{upto}
 use Rattle.hum_turns.specs.Near.{touched}
 use Rattle.hum_turns.proofs.Picking.{entry}
@@ -32,11 +29,10 @@ same_flags xs ys same h = same_lists xs ys same (λ j d less.
 
 set_at : (g : ℕ → Bool) (xs : List Bool) (k j : ℕ) → j < length xs → (j ≢ k → get_or xs j false ≡ g j)
     → get_or (slice_set xs k (g k)) j false ≡ g j
-set_at g xs k j less h = ⊎_elim
-    (λ (is : j ≡ k). ap (λ i. get_or (slice_set xs k (g k)) i false) is
-    ∙ get_or-set_same xs k (g k) false (omega (arith, less, is)) ∙ ap g (sym is))
-    (λ other. get_or-set_other xs k j (g k) false other ∙ h other)
-    (cases_eq j k)
+set_at g xs k j less h = elim (cases_eq j k) [
+  | inl is ↦ rw is (get_or-set_same xs k (g k) false (omega (arith, less, is)))
+  | inr other ↦ get_or-set_other xs k j (g k) false other ∙ h other
+]
 
 pub two_set : (f g : ℕ → Bool) (n k r : ℕ) → ((j : ℕ) → j < n → j ≢ k → j ≢ r → g j ≡ f j)
     → slice_set (slice_set (map f (upto n)) k (g k)) r (g r) ≡ map g (upto n)
@@ -92,11 +88,4 @@ module _ {s : Scene} {k link : ℕ} {old new : Now Row} (t : IsTurn s k link old
       (cases_eq k link)
 
   pub moves : Step (plan_of s) s.size k old.links new.links
-  moves = ⊎_elim (λ m. m.step)
-      (λ f. absurd (failed new.failure (new.links (last (plan_of s))).heard f.by f.failure t.none))
-      t.turn.turns
-    where
-      failed : (f : Option RunResult) (o : Option End) (by : RunResult) → f ≡ Some by
-          → ended_by f o ≡ None → ⊥
-      failed None o by e n = none-some by e
-      failed (Some x) o by e n = none-some x (sym n)
+  moves = ⊎_elim (λ m. m.step) (λ f. absurd (grind (arith, f.failure, t.none))) t.turn.turns

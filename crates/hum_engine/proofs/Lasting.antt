@@ -1,5 +1,5 @@
 -- A net that stands for a plan, however its bytes go on, does so after its turns.
-use Rattle.std.proofs.Common.{◌≡◌, ◌∙◌, ℕ, Bool, true, false, List, [], ◌++◌, Option, refl, sym, ap, subst}
+use Rattle.std.proofs.Common.{◌≡◌, ◌∙◌, ℕ, Bool, true, List, [], ◌++◌, Option, refl, ap, subst, arith}
 use Rattle.std.specs.Prelude.{if◌then◌else◌}
 use Rattle.std.proofs.lemmas.Bool.{cond-true}
 use Rattle.std.proofs.Math.Path.{fun_ext}
@@ -14,8 +14,7 @@ use Rattle.hum_engine.specs.Scene.{Scene, before_all}
 use Rattle.hum_engine.specs.Nets.{NetAt, IsNet, AreOver}
 
 cap_same : (b : Bool) (xs : List ℕ) → (b ≡ true → xs ≡ []) → (if b then [] else xs) ≡ xs
-cap_same true xs h = sym (h refl)
-cap_same false xs h = refl
+cap_same b xs h = grind (arith, h)
 
 -- Sources have read these bytes, and from each moment that the net stood for it has come to one.
 pub record HasGoneOn {S R W : Type 0} (stands : Node S R → List ℕ → At → Type 0)

@@ -1,7 +1,7 @@
 -- The actor that an order picks which leans to a side.
 use Rattle.std.proofs.Common.{◌≡◌, ◌∙◌, ℕ, zero, suc, ◌+◌, ◌<◌, ◌≤◌, Bool, true, false, List, [], ◌∷◌, get_or, refl, sym, ap}
-use Rattle.std.proofs.Common.{arith, ⊎_elim}
-use Rattle.std.proofs.lemmas.Bool.{false≢true, cases_Bool, cond-true, cond-false}
+use Rattle.std.proofs.Common.{arith}
+use Rattle.std.proofs.lemmas.Bool.{false≢true, false_from_ne_true, cond-true, cond-false}
 use Rattle.hum_record.specs.Row.{Row}
 use Rattle.hum_turns.specs.declared.order.Side.{Side}
 use Rattle.hum_turns.specs.declared.order.Side.TheVariants as side
@@ -16,16 +16,14 @@ use Rattle.hum_engine.proofs.Running.{some_at}
 first_by : (bs : List Bool) (k : ℕ) → get_or bs k false ≡ true
     → ((j : ℕ) → j < k → get_or bs j false ≡ false) → k ≡ first_true bs
 first_by [] k h below = absurd (false≢true h)
-first_by (true ∷ bs) zero h below = refl
-first_by (true ∷ bs) (suc k) h below = absurd (false≢true (sym (below 0 (omega arith))))
-first_by (false ∷ bs) zero h below = absurd (false≢true h)
-first_by (false ∷ bs) (suc k) h below =
-    ap suc (first_by bs k h (λ j less. below (suc j) (omega (arith, less))))
+first_by (b ∷ bs) zero h below = grind (arith, h)
+first_by (b ∷ bs) (suc k) h below =
+    let none : b ≡ false = below 0 (omega arith) in
+    rw none (ap suc (first_by bs k h (λ j less. below (suc j) (omega (arith, less)))))
 
 none_set : (bs : List Bool) → ((j : ℕ) → get_or bs j false ≡ false) → some_true bs ≡ false
 none_set [] none = refl
-none_set (true ∷ bs) none = absurd (false≢true (sym (none 0)))
-none_set (false ∷ bs) none = none_set bs (λ j. none (suc j))
+none_set (b ∷ bs) none = grind (arith, none 0, none_set bs (λ j. none (suc j)))
 
 -- A flag that is set, and none behind it.
 last_by : (bs : List Bool) (k : ℕ) → get_or bs k false ≡ true
@@ -52,12 +50,8 @@ module _ (s : Scene) (now : Now Row) {k : ℕ} (within : k ≤ s.count)
   outer_is side.Right nobody =
       let f = is_ready (plan_of s) s.size now in
       last_by (ready_list (plan_of s) s.size now) k here
-      (λ j more. ⊎_elim
-      (λ set.
-      let e = entry_is f (s.count + 1) j set in
-      absurd (false≢true (sym (nobody j (omega (arith, e.0)) more) ∙ e.1)))
-      (λ isnt. isnt)
-      (cases_Bool (get_or (ready_list (plan_of s) s.size now) j false)))
+      (λ j more. false_from_ne_true _ (λ set.
+      let e = entry_is f (s.count + 1) j set in false≢true (sym (nobody j (omega (arith, e.0)) more) ∙ e.1)))
 
   -- so it is the choice of an order that leans to that side
   pub leaning_choice : {O : Type 0} (order : Order O) (o : O) (to : Side)

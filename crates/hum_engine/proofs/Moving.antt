@@ -1,9 +1,11 @@
 -- Nodes and links after one of each has changed.
-use Rattle.std.proofs.Common.{◌≡◌, ◌≢◌, ℕ, zero, suc, ◌+◌, ◌<◌, ◌⊎◌, if◌then◌else◌, nat_eq, List, [], ◌∷◌, map, length, Some}
-use Rattle.std.proofs.Common.{slice_get, slice_set, get_or, refl, sym, ap, ◌∙◌, subst, ⊎_elim, inl, inr, arith, append_assoc}
-use Rattle.std.proofs.Common.{length-append, eq-eqb, ne_eqb}
+use Rattle.std.proofs.Common.{◌≡◌, ◌≢◌, ℕ, ◌+◌, ◌<◌, ◌⊎◌, if◌then◌else◌, nat_eq, List, [], ◌∷◌, map, length, Some}
+use Rattle.std.proofs.Common.{slice_get, slice_set, get_or, refl, sym, ap, ◌∙◌, subst, inl, inr, arith, append_assoc}
+use Rattle.std.proofs.Common.{length-append, length-set, eq-eqb, ne_eqb}
 use Rattle.std.proofs.lemmas.Bool.{cases_eq, cond-true, cond-false}
-use Rattle.std.proofs.lemmas.Option.{none-some, same_Some, slice_get_read}
+use Rattle.std.proofs.lemmas.Option.{same_Some, slice_get_read, slice_get_within}
+use Rattle.std.proofs.Math.Path.{fun_ext}
+use Rattle.circular_buffer.proofs.Places.{slice_get-set_same, slice_get-set_other}
 use Rattle.hum_record.specs.Row.{Row}
 use Rattle.hum_stage.specs.declared.faults.End.{End}
 use Rattle.hum_turns.specs.Flow.{Flow}
@@ -18,35 +20,30 @@ use Rattle.hum_engine.specs.Scene.{Scene, plan_of, moved, at_of, NodesStand, Lin
 pub set_cases : {X : Type 0} (xs : List X) (k : ℕ) (y : X) (i : ℕ) (x : X)
     → slice_get (slice_set xs k y) i ≡ Some x
     → ((i ≡ k) × (y ≡ x)) ⊎ ((i ≢ k) × (slice_get xs i ≡ Some x))
-set_cases [] k y i x h = absurd (none-some x h)
-set_cases (z ∷ xs) zero y zero x h = inl (refl, same_Some y x h)
-set_cases (z ∷ xs) zero y (suc i) x h = inr ((λ e. absurd (omega arith)), h)
-set_cases (z ∷ xs) (suc k) y zero x h = inr ((λ e. absurd (omega arith)), h)
-set_cases (z ∷ xs) (suc k) y (suc i) x h =
-    ⊎_elim (λ s. inl (ap suc s.0, s.1)) (λ o. inr ((λ e. o.0 (omega arith)), o.1))
-    (set_cases xs k y i x h)
+set_cases xs k y i x h =
+    let within = slice_get_within (slice_set xs k y) i x h in
+    elim (cases_eq i k) [
+      | inl is ↦
+          let put = slice_get-set_same xs k y (omega (arith, within, length-set xs k y, is)) in
+          inl (is, same_Some y x (sym put ∙ rw is at h))
+      | inr other ↦ inr (other, sym (slice_get-set_other xs k i y other) ∙ h)
+    ]
 
 pub set_other : {X : Type 0} (xs : List X) (k : ℕ) (y : X) (i : ℕ) → i ≢ k
     → slice_get (slice_set xs k y) i ≡ slice_get xs i
-set_other [] k y i o = refl
-set_other (x ∷ xs) zero y zero o = absurd (o refl)
-set_other (x ∷ xs) zero y (suc i) o = refl
-set_other (x ∷ xs) (suc k) y zero o = refl
-set_other (x ∷ xs) (suc k) y (suc i) o = set_other xs k y i (λ e. o (ap suc e))
+set_other xs k y i o = slice_get-set_other xs k i y o
 
 pub set_here : {X : Type 0} (xs : List X) (k : ℕ) (y x : X) → slice_get xs k ≡ Some x
     → slice_get (slice_set xs k y) k ≡ Some y
-set_here [] k y x h = absurd (none-some x h)
-set_here (z ∷ xs) zero y x h = refl
-set_here (z ∷ xs) (suc k) y x h = set_here xs k y x h
+set_here xs k y x h = slice_get-set_same xs k y (slice_get_within xs k x h)
 
 -- where something stood something stands
 pub set_there : {X : Type 0} (xs : List X) (i k : ℕ) (y x : X) → slice_get xs k ≡ Some x
     → (z : X) × (slice_get (slice_set xs i y) k ≡ Some z)
-set_there xs i k y x h = ⊎_elim
-    (λ (is : k ≡ i). (y, ap (slice_get (slice_set xs i y)) is ∙ set_here xs i y x (ap (slice_get xs) (sym is) ∙ h)))
-    (λ other. (x, set_other xs i y k other ∙ h))
-    (cases_eq k i)
+set_there xs i k y x h = elim (cases_eq k i) [
+  | inl is ↦ (y, rw is (set_here xs i y x (rw is at h)))
+  | inr other ↦ (x, set_other xs i y k other ∙ h)
+]
 
 pub nth : {X : Type 0} (xs : List X) (i : ℕ) (x : X) → i < length xs → x ≡ get_or xs i x
     → slice_get xs i ≡ Some x
@@ -77,23 +74,18 @@ pub at_same : (kinds : ℕ → Kind) (old new : Moment Row) (i : ℕ)
     → given (new i) ≡ given (old i) → at_of kinds new i ≡ at_of kinds old i
 at_same kinds old new i a r g = rw (a, r, g)
 
-pub map_each : {A B : Type 0} (f g : A → B) → ((s : A) → f s ≡ g s) → (ss : List A)
-    → map f ss ≡ map g ss
-map_each f g h [] = refl
-map_each f g h (s ∷ ss) = rw (h s, map_each f g h ss)
-
 -- what a link shows that was changed, and others, where that shows the same
 pub shows_same : {R A : Type 0} (f : Link R → A) {l : Link R} {old new : ℕ → Link R} {k : ℕ} → Becomes k l old new
     → f l ≡ f (old k) → (i : ℕ) → f (new i) ≡ f (old i)
-shows_same {R} {A} f {l} {old} {new} {k} d e i =
-    ⊎_elim (λ h. subst (λ j. f (new j) ≡ f (old j)) (sym h) (ap f d.here ∙ e)) (λ o. ap f (d.elsewhere i o)) (cases_eq i k)
+shows_same f {k = k} d e i =
+    elim (cases_eq i k) [ inl here ↦ rw (here, d.here) e | inr other ↦ ap f (d.elsewhere i other) ]
 
 -- where one link changes but its reader's view doesn't, each stage has its inputs
 pub ins_same : (kinds : ℕ → Kind) (l : Link Row) (old new : Moment Row) (k : ℕ)
     → Becomes k l old new → view l ≡ view (old k) → (i : ℕ)
     → ins_of kinds new i ≡ ins_of kinds old i
 ins_same kinds l old new k d v i =
-    map_each (λ s. view (new s)) (λ s. view (old s)) (shows_same view d v) (kinds i).stage.sources
+    ap (λ f. map f (kinds i).stage.sources) (fun_ext (shows_same view d v))
 
 -- the node of the link that changed
 pub at_here : (kinds : ℕ → Kind) (l : Link Row) (old new : Moment Row) (k : ℕ)
@@ -111,11 +103,7 @@ module _ {N : Type 0} (stands : N → List ℕ → At → Type 0) (s : Scene) wh
       → stands node (s.rests k) (at_of s.kinds m k)
       → NodesStand stands (moved s m) (slice_set nodes k node)
   nodes_set m nodes k node h n i x at =
-      ⊎_elim
-      (λ here. subst (λ y. stands y (s.rests i) (at_of s.kinds m i)) here.1
-      (subst (λ j. stands node (s.rests j) (at_of s.kinds m j)) (sym here.0) n))
-      (λ there. h i x there.0 there.1)
-      (set_cases nodes k node i x at)
+      elim (set_cases nodes k node i x at) [ inl here ↦ rw (here.0, sym here.1) n | inr there ↦ h i x there.0 there.1 ]
 
   pub others_kept : (l : Link Row) (old new : Moment Row) (nodes : List N) (k : ℕ)
       → Becomes k l old new → view l ≡ view (old k)
@@ -128,11 +116,10 @@ pub links_set : (size : ℕ) (l : Link Row) (old new : Moment Row) (links : List
     (link : port.Link) → LinksStand size old links → IsLink size link l → Becomes k l old new
     → LinksStand size new (slice_set links k link)
 links_set size l old new links k link h p d i x at =
-    ⊎_elim
-    (λ here. subst (λ y. IsLink size y (new i)) here.1
-    (subst (λ j. IsLink size link (new j)) (sym here.0) (subst (IsLink size link) (sym d.here) p)))
-    (λ there. subst (IsLink size x) (sym (d.elsewhere i there.0)) (h i x there.1))
-    (set_cases links k link i x at)
+    elim (set_cases links k link i x at) [
+      | inl here ↦ rw (here.0, sym here.1, d.here) p
+      | inr there ↦ rw (d.elsewhere i there.0) (h i x there.1)
+    ]
 
 -- a source has read: its link is as it was
 pub links_read : (size : ℕ) (old new : Moment Row) (links : List port.Link) (k n : ℕ)

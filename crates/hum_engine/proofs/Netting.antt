@@ -1,8 +1,9 @@
 -- A turn of a net.
-use Rattle.std.proofs.Common.{◌≡◌, ◌≢◌, ◌⊎◌, ◌∙◌, ℕ, ◌+◌, ◌<◌, ◌≤◌, Bool, true, false, ◌&&◌, ◌||◌, if◌then◌else◌, nat_eq, pred}
+use Rattle.std.proofs.Common.{◌≡◌, ◌≢◌, ◌⊎◌, ◌∙◌, ℕ, ◌+◌, ◌<◌, ◌≤◌, Bool, true, false, ◌&&◌, if◌then◌else◌, nat_eq, pred}
 use Rattle.std.proofs.Common.{List, [], ◌∷◌, ◌++◌, length, slice_get, append-nil, length-append, Option, Some, None, is_none}
-use Rattle.std.proofs.Common.{refl, sym, ap, subst, ⊎_elim, inl, inr, arith, eq-eqb, ne_eqb}
+use Rattle.std.proofs.Common.{refl, sym, ap, subst, inl, inr, arith}
 use Rattle.std.proofs.lemmas.Bool.{and_parts, false≢true, cases_eq}
+use Rattle.std.proofs.lemmas.Bool.Decides.{nat_tests}
 use Rattle.std.proofs.lemmas.Option.{none-some}
 use Rattle.std.proofs.Math.Path.{fun_ext}
 use Rattle.std.specs.Io.KnownBytes.{Appends}
@@ -15,13 +16,13 @@ use Rattle.hum_turns.specs.Plan.{last}
 use Rattle.hum_turns.specs.Links.{Moment}
 use Rattle.hum_turns.specs.Turns.{is_source, ready, Step, Takes}
 use Rattle.hum_turns.specs.Text.{text}
-use Rattle.hum_turns.specs.Failures.{Now, ended_by, MayFail, Moves, Fails, Turn, is_ready, result, written}
+use Rattle.hum_turns.specs.Failures.{Now, MayFail, Moves, Fails, Turn, is_ready, result, written}
 use Rattle.hum_turns.proofs.Writing.{walk_going, walk_more}
 use Rattle.hum_turns.proofs.Near.{step_taken, step_heard, step_does, ready_sink}
 use Rattle.hum_turns.proofs.States.{sink_state, last_less, source_is}
 use Rattle.hum_nodes.specs.At.{At}
 use Rattle.hum_nodes.specs.declared.node.Node.{Node}
-use Rattle.hum_nodes.specs.Nodes.{StandsAs, ended_of, remaining_of}
+use Rattle.hum_nodes.specs.Nodes.{StandsAs, ended_of}
 use Rattle.hum_nodes.specs.Polls.{HasRead, HasStayed}
 use Rattle.hum_nodes.proofs.Followed.{read_once, read_none, read_stayed}
 use Rattle.hum_nodes.proofs.Standing.{source_bytes}
@@ -44,18 +45,8 @@ source_here stage k web s at less kind =
 
 -- What a result tells that isn't there.
 
-none_ended : (f : Option RunResult) (o : Option End) → ended_by f o ≡ None → (f ≡ None) × (o ≡ None)
-none_ended None None e = (refl, refl)
-none_ended None (Some x) e = absurd (none-some _ (sym e))
-none_ended (Some x) o e = absurd (none-some x (sym e))
-
-some_ended : (o : Option End) → is_some o ≡ is_some (ended_by None o)
-some_ended None = refl
-some_ended (Some e) = refl
-
 pub none_by : {A : Type 0} (o : Option A) → is_none o ≡ true → o ≡ None
-none_by None e = refl
-none_by (Some x) e = absurd (false≢true e)
+none_by o e = grind (arith, e)
 
 module _ {S R W : Type 0} {stands : Node S R → List ℕ → At → Type 0} {contents : W → Option (List ℕ)} {flushed : W → Bool}
     {start : Option (List ℕ)} {s : Scene} {net : Net S R W} {now : Now Row}
@@ -78,10 +69,10 @@ module _ {S R W : Type 0} {stands : Node S R → List ℕ → At → Type 0} {co
   -- While the run goes on.
   module _ (none : result (plan_of s) now ≡ None) where
     pub unfailed_at : now.failure ≡ None
-    unfailed_at = (none_ended now.failure (now.links (last (plan_of s))).heard none).0
+    unfailed_at = grind (arith, none)
 
     pub unheard_at : (now.links (last (plan_of s))).heard ≡ None
-    unheard_at = (none_ended now.failure (now.links (last (plan_of s))).heard none).1
+    unheard_at = grind (arith, none)
 
     pub at_now : IsAt stands net.web (moved s now.links)
     at_now = web_at unfailed_at
@@ -105,12 +96,6 @@ module _ {S R W : Type 0} {stands : Node S R → List ℕ → At → Type 0} {co
     }
 
 -- The same with all arguments.
-
-pub running : {S R W : Type 0} (stands : Node S R → List ℕ → At → Type 0) (contents : W → Option (List ℕ)) (flushed : W → Bool)
-    (start : Option (List ℕ)) (s : Scene) (net : Net S R W) (now : Now Row) → NetAt stands contents flushed start s net now
-    → now.failure ≡ None → IsAt stands net.web (moved s now.links)
-running stands contents flushed start s net now h none = web_at h none
-
 module _ {S R W : Type 0} (stands : Node S R → List ℕ → At → Type 0)
     (contents : W → Option (List ℕ)) (flushed : W → Bool) (start : Option (List ℕ)) (s : Scene)
     (net : Net S R W) (now : Now Row) (k : ℕ) (h : NetAt stands contents flushed start s net now) where
@@ -131,21 +116,16 @@ module _ {S R W : Type 0} (stands : Node S R → List ℕ → At → Type 0)
 -- The bytes of one source alone.
 
 only_at : (k : ℕ) (read : List ℕ) → only k read k ≡ read
-only_at k read = ap (λ b. if b then read else []) (eq-eqb k k refl)
+only_at k read = grind (arith, nat_tests)
 
 only_else : (k : ℕ) (read : List ℕ) (i : ℕ) → i ≢ k → only k read i ≡ []
-only_else k read i o = ap (λ b. if b then read else []) (ne_eqb i k o)
+only_else k read i o = grind (arith, nat_tests, o)
 
 only_none : (k i : ℕ) → only k [] i ≡ []
-only_none k i = by (nat_eq i k)
-  where
-    by : (b : Bool) → ◌≡◌ {A = List ℕ} (if b then [] else []) []
-    by true = refl
-    by false = refl
+only_none k i = grind arith
 
 only_before : (b : Bool) (read rest : List ℕ) → (if b then read else []) ++ rest ≡ (if b then read ++ rest else rest)
-only_before true read rest = refl
-only_before false read rest = refl
+only_before b read rest = grind arith
 
 nothing_more : {S R : Type 0} {stands : Node S R → List ℕ → At → Type 0} (k : ℕ) {web : Web S R} (s : Scene) (m : Moment Row)
     → Stands stands web (moved (before_all (only k []) s) m) → Stands stands web (moved s m)
@@ -210,7 +190,7 @@ module _ {S R W : Type 0} {stands : Node S R → List ℕ → At → Type 0} {co
       (record old { web = web; sink = sink; turns = old.turns + 1; failure = None }) is_over
   goes to sent step stand appends taken over tells = turned_to (record { links = to; part = []; failure = None }) sent
       (inl (record { step = step; part = refl; failure = refl })) (λ e. stand) appends (append-nil _ ∙ taken) (λ e none. over e)
-      (tells ∙ some_ended (to (last (plan_of s))).heard)
+      (grind (arith, tells))
 
   -- or fails
   fails : (by : RunResult) (part : List ℕ) → k ≤ s.count → MayFail (plan_of s) k text_of now.links by part
@@ -228,11 +208,10 @@ module _ {S R : Type 0} (tells : R → Option (List ℕ)) (k : ℕ) (old new : W
     (remaining_at tells k new.nodes.items) read) where
   read_by : (i : ℕ) → HasRead (ended_at i old.nodes.items) (ended_at i new.nodes.items) (remaining_at tells i old.nodes.items)
       (remaining_at tells i new.nodes.items) (only k read i)
-  read_by i = ⊎_elim
-      (λ (is : i ≡ k). rw (is, only_at k read) here)
-      (λ (o : i ≢ k). rw (others i o, only_else k read i o)
-      (read_none (ended_at i old.nodes.items) (remaining_at tells i old.nodes.items)))
-      (cases_eq i k)
+  read_by i = elim (cases_eq i k) [
+    | inl is ↦ rw (is, only_at k read) here
+    | inr other ↦ rw (others i other, only_else k read i other) (read_none _ _)
+  ]
 
 -- What a stage's turn comes to that fails or doesn't.
 abbrev pub ComesTo : {S R : Type 0} → (Node S R → List ℕ → At → Type 0) → (R → Option (List ℕ)) → ℕ → Web S R → Web S R
@@ -252,8 +231,7 @@ module _ {S R W : Type 0} {stands : Node S R → List ℕ → At → Type 0} {te
   stage_turned None other others f = record {
     reads = only k f.read;
     others = only_else k f.read;
-    read = read_by tells k old.web web others f.read (rw (f.was, f.is) (read_once (ended_of f.node) (ended_of f.after)
-        (remaining_of tells f.node) (remaining_of tells f.after) f.read f.consumes f.at_end f.still));
+    read = read_by tells k old.web web others f.read (rw (f.was, f.is) (read_once _ _ _ _ f.read f.consumes f.at_end f.still));
     turns = λ start s now over h within r.
         let none = ready_result h k r in
         let less : k < s.count = omega (arith, within, (at_now h none).stand.count, other) in
@@ -285,33 +263,28 @@ module _ {S R W : Type 0} {stands : Node S R → List ℕ → At → Type 0} {te
       → ((i : ℕ) → ShowsSame tells calls failed old.web.nodes.items web.nodes.items i)
       → HasTurned stands tells contents flushed k old
       (record old { web = web; sink = sink; turns = old.turns + 1; failure = failure }) is_over
-  sink_turned {calls} {failed} {sink} {is_over} failure here went shows = record {
+  sink_turned {sink = sink} None here went shows = record {
     reads = only k [];
     others = only_else k [];
     read = λ i. shows_read k i (shows i) (only_none k i);
     turns = λ start s now over h within r.
         let is : k ≡ s.count = here ∙ (at_now h (ready_result h k r)).stand.count in
-        so failure start s now h r is (went (moved (before_all (only k []) s) now.links) (may_write h k r (omega (arith, is))));
+        let t = went (moved (before_all (only k []) s) now.links) (may_write h k r (omega (arith, is))) in
+        goes s k [] h r web sink t.done.new t.sent
+        (step_does (plan_of s) s.size k (Takes (last (plan_of s))) now.links t.done.new
+        (omega (arith, is)) (ready_now h k r) (sink_state (plan_of s) now.links k (omega (arith, is))) (λ e. cc) t.done.does)
+        (nothing_more k s t.done.new t.done.stand) t.appends t.taken t.over t.tells;
   }
-    where
-      so : (failure : Option RunResult) (start : Option (List ℕ)) (s : Scene) (now : Now Row)
-          → NetAt stands contents flushed start (before_all (only k []) s) old now
-          → is_ready (plan_of s) s.size now k ≡ true → k ≡ s.count
-          → SinkWent stands failure (contents old.sink) (contents sink) (flushed sink) is_over web
-          (moved (before_all (only k []) s) now.links)
-          → GoesTo stands contents flushed start s k now
-          (record old { web = web; sink = sink; turns = old.turns + 1; failure = failure }) is_over
-      so None start s now h r is t =
-          goes s k [] h r web sink t.done.new t.sent
-          (step_does (plan_of s) s.size k (Takes (last (plan_of s))) now.links t.done.new
-          (omega (arith, is)) (ready_now h k r) (sink_state (plan_of s) now.links k (omega (arith, is))) (λ e. cc) t.done.does)
-          (nothing_more k s t.done.new t.done.stand) t.appends t.taken t.over t.tells
-      so (Some by) start s now h r is t = rw t.1 (fails s k [] h r web sink by t.0.part (omega (arith, is))
-          (subst (λ i. MayFail (plan_of s) i text_of now.links by t.0.part) (sym is) t.0.may) t.0.appends)
-
-pub or_false : (b : Bool) → b ≡ (b || false)
-or_false true = refl
-or_false false = refl
+  sink_turned {sink = sink} (Some by) here went shows = record {
+    reads = only k [];
+    others = only_else k [];
+    read = λ i. shows_read k i (shows i) (only_none k i);
+    turns = λ start s now over h within r.
+        let is : k ≡ s.count = here ∙ (at_now h (ready_result h k r)).stand.count in
+        let t = went (moved (before_all (only k []) s) now.links) (may_write h k r (omega (arith, is))) in
+        rw t.1 (fails s k [] h r web sink by t.0.part (omega (arith, is))
+        (subst (λ i. MayFail (plan_of s) i text_of now.links by t.0.part) (sym is) t.0.may) t.0.appends);
+  }
 
 -- How a run ended.
 
@@ -321,8 +294,7 @@ none_of (Some x) h = absurd (h x refl)
 
 -- told by a test
 pub not_over : {A : Type 0} {b : Bool} (o : Option A) → b ≡ is_some o → b ≡ false → o ≡ None
-not_over None e t = refl
-not_over (Some x) e t = absurd (false≢true (sym t ∙ e))
+not_over o e t = grind (arith, e, t)
 
 pub has_told : {A : Type 0} {b : Bool} (o : Option A) (r : A) → b ≡ is_some o → b ≡ true
     → ((by : A) → o ≡ Some by → r ≡ by) → o ≡ Some r
@@ -345,9 +317,5 @@ module _ {S R W : Type 0} (stands : Node S R → List ℕ → At → Type 0)
       sym (a.links (last (plan_of s)) l.0 l.1).heard
       ∙ (b.links (last (plan_of t)) l.0 (ap (slice_get net.web.links.items) (sym same) ∙ l.1)).heard
 
-  by_failure : (f : Option RunResult) → net.failure ≡ f → result (plan_of s) now ≡ result (plan_of t) one
-  by_failure None e = rw (sym h.failure ∙ e, sym i.failure ∙ e) (ap (ended_by None) (heard_alike e))
-  by_failure (Some x) e = rw (sym h.failure ∙ e, sym i.failure ∙ e) refl
-
   pub ends_alike : result (plan_of s) now ≡ result (plan_of t) one
-  ends_alike = by_failure net.failure refl
+  ends_alike = grind (arith, h.failure, i.failure, heard_alike)

@@ -2,7 +2,7 @@
 use Rattle.std.proofs.Common.{◌≡◌, ◌≢◌, ◌∙◌, ℕ, zero, suc, ◌+◌, ◌<◌, ◌≤◌, ◌⊎◌, List, [], ◌∷◌, length, Some}
 use Rattle.std.proofs.Common.{refl, sym, ap, subst, arith, inl, inr, ⊎_elim, slice_get, slice_set, length-set}
 use Rattle.std.proofs.lemmas.Bool.{cases_eq}
-use Rattle.std.proofs.lemmas.Option.{same_Some}
+use Rattle.std.proofs.lemmas.Option.{none-some, same_Some}
 use Rattle.hum_turns.specs.Plan.{last}
 use Rattle.hum_turns.specs.Near.{IsOneOf}
 use Rattle.hum_turns.proofs.States.{last_next}
@@ -20,10 +20,7 @@ length-set_each (place ∷ places) k list =
 set_each_cases : (places : List ℕ) (k : ℕ) (list : List ℕ) (t r : ℕ)
     → slice_get (set_each places k list) t ≡ Some r
     → (IsOneOf places t × (k ≡ r)) ⊎ ((IsOneOf places t → ⊥) × (slice_get list t ≡ Some r))
-set_each_cases [] k list t r h = inr ((λ one. none one.0 one.1), h)
-  where
-    none : (place : ℕ) → slice_get [] place ≡ Some t → ⊥
-    none place e = cc
+set_each_cases [] k list t r h = inr ((λ one. none-some t one.1), h)
 set_each_cases (place ∷ places) k list t r h = ⊎_elim
     (λ hit. inl ((suc hit.0.0, hit.0.1), hit.1))
     (λ miss. ⊎_elim

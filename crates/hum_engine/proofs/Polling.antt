@@ -1,20 +1,20 @@
 -- A turn of a source.
-use Rattle.std.proofs.Common.{◌≡◌, ℕ, ◌<◌, ◌≤◌, Bool, true, false, if◌then◌else◌, nat_lt, List, length, Some, slice_get}
-use Rattle.std.proofs.Common.{slice_set, slice_index, refl, sym, ap, ◌∙◌, subst, ⊎_elim, inl, arith, lt-ltb}
+use Rattle.std.proofs.Common.{◌≡◌, ℕ, ◌<◌, ◌≤◌, true, List, Some, slice_get}
+use Rattle.std.proofs.Common.{slice_set, slice_index, refl, sym, ◌∙◌, subst, ⊎_elim, inl, arith, lt-ltb}
 use Rattle.std.proofs.lemmas.Bool.{cond-true}
 use Rattle.std.proofs.lemmas.Option.{slice_get_within}
 use Rattle.hum_record.specs.Row.{Row}
 use Rattle.hum_stage.specs.declared.faults.End.{End}
-use Rattle.hum_turns.specs.Plan.{Want, Bytes, Source, Nothing, end_of}
-use Rattle.hum_turns.specs.Links.{Moment, given}
-use Rattle.hum_turns.specs.Turns.{State, Gives, Reads, Takes, Ends, by_want, state, ready, Step, HasRead, ReadsAndDoes, Turns}
+use Rattle.hum_turns.specs.Plan.{end_of}
+use Rattle.hum_turns.specs.Links.{Moment}
+use Rattle.hum_turns.specs.Turns.{State, Gives, Reads, Takes, Ends, state, ready, Step}
 use Rattle.hum_turns.specs.Turns.{pushed}
 use Rattle.hum_turns.proofs.States.{state_is}
 use Rattle.hum_turns.proofs.Near.{step_does, step_reads}
 use Rattle.hum_nodes.specs.Doing.{Doing}
 use Rattle.hum_nodes.specs.Doing as does
 use Rattle.hum_read.specs.Reading.{Polled, Gave, ReadOn, Ended}
-use Rattle.hum_nodes.specs.At.{At, doing_by, doing_of, output_of, read_to}
+use Rattle.hum_nodes.specs.At.{At, doing_of, output_of, read_to}
 use Rattle.hum_nodes.specs.Polls.{GoesOn, PollsBy, Polls}
 use Rattle.hum_engine.specs.declared.link.Link as port
 use Rattle.hum_engine.specs.Links.{Goes}
@@ -30,46 +30,18 @@ state_for ss does.Reads = Reads
 state_for ss (does.Wants p) = Takes (slice_index ss p)
 state_for ss (does.Done e) = Ends
 
-states_agree : (ss : List ℕ) (b : Bool) (w : Want) (e : End)
-    → state_for ss (if b then does.Gives else doing_by w e) ≡ (if b then Gives else by_want ss w)
-states_agree ss true w e = refl
-states_agree ss false Bytes e = refl
-states_agree ss false (Source j) e = refl
-states_agree ss false Nothing e = refl
-
-state_when : (s : Scene) (m : Moment Row) (k : ℕ) → k < s.count
-    → state (plan_of s) m k ≡ state_for (s.kinds k).stage.sources (doing_of (at_of s.kinds m k))
-state_when s m k less =
-    let st = (s.kinds k).stage in
-    let a = ins_of s.kinds m k in
-    state_is (plan_of s) m k less
-    ∙ sym (states_agree st.sources
-    (nat_lt (length (given (m k))) (length (st.output (m k).read a)))
-    (st.wants (m k).read a) (end_of st (m k).read a))
-
 module _ (s : Scene) (m : Moment Row) (k : ℕ) where
   pub state_at : {d : Doing} → k < s.count → doing_of (at_of s.kinds m k) ≡ d
       → state (plan_of s) m k ≡ state_for (s.kinds k).stage.sources d
-  state_at less e = state_when s m k less ∙ ap (state_for (s.kinds k).stage.sources) e
+  state_at less e = grind (arith, state_is (plan_of s) m k less, e)
 
   pub state_gives : k < s.count → doing_of (at_of s.kinds m k) ≡ does.Gives → state (plan_of s) m k ≡ Gives
   state_gives less e = state_at less e
 
-done_cases : (b : Bool) (w : Want) (e f : End)
-    → (if b then does.Gives else doing_by w e) ≡ does.Done f → f ≡ e
-done_cases true w e f h = cc
-done_cases false Bytes e f h = cc
-done_cases false (Source j) e f h = cc
-done_cases false Nothing e f h = cc
-
 pub done_end : (s : Scene) (m : Moment Row) (k : ℕ) (f : End)
     → doing_of (at_of s.kinds m k) ≡ does.Done f
     → f ≡ end_of (s.kinds k).stage (m k).read (ins_of s.kinds m k)
-done_end s m k f h =
-    let st = (s.kinds k).stage in
-    let a = ins_of s.kinds m k in
-    done_cases (nat_lt (length (given (m k))) (length (st.output (m k).read a)))
-    (st.wants (m k).read a) (end_of st (m k).read a) f h
+done_end s m k f h = grind (arith, h)
 
 -- What a source makes of what it has read.
 
@@ -152,27 +124,18 @@ module _ {N : Type 0} (stands : N → List ℕ → At → Type 0) (s : Scene) (k
         → Turned stands s k (slice_set nodes k node) links
     reads_only n more less_than e h =
         let r = has_read stands s k s.links nodes links others hl n in
-        let reads : HasRead (plan_of s) k s.links r.mid = record {
-          upto = n;
-          more = more;
-          within = omega (arith, less_than);
-          becomes = r.becomes;
-        } in
-        let turns : ReadsAndDoes (plan_of s) k s.links r.mid = record {
-          between = r.mid;
-          reads = reads;
-          does = inl (less_than, λ i. refl);
-        } in
         record {
           new = r.mid;
           step = record {
             within = omega (arith, less);
             is_ready = is_ready;
-            turns = subst (λ d. Turns (plan_of s) k d s.links r.mid)
-                (sym (state_at s s.links k less e)) turns;
+            turns = rw (state_at s s.links k less e) (record {
+              between = r.mid;
+              reads = record { upto = n; more = more; within = omega (arith, less_than); becomes = r.becomes };
+              does = inl (less_than, λ i. refl);
+            });
           };
-          at_nodes = nodes_set stands s r.mid nodes k node r.near
-              (subst (stands node (s.rests k)) (sym r.at) h);
+          at_nodes = nodes_set stands s r.mid nodes k node r.near (subst (stands node (s.rests k)) (sym r.at) h);
           at_links = r.at_links;
         }
 

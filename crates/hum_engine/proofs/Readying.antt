@@ -1,6 +1,6 @@
 -- What a web tells of who is ready.
 use Rattle.std.proofs.Common.{◌≡◌, ◌∙◌, ℕ, ◌<◌, Bool, true, false, List, length, Some, ◌&&◌, is_none, is_some, ◌||◌, nat_lt}
-use Rattle.std.proofs.Common.{None, sym, ap, ap₂, subst, arith, slice_get, slice_index, get_or}
+use Rattle.std.proofs.Common.{None, sym, ap, ap₂, arith, slice_get, slice_index, get_or}
 use Rattle.hum_turns.specs.Links.{has_room, has_some}
 use Rattle.hum_turns.specs.Turns.{state, can, ready}
 use Rattle.hum_turns.proofs.Near.{ready_reader}
@@ -50,13 +50,9 @@ module _ {S R : Type 0} {stands : Node S R → List ℕ → At → Type 0} {k : 
         → b ≡ can s.size s.links k (state (plan_of s) s.links k)
     some_takes {link} a e value tells =
         let takes = state_at s s.links k a.less a.does in
-        let unheard : (s.links i).heard ≡ None =
-        subst (λ j. (s.links j).heard ≡ None) (sym e)
-        (wanted (plan_of s) a.at.reached.ok s.links k (slice_index (s.kinds k).stage.sources place) a.less takes).unheard in
-        tells s.size (s.links i) (a.at.stand.links i link (nth web.links.items i link (within_links a e) value))
-        ∙ sym (ap (λ o. is_none o && (nat_lt 0 (length (s.links i).waiting) || is_some (s.links i).mark)) unheard)
-        ∙ ap (λ j. has_some (s.links j)) e
-        ∙ sym (ap (can s.size s.links k) takes)
+        let unheard : (s.links i).heard ≡ None = rw e (wanted (plan_of s) a.at.reached.ok s.links k (slice_index (s.kinds k).stage.sources place) a.less takes).unheard in
+        let told = tells s.size (s.links i) (a.at.stand.links i link (nth web.links.items i link (within_links a e) value)) in
+        told ∙ grind (arith, unheard) ∙ ap (λ j. has_some (s.links j)) e ∙ sym (ap (can s.size s.links k) takes)
 
     pub touched_takes : IsAbout stands k (does.Wants place) web s
         → i ≡ slice_index (s.kinds k).stage.sources place → i ≡ touched k (state (plan_of s) s.links k)
@@ -106,18 +102,16 @@ module _ {S R : Type 0} {stage : S → Moment → Type 0} {k : ℕ} {web : Web S
   by_unset : ready (plan_of s) s.size s.links k ≡ (a && has_room s.size (s.links k))
   by_unset =
       let node = node_of (StandsAs stage) k web s h.less h.at.stand in
-      source_ready stage k web s node.0 link h.at h.less node.1 (kind node.0 node.1)
-      ∙ ap (λ c. c && has_room s.size (s.links k))
-      (sym (tells s.size (s.links k) (h.at.stand.links k link (link_at h.less h.at.stand e))))
+      rw (tells s.size (s.links k) (h.at.stand.links k link (link_at h.less h.at.stand e)))
+      (source_ready stage k web s node.0 link h.at h.less node.1 (kind node.0 node.1))
 
   pub by_room : {b : Bool} {one : port.Link} → a ≡ true → one ≡ get_or web.links.items k one → Tells one b has_room
       → b ≡ ready (plan_of s) s.size s.links k
-  by_room {b} {one} set f told =
-      told s.size (s.links k) (h.at.stand.links k one (link_at h.less h.at.stand f))
-      ∙ sym (by_unset ∙ ap (λ c. c && has_room s.size (s.links k)) set)
+  by_room {one = one} set f told =
+      grind (arith, told s.size (s.links k) (h.at.stand.links k one (link_at h.less h.at.stand f)), by_unset, set)
 
   pub by_mark : a ≡ false → a ≡ ready (plan_of s) s.size s.links k
-  by_mark unset = unset ∙ sym (by_unset ∙ ap (λ c. c && has_room s.size (s.links k)) unset)
+  by_mark unset = grind (arith, by_unset, unset)
 
   -- one whose end isn't set, and whose link has room, is ready
   pub source_turn : HasRoom k web → a ≡ true → MayTurn (StandsAs stage) k web s

@@ -27,7 +27,6 @@ use Rattle.hum_nodes.specs.declared.node.Node.{Node}
 use Rattle.hum_nodes.proofs.Fining.{fine_is}
 use Rattle.hum_engine.specs.declared.net.Net.{Net}
 use Rattle.hum_engine.specs.declared.search.Search.{Search}
-use Rattle.hum_engine.specs.Readers.{is_read_of, is_write}
 use Rattle.hum_engine.specs.Scene.{Scene, plan_of, moved, Stands}
 use Rattle.hum_engine.specs.Nets.{NetAt, AtEach, AreOver, IsRunning, IsNet, Leads, RunsTo, Outcome, WroteFront, WroteAll, Sees}
 use Rattle.hum_engine.proofs.Netting.{unfailed_now}
@@ -45,12 +44,9 @@ pub driven_on : {O : Type 0} (order : Order O) (s : Scene) (ks js : List ℕ) (o
 driven_on {O} order s [] js o p q old mid new d e =
     subst (λ (x : O). Driven order (plan_of s) s.size text_of x old js new q) d.1
     (subst (λ (x : Now Row). Driven order (plan_of s) s.size text_of p x js new q) (same_now old mid d.0) e)
-driven_on order s (k ∷ ks) js o p q old mid new d e = (
-  d.0,
-  d.1,
-  d.2,
-  driven_on order s ks js (order.next o (ready_list (plan_of s) s.size old)) p q d.0 mid new d.3 e,
-)
+driven_on order s (k ∷ ks) js o p q old mid new d e =
+    let rest = driven_on order s ks js (order.next o (ready_list (plan_of s) s.size old)) p q d.0 mid new d.3 e in
+    (d.0, d.1, d.2, rest)
 
 pub no_rests : {S R W : Type 0} (net : Net S R W) → AreOver net.web.nodes.items (λ i. [])
 no_rests net i e = refl
@@ -72,9 +68,8 @@ seen (Some look) s rests now net f =
 
 pub some_at : (bs : List Bool) (k : ℕ) → get_or bs k false ≡ true → some_true bs ≡ true
 some_at [] k h = absurd (false≢true h)
-some_at (true ∷ bs) k h = refl
-some_at (false ∷ bs) zero h = absurd (false≢true h)
-some_at (false ∷ bs) (suc k) h = some_at bs k h
+some_at (b ∷ bs) zero h = grind (arith, h)
+some_at (b ∷ bs) (suc k) h = grind (arith, some_at bs k h)
 
 -- The flags of the actors before this one are set.
 pub record Marked {S R W : Type 0} (stands : Node S R → List ℕ → At → Type 0) (contents : W → Option (List ℕ)) (flushed : W → Bool)
@@ -159,9 +154,7 @@ module _ {S R W : Type 0} {stands : Node S R → List ℕ → At → Type 0} {co
   pub picked : {actor : ℕ} (pick : ℕ) → result (plan_of s) now ≡ None
       → actor ≡ chosen (ready_list (plan_of s) s.size now) pick
       → (actor ≤ s.count) × (is_ready (plan_of s) s.size now actor ≡ true)
-  picked pick none is =
-      subst (λ k. (k ≤ s.count) × (is_ready (plan_of s) s.size now k ≡ true)) (sym is)
-      (goes_on (plan_of s) s.size now h.turns text_of pick holds_at none)
+  picked pick none is = rw is (goes_on (plan_of s) s.size now h.turns text_of pick holds_at none)
 
   -- and some actor is.
   pub some_ready : {list : List Bool} → result (plan_of s) now ≡ None
@@ -227,11 +220,3 @@ runs_to {S} {R} {W} {O} {stands} {contents} {flushed} {order} {o} {p} {start} {s
           (λ meant. inr meant.result)
           (every_end (plan_of s) s.size text_of h.plan.ok numbered h.plan.some h.turns h.first d.to h.begin h.walk by e);
     }
-
--- no failure, or the one that the result tells
-pub told_marks : (k : ℕ) (f : Option RunResult) (o : Option End) (r : RunResult) → ended_by f o ≡ Some r
-    → (is_read_of k f ≡ is_read_of k (Some r)) × (is_write f ≡ is_write (Some r))
-told_marks k (Some x) o r e = (ap (is_read_of k) e, ap is_write e)
-told_marks k None (Some Closed) r e = (ap (is_read_of k) e, ap is_write e)
-told_marks k None (Some (Broken f)) r e = (ap (is_read_of k) e, ap is_write e)
-told_marks k None None r e = absurd (none-some r e)

@@ -1,5 +1,5 @@
 -- What the sink writes.
-use Rattle.std.proofs.Common.{◌≡◌, ◌∙◌, ◌||◌, ℕ, List, [], ◌∷◌, ◌++◌, Option, Some, None, refl, sym, ap, append-nil, true, false}
+use Rattle.std.proofs.Common.{◌≡◌, ◌∙◌, ◌||◌, ℕ, List, [], ◌∷◌, ◌++◌, Option, Some, None, refl, sym, ap, append-nil, true, false, arith}
 use Rattle.std.proofs.Common.{Bool, is_some, if◌then◌else◌}
 use Rattle.std.proofs.lemmas.Bool.{and_parts}
 use Rattle.std.proofs.lemmas.Option.{none-some}
@@ -29,12 +29,7 @@ abbrev pub failed_so : Bool → Option RunResult
 failed_so is_over = if is_over then Some ends.Write else None
 
 pub unread_so : (is_over : Bool) (k : ℕ) → is_read_of k (failed_so is_over) ≡ false
-unread_so true k = refl
-unread_so false k = refl
-
-pub broken_so : (is_over : Bool) → is_write (failed_so is_over) ≡ is_over
-broken_so true = refl
-broken_so false = refl
+unread_so is_over k = grind arith
 
 pub not_heard : (l : Link Row) → has_some l ≡ true → l.heard ≡ None
 not_heard l some = none_by l.heard (and_parts _ _ some).0
@@ -45,7 +40,7 @@ module _ {S R W : Type 0} {contents : W → Option (List ℕ)} {failed : W → B
   sent_net = h.net ∙ ap (λ f. record old { sink = new.sink; failure = if is_over then Some ends.Write else f }) none
 
   pub sent_marked : failed new.sink ≡ (failed old.sink || is_write new.failure)
-  sent_marked = rw (ap (λ (n : Net S R W). n.failure) sent_net, broken_so is_over) h.marked
+  sent_marked = grind (arith, ap (λ (n : Net S R W). n.failure) sent_net, h.marked)
 
 -- The record that comes next was written, or a prefix of it.
 pub sent_record : {S R W : Type 0} {stands : Node S R → List ℕ → At → Type 0} {contents : W → Option (List ℕ)}

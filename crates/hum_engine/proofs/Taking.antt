@@ -1,8 +1,7 @@
 -- What is taken from a link, by a stage or by the sink.
-use Rattle.std.proofs.Common.{◌≡◌, ◌≢◌, ◌∙◌, ℕ, zero, suc, ◌+◌, ◌<◌, Bool, true, false, ◌||◌, if◌then◌else◌, nat_lt, List, []}
+use Rattle.std.proofs.Common.{◌≡◌, ◌≢◌, ◌∙◌, ℕ, zero, suc, ◌+◌, ◌<◌, true, List, []}
 use Rattle.std.proofs.Common.{◌∷◌, ◌++◌, map, length, Option, Some, None, is_some, slice_get, slice_set, slice_index, refl}
-use Rattle.std.proofs.Common.{sym, ap, subst, ⊎_elim, arith, append_assoc}
-use Rattle.std.specs.List.{AllByRecursion}
+use Rattle.std.proofs.Common.{sym, ap, subst, inl, inr, arith, append_assoc}
 use Rattle.std.proofs.lemmas.Bool.{cases_eq, false≢true, and_parts}
 use Rattle.std.proofs.lemmas.Option.{none-some, same_Some, slice_get_within, slice_get-get_or}
 use Rattle.std.proofs.lemmas.List.{length-map}
@@ -10,7 +9,7 @@ use Rattle.hum_record.specs.Row.{Row, text_of}
 use Rattle.hum_stage.specs.declared.faults.End.{End}
 use Rattle.hum_turns.specs.Flow.{Flow, AllFine, Begins}
 use Rattle.hum_turns.specs.Text.{next_text}
-use Rattle.hum_turns.specs.Plan.{Want, Bytes, Source, Nothing, IsPlan, last, end_of}
+use Rattle.hum_turns.specs.Plan.{IsPlan, last}
 use Rattle.hum_turns.specs.Links.{Link, Moment, given, view, has_some, inputs}
 use Rattle.hum_turns.specs.Turns.{Takes, Becomes, popped}
 use Rattle.hum_turns.proofs.Fronts.{source_at}
@@ -21,28 +20,26 @@ use Rattle.hum_turns.proofs.Every.{reached}
 use Rattle.hum_nodes.specs.Doing.{Doing}
 use Rattle.hum_nodes.specs.Doing as does
 use Rattle.hum_nodes.specs.Fine.{fine}
-use Rattle.hum_nodes.specs.At.{At, doing_by, doing_of, change_at, after_change, MayChange, with_record, with_end}
+use Rattle.hum_nodes.specs.At.{At, doing_of, change_at, after_change, MayChange, with_record, with_end}
 use Rattle.hum_engine.specs.declared.link.Link as port
 use Rattle.hum_engine.specs.Links.{Goes, next_of}
 use Rattle.hum_engine.specs.Writing.{IsFront}
 use Rattle.hum_engine.specs.Scene.{Scene, plan_of, at_of, NodesStand, LinksStand, IsTree, IsReached}
+use Rattle.hum_engine.proofs.Flags.{index_all}
 use Rattle.hum_engine.proofs.Moving.{Did, put_at, put_becomes, ins_of, at_same, shows_same, nodes_set, links_set}
 
 -- What comes next from a link.
 
 pub popped_read : (l : Link Row) (ws : List Row) → (popped l ws).read ≡ l.read
-popped_read l [] = refl
-popped_read l (x ∷ ws) = refl
+popped_read l ws = grind arith
 
 pub popped_given : {R : Type 0} (l : Link R) (ws : List R) → l.waiting ≡ ws → given (popped l ws) ≡ given l
 popped_given l [] w = refl
-popped_given l (x ∷ ws) w =
-    append_assoc l.taken (x ∷ []) ws ∙ ap (λ v. l.taken ++ v) (sym w)
+popped_given l (x ∷ ws) w = append_assoc l.taken (x ∷ []) ws ∙ ap (λ v. l.taken ++ v) (sym w)
 
 pub next_record : (l : Link Row) (ws : List Row) (x : Row) → Some x ≡ next_of ws
     → view (popped l ws) ≡ with_record x (view l)
-next_record l [] x h = absurd (none-some x (sym h))
-next_record l (y ∷ ws) x h = rw (same_Some x y h)
+next_record l ws x h = grind (arith, h)
 
 -- a prefix of the record is one of what is written next
 pub next_front : (ws : List Row) (x : Row) → Some x ≡ next_of ws
@@ -54,8 +51,7 @@ next_front (y ∷ ws) x h bytes front =
 -- where no record waits the end is heard
 pub next_end : (l : Link Row) (ws : List Row) (e : End) → None ≡ next_of ws → l.mark ≡ Some e
     → view (popped l ws) ≡ with_end e (view l)
-next_end l (y ∷ ws) e h is = absurd (none-some y h)
-next_end l [] e h is = rw is
+next_end l ws e h is = grind (arith, h, is)
 
 mark_of : (o : Option End) → is_some o ≡ true → (e : End) × (o ≡ Some e)
 mark_of None h = absurd (false≢true h)
@@ -64,9 +60,7 @@ mark_of (Some e) h = (e, refl)
 -- and there is one, where there is something to take
 pub some_mark : (l : Link Row) (ws : List Row) → l.waiting ≡ ws → None ≡ next_of ws → has_some l ≡ true
     → (e : End) × (l.mark ≡ Some e)
-some_mark l (y ∷ ws) w h some = absurd (none-some y h)
-some_mark l [] w h some =
-    mark_of l.mark (sym (ap (λ v. nat_lt 0 (length v) || is_some l.mark) w) ∙ (and_parts _ _ some).1)
+some_mark l ws w h some = mark_of l.mark (grind (arith, w, h, some))
 
 -- One place of a list of inputs.
 
@@ -82,21 +76,10 @@ map_change : (f g : ℕ → Flow Row) (s : ℕ) (change : Flow Row → Flow Row)
     → map f ss ≡ change_at change p (map g ss)
 map_change f g s change same here [] p at once = absurd (none-some s at)
 map_change f g s change same here (t ∷ ss) zero at once =
-    rw (
-      subst (λ i. f i ≡ change (g i)) (sym (same_Some t s at)) here,
-      map_other f g s same ss (λ j h. let z = once (suc j) h in absurd (omega arith)),
-    )
+    rw (same_Some t s at, here, map_other f g s same ss (λ j h. omega (arith, once (suc j) h)))
 map_change f g s change same here (t ∷ ss) (suc p) at once =
-    rw (
-      same t (λ e. let z = once 0 (ap Some e) in absurd (omega arith)),
-      map_change f g s change same here ss p at (λ j h. let z = once (suc j) h in omega arith),
-    )
-
-each_at : (P : ℕ → Type 0) (ss : List ℕ) (j s : ℕ) → AllByRecursion P ss
-    → slice_get ss j ≡ Some s → P s
-each_at P [] j s p h = absurd (none-some s h)
-each_at P (t ∷ ss) zero s p h = subst P (same_Some t s h) p.0
-each_at P (t ∷ ss) (suc j) s p h = each_at P ss j s p.1 h
+    let other : t ≢ s = λ e. omega (arith, once 0 (ap Some e)) in
+    rw (same t other, map_change f g s change same here ss p at (λ j h. omega (arith, once (suc j) h)))
 
 -- The moment once something was taken from link i.
 
@@ -118,13 +101,12 @@ module _ (s : Scene) (i : ℕ) where
   pub at_kept : (j : ℕ) → ((p : ℕ) → slice_get (s.kinds j).stage.sources p ≡ Some i → ⊥)
       → at_of s.kinds taken j ≡ at_of s.kinds s.links j
   at_kept j never =
-      let d = taken_becomes in
       let l = s.links i in
       at_same s.kinds s.links taken j
       (map_other (λ t. view (taken t)) (λ t. view (s.links t)) i others_view
       (s.kinds j).stage.sources never)
-      (shows_same (λ (t : Link Row). t.read) d (popped_read l l.waiting) j)
-      (shows_same given d (popped_given l l.waiting refl) j)
+      (shows_same (λ (t : Link Row). t.read) taken_becomes (popped_read l l.waiting) j)
+      (shows_same given taken_becomes (popped_given l l.waiting refl) j)
 
   -- what its reader has then
   pub ins_taken : (k place : ℕ) (change : Flow Row → Flow Row) → k < s.count → IsTree s
@@ -153,17 +135,15 @@ module _ (s : Scene) (i : ℕ) where
         → stands node (s.rests k) (after_change change place (at_of s.kinds s.links k))
         → Did stands s k (Takes i) s.links (slice_set nodes k node) (slice_set links i after)
     did_take k place node change tree less lower at v n =
-        let d = taken_becomes in
         let here : at_of s.kinds taken k ≡ after_change change place (at_of s.kinds s.links k) =
-        rw (ins_taken k place change less tree at v, d.elsewhere k (λ e. absurd (omega arith))) in
+        rw (ins_taken k place change less tree at v, taken_becomes.elsewhere k (λ e. absurd (omega arith))) in
         record {
           new = taken;
-          does = d;
+          does = taken_becomes;
           at_nodes = nodes_set stands s taken nodes k node
               (λ j y o g.
-              let w = slice_get_within nodes j y g in
-              subst (stands y (s.rests j))
-              (sym (at_kept j (λ p h. o (tree j p k place i (omega arith) less h at).0))) (hn j y g))
+              let low : j < s.count = omega (arith, slice_get_within nodes j y g, count) in
+              subst (stands y (s.rests j)) (sym (at_kept j (λ p h. o (tree j p k place i low less h at).0))) (hn j y g))
               (subst (stands node (s.rests k)) (sym here) n);
           at_links = links_taken;
         }
@@ -177,11 +157,9 @@ module _ (s : Scene) (i : ℕ) where
           new = taken;
           does = taken_becomes;
           at_nodes = λ j y g.
-              let w = slice_get_within nodes j y g in
-              subst (stands y (s.rests j))
-              (sym (at_kept j (λ p h.
-              let b = each_at (λ t. t < j) (s.kinds j).stage.sources p i (ok.below j (omega arith)) h in
-              absurd (omega arith)))) (hn j y g);
+              let low : j < s.count = omega (arith, slice_get_within nodes j y g, count) in
+              let below = λ (p : ℕ). index_all (λ t. t < j) (s.kinds j).stage.sources p i (ok.below j low) in
+              subst (stands y (s.rests j)) (sym (at_kept j (λ p h. omega (arith, low, e, top, below p h)))) (hn j y g);
           at_links = links_taken;
         }
 
@@ -198,28 +176,18 @@ may_change s k place i change r less lower at some v wants =
     let new = taken s i in
     let d = taken_becomes s i in
     let here : fine (view (new i)) ≡ true =
-    ap (λ (l : Link Row). fine (view l)) d.here
-    ∙ fine_popped (r.ok.lawful i (omega arith)) (r.ok.keeps i (omega arith)) s.size (m i)
+    rw d.here (fine_popped (r.ok.lawful i (omega arith)) (r.ok.keeps i (omega arith)) s.size (m i)
     (inputs plan m i) (and_parts _ _ some).0
-    (fine_inputs plan s.size r.ok m i inv (omega arith)) (inv i (omega arith)) in
-    let each : (t : ℕ) → t + 1 < s.count → fine (view (new t)) ≡ true = λ t more.
-    ⊎_elim
-    (λ e. subst (λ j. fine (view (new j)) ≡ true) (sym e) here)
-    (λ o. ap (λ (l : Link Row). fine (view l)) (d.elsewhere t o)
-    ∙ fine_each plan s.size r.ok m t inv more)
-    (cases_eq t i) in
+    (fine_inputs plan s.size r.ok m i inv (omega arith)) (inv i (omega arith))) in
+    let each : (t : ℕ) → t + 1 < s.count → fine (view (new t)) ≡ true = λ t more. elim (cases_eq t i) [
+      | inl e ↦ rw e here
+      | inr o ↦ rw (d.elsewhere t o) (fine_each plan s.size r.ok m t inv more)
+    ] in
     record {
       wants = wants;
       fine = subst (AllFine fine) (ins_taken s i k place change less r.tree at v)
           ((are_inputs plan s.size r.ok new each k less).each);
     }
-
-wants_cases : (b : Bool) (w : Want) (e : End) (p : ℕ)
-    → (if b then does.Gives else doing_by w e) ≡ does.Wants p → (b ≡ false) × (w ≡ Source p)
-wants_cases true w e p h = absurd cc
-wants_cases false Bytes e p h = absurd cc
-wants_cases false Nothing e p h = absurd cc
-wants_cases false (Source j) e p h = (refl, cc)
 
 -- A node that wants from a place wants from a lower stage.
 pub record WantsAt (s : Scene) (k place : ℕ) : Type 0 where
@@ -231,17 +199,11 @@ pub wants_at : (s : Scene) (k place : ℕ) → IsPlan (plan_of s) → k < s.coun
     → doing_of (at_of s.kinds s.links k) ≡ does.Wants place → WantsAt s k place
 wants_at s k place ok less h =
     let st = (s.kinds k).stage in
-    let m = s.links in
-    let a = ins_of s.kinds m k in
-    let c = wants_cases (nat_lt (length (given (m k))) (length (st.output (m k).read a)))
-    (st.wants (m k).read a) (end_of st (m k).read a) place h in
-    let n : length a ≡ length st.sources = length-map st.sources (λ i. view (m i)) in
-    let x = (ok.lawful k less).asks (m k).read a place n c.1 in
-    let f = source_at (λ i. view (m i)) (λ i. i < k) st.sources place x.input (ok.below k less)
-    x.is_there in
-    let w = slice_get_within a place x.input x.is_there in
-    let within : place < length st.sources = omega arith in
+    let seen : ℕ → Flow Row = λ i. view (s.links i) in
+    let many = length-map st.sources seen in
+    let x = (ok.lawful k less).asks (s.links k).read (ins_of s.kinds s.links k) place many (grind (arith, h)) in
+    let within = slice_get_within (ins_of s.kinds s.links k) place x.input x.is_there in
     record {
-      is_there = slice_get-get_or st.sources place 0 within;
-      lower = f.0;
+      is_there = slice_get-get_or st.sources place 0 (omega (arith, within, many));
+      lower = (source_at seen (λ i. i < k) st.sources place x.input (ok.below k less) x.is_there).0;
     }

@@ -1,5 +1,5 @@
 -- What a run has come to, also of sources that tell their bytes.
-use Rattle.std.proofs.Common.{◌≡◌, ◌∙◌, ◌||◌, ℕ, ◌+◌, ◌-◌, ◌*◌, ◌<◌, Bool, true, List, [], ◌∷◌, ◌++◌, length, Option, Some}
+use Rattle.std.proofs.Common.{◌≡◌, ◌∙◌, ℕ, ◌+◌, ◌-◌, ◌*◌, ◌<◌, Bool, true, List, [], ◌∷◌, ◌++◌, length, Option, Some}
 use Rattle.std.proofs.Common.{None, Vec, Global, false, refl, sym, ap, subst, arith, inl, inr, ⊎_elim, slice_get}
 use Rattle.std.specs.Prelude.{is_some, IfSome}
 use Rattle.std.proofs.lemmas.Bool.{cases_Bool, false≢true}
@@ -14,12 +14,12 @@ use Rattle.hum_turns.proofs.Writing.{still}
 use Rattle.hum_stage.specs.Meaning.{Moment}
 use Rattle.hum_nodes.specs.At.{At}
 use Rattle.hum_nodes.specs.declared.node.Node.{Node}
-use Rattle.hum_nodes.specs.Nodes.{StandsAs, is_source, remaining_of}
+use Rattle.hum_nodes.specs.Nodes.{StandsAs, is_source}
 use Rattle.hum_nodes.proofs.Followed.{read_none}
 use Rattle.hum_nodes.proofs.Standing.{any_rest, reads_few}
 use Rattle.hum_engine.specs.declared.net.Net.{Net}
 use Rattle.hum_engine.specs.declared.search.Search.{Search}
-use Rattle.hum_engine.specs.Readers.{or_none, remaining_at, ended_at, failed_at, is_read_of, is_write}
+use Rattle.hum_engine.specs.Readers.{ended_at}
 use Rattle.hum_engine.specs.Scene.{Scene, plan_of, at_of, before_all}
 use Rattle.hum_engine.specs.Search.{beginning}
 use Rattle.hum_engine.specs.Nets.{NetAt, AtEach, IsNet, IsRunning, MayAdvance, HasAdvanced, MarksFailures, IsCloser}
@@ -27,13 +27,13 @@ use Rattle.hum_engine.specs.Nets.{still_to_ask, Sees, HasRun, Tells, HasRunOn, R
 use Rattle.hum_engine.proofs.Advancing.{pick_now, led_on, running_on, marks_none, advanced_none, advanced_twice, may_then}
 use Rattle.hum_engine.proofs.Bounds.{turns_few}
 use Rattle.hum_engine.proofs.Netting.{ends_alike, has_told, not_over}
-use Rattle.hum_engine.proofs.Running.{first_running, now_unfailed, unfailed_at, relisted, restated, runs_to, seen, told_marks}
+use Rattle.hum_engine.proofs.Running.{first_running, now_unfailed, unfailed_at, relisted, restated, runs_to, seen}
 use Rattle.hum_engine.proofs.Running.{no_rests}
 use Rattle.hum_engine.proofs.Searching.{sees_first, leans_first, few_still}
 
 second_nil : (xs ys : List ℕ) → xs ++ ys ≡ [] → ys ≡ []
 second_nil [] ys h = h
-second_nil (x ∷ xs) ys h = let z = ap length h in absurd (omega (arith, z))
+second_nil (x ∷ xs) ys h = absurd cc
 
 module _ {S R W : Type 0} {stage : S → Moment → Type 0} {contents : W → Option (List ℕ)} {flushed : W → Bool} where
   -- What is still to come of a node that isn't a source is nothing that it stands for.
@@ -65,25 +65,17 @@ module _ {S R W : Type 0} {stage : S → Moment → Type 0} {contents : W → Op
     left_by : (i : ℕ) (o : Option (Node S R)) → slice_get old.web.nodes.items i ≡ o → Left i o
     unfolding Left
     left_by i None e = ([], (λ n is. absurd (none-some _ is)), (λ over. refl))
-    left_by i (Some n) e = ⊎_elim
-        (λ (isnt : is_source n ≡ false). (
-          [],
-          (λ m is src. absurd (false≢true (sym isnt ∙ ap is_source (same_Some n m is) ∙ src))),
-          (λ over. refl),
-        ))
-        (λ (is : is_source n ≡ true).
-        let told : remaining_at remaining i old.web.nodes.items ≡ Some (rests i) =
-        ap (or_none None (remaining_of remaining)) e ∙ tells.tells i n e is in
-        let front = (ran.read i).front (rests i) told in (
-          front.rest,
-          (λ m at src. front.split),
-          (λ over. ⊎_elim
-              (λ (was : ended_at i old.web.nodes.items ≡ true).
-              second_nil (ran.reads i) front.rest (sym front.split ∙ tells.over i was))
-              (λ (none : front.rest ≡ []). none)
-              (front.over over)),
-        ))
-        (⊎_elim inr inl (cases_Bool (is_source n)))
+    left_by i (Some n) e = elim (cases_Bool (is_source n)) [
+      | inl src ↦
+          let front = (ran.read i).front (rests i) (rw e (tells.tells i n e src)) in
+          let none : ended_at i new.web.nodes.items ≡ true → front.rest ≡ [] = λ over. elim (front.over over) [
+            | inl was ↦ second_nil (ran.reads i) front.rest (sym front.split ∙ tells.over i was)
+            | inr none ↦ none
+          ] in
+          (front.rest, (λ m is src. front.split), none)
+      | inr isnt ↦
+          ([], (λ m is src. absurd (false≢true (sym isnt ∙ ap is_source (same_Some n m is) ∙ src))), (λ over. refl))
+    ]
 
     abbrev left_at : (i : ℕ) → Left i (slice_get old.web.nodes.items i)
     left_at i = left_by i (slice_get old.web.nodes.items i) refl
@@ -214,13 +206,12 @@ module _ {S R W O : Type 0} {stage : S → Moment → Type 0} {remaining : R →
       → RunsBy (StandsAs stage) remaining failed contents flushed broken order o p old new by
   runs_by {p} {new} {by} ran w ends marks again =
       let heard = (w.now.links (last (plan_of w.scene))).heard in
-      let told : (i : ℕ) → (is_read_of i new.failure ≡ is_read_of i (Some by)) × (is_write new.failure ≡ is_write (Some by)) =
-      λ i. told_marks i new.failure heard by (ap (λ f. ended_by f heard) w.at.failure ∙ ends w.start w.scene w.now w.at) in
+      let is = ap (λ f. ended_by f heard) w.at.failure ∙ ends w.start w.scene w.now w.at in
       record {
         ran = ran;
         whole = λ start s now tells h. run_on ran tells refl h;
-        reads = λ none i. (marks none).reads i ∙ ap (λ b. failed_at failed i old.web.nodes.items || b) (told i).0;
-        writes = λ none. (marks none).writes ∙ ap (λ b. broken old.sink || b) (told 0).1;
+        reads = λ none i. grind (arith, (marks none).reads i, is);
+        writes = λ none. grind (arith, (marks none).writes, is);
         again = again;
       }
 
@@ -262,10 +253,7 @@ module _ {S R W O : Type 0} {stage : S → Moment → Type 0} {remaining : R →
         let w = m.running in
         let few = turns_few (StandsAs stage) contents flushed w.start w.scene net w.now (reads_few stage) w.at
         (now_unfailed w.at m.going) in
-        ⊎_elim
-        (λ over. absurd (false≢true (sym on ∙ over)))
-        (λ goes. ⊎_elim
-        (λ turned. omega (arith, few, w.at.counted, turned, few_still after))
-        (λ past. omega (arith, few, w.at.counted, past.0, past.1))
-        goes)
-        closer
+        elim closer [
+          | inl over ↦ absurd (false≢true (sym on ∙ over))
+          | inr goes ↦ omega (arith, few, w.at.counted, goes, few_still after)
+        ]

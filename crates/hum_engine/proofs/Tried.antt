@@ -1,6 +1,6 @@
 -- What a turn that is tried has taken.
-use Rattle.std.proofs.Common.{◌≡◌, ◌∙◌, ℕ, ◌||◌, nat_lt, List, [], ◌∷◌, length, Option, Some, None, is_some, refl, sym, ap}
-use Rattle.std.proofs.Common.{ap₂, get_or, slice_set, Global, ◌≤◌, lt-ltb, arith}
+use Rattle.std.proofs.Common.{◌≡◌, ◌∙◌, ℕ, ◌||◌, nat_lt, List, length, Option, Some, None, is_some, ap}
+use Rattle.std.proofs.Common.{ap₂, get_or, slice_set, Global, ◌≤◌, arith}
 use Rattle.std.specs.declared.vec.Vec.{Vec}
 use Rattle.std.specs.Vec.{with_item}
 use Rattle.hum_nodes.specs.declared.node.Node.{Node}
@@ -8,7 +8,7 @@ use Rattle.hum_engine.specs.declared.web.Web.{Web}
 use Rattle.std.proofs.lemmas.List.{set-get_or}
 use mathlib.Core.HLevel.{is_prop→PathP}
 use Rattle.std.proofs.Props.{props}
-use Rattle.std.proofs.lemmas.Option.{none-some}
+use Rattle.std.proofs.lemmas.Bool.Decides.{nat_tests}
 use Rattle.hum_record.specs.Row.{Row}
 use Rattle.hum_stage.specs.declared.faults.End.{End}
 use Rattle.hum_engine.specs.declared.link.Link as port
@@ -25,49 +25,27 @@ row_of (taken.Record row) = Some row
 row_of (taken.End end) = None
 row_of taken.Nothing = None
 
-abbrev pub end_of : Taken → Option End
-end_of (taken.Record row) = None
-end_of (taken.End end) = Some end
-end_of taken.Nothing = None
-
 pub row_next : (ws : List Row) (mark : Option End) → row_of (taken_of ws mark) ≡ next_of ws
-row_next (x ∷ ws) mark = refl
-row_next [] (Some end) = refl
-row_next [] None = refl
-
--- an end was set, and is what is told
-pub end_mark : (ws : List Row) (mark : Option End) (end : End) → Some end ≡ end_of (taken_of ws mark) → Some end ≡ mark
-end_mark (x ∷ ws) mark end h = absurd (none-some end (sym h))
-end_mark [] (Some e) end h = h
-end_mark [] None end h = h
-
-pub some_taken : (ws : List Row) (mark : Option End)
-    → is_some_of (taken_of ws mark) ≡ (nat_lt 0 (length ws) || is_some mark)
-some_taken (x ∷ ws) mark = ap (λ b. b || is_some mark) (sym (lt-ltb 0 (length (x ∷ ws)) (omega arith)))
-some_taken [] (Some end) = refl
-some_taken [] None = refl
+row_next ws mark = grind arith
 
 -- What a link tells of what was taken from it.
 module _ {link : port.Link} {answer : Taken}
     (tells : Tells link answer (λ size l. taken_of l.waiting l.mark)) where
-  tells_row : Tells link (row_of answer) (λ size l. next_of l.waiting)
-  tells_row size l h = ap row_of (tells size l h) ∙ row_next l.waiting l.mark
-
   pub tells_some : Tells link (is_some_of answer) (λ size l. nat_lt 0 (length l.waiting) || is_some l.mark)
-  tells_some size l h = ap is_some_of (tells size l h) ∙ some_taken l.waiting l.mark
+  tells_some size l h = grind (arith, nat_tests, tells size l h)
 
   -- where it is a record
   pub record_left : (s : Scene) (i : ℕ) {row : Row} → IsLink s.size link (s.links i) → answer ≡ taken.Record row
       → view (left s i) ≡ with_record row (view (s.links i))
   record_left s i {row} here is =
-      next_record (s.links i) (s.links i).waiting row (sym (ap row_of is) ∙ tells_row s.size (s.links i) here)
+      next_record (s.links i) (s.links i).waiting row (grind (arith, is, tells s.size (s.links i) here))
 
   -- where it is an end
   pub end_left : (s : Scene) (i : ℕ) {end : End} → IsLink s.size link (s.links i) → answer ≡ taken.End end
       → view (left s i) ≡ with_end end (view (s.links i))
   end_left s i {end} here is =
-      next_end (s.links i) (s.links i).waiting end (sym (ap row_of is) ∙ tells_row s.size (s.links i) here)
-      (sym (end_mark (s.links i).waiting (s.links i).mark end (sym (ap end_of is) ∙ ap end_of (tells s.size (s.links i) here))))
+      let told = tells s.size (s.links i) here in
+      next_end (s.links i) (s.links i).waiting end (grind (arith, is, told)) (grind (arith, is, told))
 
 -- What is put back where it lay changes nothing.
 pub with_back : {X H : Type 0} (v : Vec X H) (i : ℕ) {x : X} → x ≡ get_or v.items i x → with_item v i x ≡ v

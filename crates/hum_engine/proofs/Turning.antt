@@ -1,8 +1,9 @@
 -- A turn of any stage, and who is ready.
-use Rattle.std.proofs.Common.{◌≡◌, ◌∙◌, ℕ, ◌<◌, Bool, true, false, if◌then◌else◌, nat_eq, nat_lt, List, [], ◌++◌, Option}
-use Rattle.std.proofs.Common.{Some, None, refl, sym, ap₂, subst, ◌||◌, inl, arith, slice_get, get_or, le-ltb, Result, Ok, Err}
+use Rattle.std.proofs.Common.{◌≡◌, ◌∙◌, ℕ, ◌<◌, Bool, true, false, if◌then◌else◌, nat_eq, List, [], ◌++◌, Option}
+use Rattle.std.proofs.Common.{Some, None, refl, sym, ap₂, subst, ◌||◌, inl, arith, slice_get, get_or, Result, Ok, Err}
 use Rattle.std.specs.Prelude.{OnErr}
-use Rattle.std.proofs.lemmas.Bool.{cond-true, lt-ltb, cond-false, and_right, false≢true}
+use Rattle.std.proofs.lemmas.Bool.{false≢true}
+use Rattle.std.proofs.lemmas.Bool.Decides.{nat_tests}
 use Rattle.std.proofs.lemmas.Option.{same_Some}
 use Rattle.hum_turns.specs.Turns.{state, can, ready}
 use Rattle.hum_turns.proofs.States.{reads_bytes}
@@ -35,8 +36,7 @@ not_ended n e h = false≢true (sym (no_end (λ r. None) (λ r. 0) (λ r. false)
 -- no bytes more to read
 
 same_rest : (b : Bool) (r : List ℕ) → (if b then [] ++ r else r) ≡ r
-same_rest true r = refl
-same_rest false r = refl
+same_rest b r = grind arith
 
 unfed : {S R : Type 0} {stands : Node S R → List ℕ → At → Type 0} {k : ℕ} {web : Web S R} (s : Scene)
     → MayTurn stands k web (before [] k s) → MayTurn stands k web s
@@ -60,8 +60,7 @@ module _ {S R : Type 0} {stands : Node S R → List ℕ → At → Type 0} {k : 
     -- whether a stage that isn't a source is ready
     pub stage_ready : IsAbout stands k doing web s
         → ready (plan_of s) s.size s.links k ≡ can s.size s.links k (state (plan_of s) s.links k)
-    stage_ready a = cond-false _ _ _
-        (and_right (nat_lt k s.count) _ (le-ltb 0 (s.kinds k).stage.bytes (omega (arith, a.bytes))))
+    stage_ready a = grind (arith, nat_tests, a.bytes)
 
     -- and what it may do then
     pub may_of : IsAbout stands k doing web s → can s.size s.links k (state (plan_of s) s.links k) ≡ true
@@ -125,7 +124,7 @@ quiet tells calls failed k web kind (Some n) e =
     let is = kind n e in
     (no_mark tells calls failed n is, no_call tells calls failed n is, no_end tells calls failed n is, no_rest tells calls failed n is)
 
-on_err : {A E : Type 0} {P : Type 0} (r : Result A E) → P → OnErr r P
+on_err : {A E P : Type 0} (r : Result A E) → P → OnErr r P
 on_err (Ok x) h = tt
 on_err (Err e) h = h
 
@@ -164,11 +163,8 @@ module _ {S R : Type 0} {tells : R → Option (List ℕ)} {failed : R → Bool} 
 
 pub held_none : (s : Scene) (m : Moment Row) (k : ℕ) → k < s.count → 0 < (s.kinds k).stage.bytes
     → 0 ≡ held_of s m k
-held_none s m k less some =
-    sym (cond-true _ _ _ (lt-ltb k s.count less) ∙ cond-true _ _ _ (lt-ltb 0 (s.kinds k).stage.bytes some))
+held_none s m k less some = grind (arith, nat_tests, less, some)
 
 pub held_some : (s : Scene) (m : Moment Row) (k : ℕ) → k < s.count → (s.kinds k).stage.bytes ≡ 0
     → holds_of (at_of s.kinds m k) ≡ held_of s m k
-held_some s m k less none =
-    sym (cond-true _ _ _ (lt-ltb k s.count less)
-    ∙ cond-false _ _ _ (le-ltb 0 (s.kinds k).stage.bytes (omega (arith, none))))
+held_some s m k less none = grind (arith, nat_tests, less, none)

@@ -1,17 +1,19 @@
 -- Each record that a stage of one input has taken was taken when the stage wanted it.
-use Rattle.std.proofs.Common.{◌≡◌, ◌≢◌, ℕ, ◌<◌, ◌≤◌, Bool, true, false, if◌then◌else◌, List, [], ◌∷◌, ◌++◌, map, length}
-use Rattle.std.proofs.Common.{take, slice_get, Some, is_some, nat_lt, refl, sym, ap, ◌∙◌, subst, ⊎_elim, arith, ltb-false}
-use Rattle.std.proofs.Common.{length-append}
+use Rattle.std.proofs.Common.{◌≡◌, ◌≢◌, ℕ, ◌<◌, ◌≤◌, Bool, false, if◌then◌else◌, List, [], ◌∷◌, ◌++◌, map, length}
+use Rattle.std.proofs.Common.{take, slice_get, Some, is_some, refl, sym, ap, ◌∙◌, subst, arith, ltb-false, inl, inr}
+use Rattle.std.proofs.Common.{append_assoc, length-append}
 use Rattle.std.specs.List.{AllByRecursion}
 use Rattle.std.proofs.lemmas.Bool.{cases_eq, cases_lt}
 use Rattle.std.proofs.lemmas.List.{take-append-le, take_all}
+use Rattle.std.proofs.Math.Path.{fun_ext}
+use Rattle.hum_record.specs.Row.{Row}
 use Rattle.hum_stage.specs.Score.{IsScore}
 use Rattle.hum_stage.specs.Lag.{ArePutAtWants}
 use Rattle.hum_stage.specs.Meaning.{Meaning, output}
 use Rattle.hum_stage.specs.Outcome.{held_of as held_by}
 use Rattle.hum_turns.specs.Flow.{Flow, AllFine}
 use Rattle.hum_turns.specs.Plan.{Want, Plan, IsPlan}
-use Rattle.hum_turns.specs.Links.{Link, Moment, given, view, inputs, IsOpening, Same}
+use Rattle.hum_turns.specs.Links.{Link, Moment, given, view, inputs, Same}
 use Rattle.hum_turns.specs.Turns.{State, Gives, Reads, Takes, Ends, by_want, state, popped, Becomes, Does, Turns, Run}
 use Rattle.hum_turns.proofs.States.{state_is, taker, last_next}
 use Rattle.hum_turns.proofs.Keeping.{fine_inputs}
@@ -33,62 +35,34 @@ Wanted many k s m =
 
 takes_not : (ss : List ℕ) (s : ℕ) (b : Bool) (w : Want) → (if b then Gives else by_want ss w) ≡ Takes s
     → b ≡ false
-takes_not ss s true w h = cc
-takes_not ss s false w h = refl
+takes_not ss s b w h = grind (arith, h)
 
 module _ {R : Type 0} (many : List R → ℕ) (k s : ℕ) where
   -- the same was taken, and no less given
   same_taken : (old new : Moment R) → (new s).taken ≡ (old s).taken
       → length (given (old k)) ≤ length (given (new k)) → Wanted many k s old → Wanted many k s new
   same_taken old new e more h j less =
-      let w = h j (subst (λ xs. j < length xs) e less) in
-      let same : many (take j (new s).taken) ≡ many (take j (old s).taken) =
-      ap (λ xs. many (take j xs)) e in
-      omega (arith, w, more, same)
+      let w = h j (rw e at less) in
+      rw e (omega (arith, w, more))
 
   nothing_moved : (old new : Moment R) → Same old new → Wanted many k s old → Wanted many k s new
-  nothing_moved old new same h =
-      let e = ap (λ (v : Link R). length (given v)) (same k) in
-      same_taken old new (ap (λ (v : Link R). v.taken) (same s)) (omega (arith, e)) h
+  nothing_moved old new same = subst (Wanted many k s) (fun_ext (λ i. sym (same i)))
 
   -- a link is changed, from which nothing is taken, and onto which no less was given
-  module _ (i : ℕ) (l : Link R) (old new : Moment R) (d : Becomes i l old new)
-      (taken : l.taken ≡ (old i).taken) (more : length (given (old i)) ≤ length (given l)) where
-    given_at : length (given (old k)) ≤ length (given (new k))
-    given_at =
-        ⊎_elim
-        (λ (here : k ≡ i).
-        let a = ap (λ x. length (given (old x))) here in
-        let b = ap (λ x. length (given (new x))) here in
-        let c = ap (λ (v : Link R). length (given v)) d.here in
-        omega (arith, more, a, b, c))
-        (λ there. omega (arith, ap (λ (v : Link R). length (given v)) (d.elsewhere k there)))
-        (cases_eq k i)
-
-    touched : Wanted many k s old → Wanted many k s new
-    touched h = same_taken old new (shows_same (λ (v : Link R). v.taken) d taken s) given_at h
+  touched : (i : ℕ) (l : Link R) (old new : Moment R) → Becomes i l old new → l.taken ≡ (old i).taken
+      → length (given (old i)) ≤ length (given l) → Wanted many k s old → Wanted many k s new
+  touched i l old new d taken more = same_taken old new (shows_same (λ (v : Link R). v.taken) d taken s)
+      (elim (cases_eq k i) [ inl here ↦ rw (here, d.here) more | inr there ↦ rw (d.elsewhere k there) (omega arith) ])
 
   -- the next record is taken from link s
   take_here : (ws : List R) (old new : Moment R) → k ≢ s → Becomes s (popped (old s) ws) old new
       → many (old s).taken ≤ length (given (old k)) → Wanted many k s old → Wanted many k s new
-  take_here [] old new apart d gave h j less =
-      let e = ap (λ (v : Link R). length (given v)) (d.elsewhere k apart) in
-      same_taken old new (ap (λ (v : Link R). v.taken) d.here) (omega (arith, e)) h j less
+  take_here [] old new apart d gave h j less = rw (d.here, d.elsewhere k apart) (h j (rw d.here at less))
   take_here (x ∷ rest) old new apart d gave h j less =
-      let taken : (new s).taken ≡ (old s).taken ++ x ∷ [] = ap (λ (v : Link R). v.taken) d.here in
-      let e = ap (λ (v : Link R). length (given v)) (d.elsewhere k apart) in
-      let size = length-append (old s).taken (x ∷ []) in
-      let within : j < length ((old s).taken ++ x ∷ []) = subst (λ xs. j < length xs) taken less in
-      let front : take j (new s).taken ≡ take j (old s).taken =
-      ap (take j) taken ∙ take-append-le j (old s).taken (x ∷ []) (omega (arith, within, size)) in
-      let same : many (take j (new s).taken) ≡ many (take j (old s).taken) = ap many front in
-      ⊎_elim
-      (λ before. let w = h j before in omega (arith, w, e, same))
-      (λ last.
-      let all : many (take j (old s).taken) ≡ many (old s).taken =
-      ap many (take_all j (old s).taken last) in
-      omega (arith, all, gave, e, same))
-      (cases_lt j (length (old s).taken))
+      let all = (old s).taken in
+      let within : j < length (all ++ x ∷ []) = rw d.here at less in
+      rw (d.here, d.elsewhere k apart, take-append-le j all (x ∷ []) (omega (arith, within, length-append all (x ∷ []))))
+      (elim (cases_lt j (length all)) [ inl before ↦ h j before | inr last ↦ rw (take_all j all last) gave ])
 
 -- Stage k has one source, which no other stage has.
 module _ {R : Type 0} (plan : Plan R) (ok : IsPlan plan) (many : List R → ℕ) (k s : ℕ)
@@ -100,43 +74,34 @@ module _ {R : Type 0} (plan : Plan R) (ok : IsPlan plan) (many : List R → ℕ)
   gave m e =
       let st = plan.stage k in
       let out = st.output (m k).read (inputs plan m k) in
-      let all = ltb-false (length (given (m k))) (length out)
-      (takes_not st.sources s (nat_lt (length (given (m k))) (length out))
-      (st.wants (m k).read (inputs plan m k)) (sym (state_is plan m k less) ∙ e)) in
-      let size : length out ≡ many (m s).taken =
-      ap (λ ss. length (st.output (m k).read (map (λ t. view (m t)) ss))) one
-      ∙ counts (m k).read (view (m s)) in
+      let all = ltb-false (length (given (m k))) (length out) (takes_not st.sources s _ _ (sym (state_is plan m k less) ∙ e)) in
+      let size : length out ≡ many (m s).taken = rw one (counts (m k).read (view (m s))) in
       omega (arith, all, size)
 
   takes_keep : (i t : ℕ) (old new : Moment R) → state plan old i ≡ Takes t
       → Becomes t (popped (old t) (old t).waiting) old new → Wanted many k s old
       → Wanted many k s new
   takes_keep i t old new e d h =
-      ⊎_elim
-      (λ here.
-      let by : state plan old i ≡ Takes s = e ∙ ap Takes here in
-      let is : i ≡ k =
-      ⊎_elim
-      (λ w. alone i w.1.place w.0 w.1.is_there)
-      (λ w. let l = w.1 in let n = last_next plan.count ok.some in absurd (omega (arith, l, n, less, below)))
-      (taker plan ok old i s by) in
-      take_here many k s (old s).waiting old new (λ same. absurd (omega (arith, same, below)))
-      (subst (λ x. Becomes x (popped (old x) (old x).waiting) old new) here d)
-      (gave old (subst (λ x. state plan old x ≡ Takes s) is by)) h)
-      (λ there.
-      let e = shows_same (λ (v : Link R). length (given v)) d (ap length (popped_given (old t) (old t).waiting refl)) k in
-      same_taken many k s old new (ap (λ (v : Link R). v.taken) (d.elsewhere s (λ same. there (sym same))))
-      (omega (arith, e)) h)
-      (cases_eq t s)
+      elim (cases_eq t s) [
+        | inl here ↦
+            let by : state plan old i ≡ Takes s = e ∙ ap Takes here in
+            let is : i ≡ k = elim (taker plan ok old i s by) [
+              | inl w ↦ alone i w.1.place w.0 w.1.is_there
+              | inr w ↦ absurd (omega (arith, w.1, last_next plan.count ok.some, less, below))
+            ] in
+            take_here many k s (old s).waiting old new (λ same. absurd (omega (arith, same, below))) (rw here at d)
+            (gave old (rw is at by)) h
+        | inr there ↦
+            let e = shows_same (λ (v : Link R). length (given v)) d (ap length (popped_given (old t) (old t).waiting refl)) k in
+            same_taken many k s old new (ap (λ (v : Link R). v.taken) (d.elsewhere s (λ same. there (sym same))))
+            (omega (arith, e)) h
+      ]
 
   does_keeps : (i : ℕ) (st : State) (old new : Moment R) → state plan old i ≡ st
       → Does plan i st old new → Wanted many k s old → Wanted many k s new
   does_keeps i Gives old new e d h =
-      let l = old i in
-      let a = length-append l.taken (l.waiting ++ d.next ∷ []) in
-      let b = length-append l.waiting (d.next ∷ []) in
-      let c = length-append l.taken l.waiting in
-      touched many k s i _ old new d.becomes refl (omega (arith, a, b, c)) h
+      let longer = ap length (sym (append_assoc (old i).taken (old i).waiting (d.next ∷ []))) in
+      touched many k s i _ old new d.becomes refl (omega (arith, longer, length-append (given (old i)) (d.next ∷ []))) h
   does_keeps i Reads old new e d h = nothing_moved many k s old new d h
   does_keeps i (Takes t) old new e d h = takes_keep i t old new e d h
   does_keeps i Ends old new e d h = touched many k s i _ old new d refl (omega arith) h
@@ -148,22 +113,16 @@ module _ {R : Type 0} (plan : Plan R) (ok : IsPlan plan) (many : List R → ℕ)
   turns_keep i Ends old new e t h = does_keeps i Ends old new e t h
   turns_keep i Reads old new e t h =
       let w = touched many k s i _ old t.between t.reads.becomes refl (omega arith) h in
-      ⊎_elim
-      (λ stays. nothing_moved many k s t.between new stays.1 w)
-      (λ does. does_keeps i (state plan t.between i) t.between new refl does w)
-      t.does
+      elim t.does [
+        | inl stays ↦ nothing_moved many k s t.between new stays.1 w
+        | inr does ↦ does_keeps i (state plan t.between i) t.between new refl does w
+      ]
 
   run_keeps : (size : ℕ) (is : List ℕ) (old new : Moment R) → Run plan size old is new
       → Wanted many k s old → Wanted many k s new
   run_keeps size [] old new run h = nothing_moved many k s old new run h
   run_keeps size (i ∷ is) old new run h =
       run_keeps size is run.0 new run.2 (turns_keep i (state plan old i) old run.0 refl run.1.turns h)
-
-  run_wanted : (size : ℕ) (is : List ℕ) (first m : Moment R) → IsOpening first
-      → Run plan size first is m → Wanted many k s m
-  run_wanted size is first m start run =
-      run_keeps size is first m run
-      (λ j l. absurd (omega (arith, subst (λ (v : Link R). j < length v.taken) (start s) l)))
 
 -- What waits inside a stage of one input is what its command holds of records that were put when it
 -- wanted them.
@@ -179,16 +138,15 @@ held_few s k from most m r less is holds =
     let none : (s.kinds k).stage.bytes ≡ 0 = ap (λ (kd : Kind). kd.stage.bytes) is in
     let taken = (s.links from).taken in
     let count = length (given (s.links k)) in
-    let below : from < k =
-    (subst (λ ss. AllByRecursion (λ j. j < k) ss) one (r.ok.below k less)).0 in
+    let below : AllByRecursion (λ j. j < k) (from ∷ []) = rw one at (r.ok.below k less) in
     let fine_in = (fine_inputs plan s.size r.ok s.links k
     (reached plan s.size r.turns r.first s.links r.ok r.start r.run) less).each in
     let score = fine_is 4294967295 (view (s.links from))
     (subst (λ ss. AllFine fine (map (λ t. view (s.links t)) ss)) one fine_in).0 in
-    let wanted = run_wanted plan r.ok (λ rows. length (output m rows)) k from less below one
+    let wanted = run_keeps plan r.ok (λ rows. length (output m rows)) k from less below.0 one
     (λ i p l h. (r.tree i p k 0 from l less h (ap (λ ss. slice_get ss 0) one)).0)
-    (λ b f. ap (λ (kd : Kind). length (kd.stage.output b (f ∷ []))) is)
-    s.size r.turns r.first s.links r.start r.run in
+    (λ b f. ap (λ (kd : Kind). length (kd.stage.output b (f ∷ []))) is) s.size r.turns r.first s.links r.run
+    (λ j l. absurd (omega (arith, subst (λ (v : Link Row). j < length v.taken) (r.start from) l))) in
     let few = holds score.score wanted in
     let held : held_of s s.links k ≡ held_by count (is_some (s.links from).heard) (m.outcomes taken) =
     sym (held_some s s.links k less none)

@@ -1,7 +1,7 @@
 //! Nodes and their links.
 ghost use Rattle.std.specs.Prelude.{◌≡◌, ◌≤◌, ◌<◌, ℕ, true, false, length};
-ghost use Rattle.std.specs.Prelude.{IfSome, MatchOption, is_some, ◌-◌};
-ghost use Rattle.std.specs.Prelude.{IfOk, OnOk, Some, None, Err};
+ghost use Rattle.std.specs.Prelude.{IfSome, is_some, ◌-◌};
+ghost use Rattle.std.specs.Prelude.{IfOk, OnOk, Some, None};
 ghost use Rattle.hum_turns.specs.Turns.{Gives, Takes, Ends, state, can, ready};
 ghost use Rattle.hum_turns.specs.Plan.{last};
 ghost use Rattle.hum_turns.specs.Near.{touched};
@@ -13,12 +13,12 @@ ghost use Rattle.hum_nodes.specs.declared.node.Readiness.TheVariants as kinds;
 ghost use Rattle.hum_record.specs.Row.{Row};
 ghost use Rattle.hum_engine.specs.Links.{taken_of, is_some_of};
 ghost use Rattle.hum_engine.specs.declared.link.Taken.TheVariants as taken;
-ghost use Rattle.hum_engine.specs.Told.{HasTold, HasFetched, AsksOne, AsksNone};
+ghost use Rattle.hum_engine.specs.Told.{HasTold, HasFetched, AsksNone};
 ghost use Rattle.hum_engine.specs.Scene.{Scene, plan_of, Somewhere, IsAt, IsActor, MayTurn, MayAct};
-ghost use Rattle.hum_engine.specs.Scene.{IsKind, Keeps, Fed, Done, IsAbout};
+ghost use Rattle.hum_engine.specs.Scene.{IsKind, Keeps, Done, IsAbout};
 ghost use Rattle.hum_engine.specs.Scene.{IsAboutKind, IsDoing, HasActor};
 ghost use Rattle.hum_engine.specs.Scene.{IsBegun, Stands, HasStage, held_of, HasFullLink, HasRoom};
-ghost use Rattle.hum_engine.specs.Scene.{HasIdleLink, HandsOut, WantsFrom, IsOffered, HasAccepted, IsWaiting};
+ghost use Rattle.hum_engine.specs.Scene.{HasIdleLink, WantsFrom, IsOffered, HasAccepted, IsWaiting};
 ghost use Rattle.hum_engine.specs.Scene.{IsCrowded, IsHanding};
 
 use crate::link::{Link, Taken};
