@@ -6,6 +6,7 @@ use Rattle.std.proofs.lemmas.List.{set-get_or}
 use Rattle.circular_buffer.proofs.Places.{slice_get-some}
 use Rattle.hum_record.specs.Row.{Row}
 use Rattle.hum_stage.specs.declared.faults.End.{End}
+use Rattle.hum_stage.specs.declared.contract.Stage.{Ghosts as Stage}
 use Rattle.hum_turns.specs.Flow.{Flow}
 use Rattle.hum_turns.specs.Plan.{last}
 use Rattle.hum_turns.specs.Links.{view, has_some}
@@ -14,7 +15,7 @@ use Rattle.hum_turns.proofs.States.{gives_more}
 use Rattle.hum_nodes.specs.Doing as does
 use Rattle.hum_nodes.specs.At.{At, output_of, after_change, HasTaken, MayChange}
 use Rattle.hum_nodes.specs.declared.node.Node.{Node}
-use Rattle.hum_nodes.specs.Nodes.{is_source}
+use Rattle.hum_nodes.specs.Nodes.{is_source, StandsAs}
 use Rattle.hum_engine.specs.declared.link.Link as port
 use Rattle.hum_engine.specs.declared.link.Taken.{Taken}
 use Rattle.hum_engine.specs.Links.{IsLink, Goes, Tells, room, taken_of}
@@ -27,28 +28,26 @@ use Rattle.hum_engine.proofs.Feeding.{room_same, link_at, node_of}
 use Rattle.hum_engine.proofs.Stepping.{has_done}
 use Rattle.hum_engine.proofs.Taking.{did_sink, did_take, left, may_change, wants_at}
 
-module _ {S R : Type 0} (stands : Node S R → List ℕ → At → Type 0) (k : ℕ) (doing : State)
-    (old new : Web S R) (s : Scene) where
-  pub done_by : Stands stands old s → (nodes : List (Node S R)) (links : List port.Link)
+module _ {S R : Type 0} (stage : Stage S) (k : ℕ) (doing : State) (old new : Web S R) (s : Scene) where
+  pub done_by : Stands stage old s → (nodes : List (Node S R)) (links : List port.Link)
       → length nodes ≡ length old.nodes.items → length links ≡ length old.links.items
-      → Did stands s k doing s.links nodes links
-      → new.nodes.items ≡ nodes → new.links.items ≡ links → Done stands k doing new s
+      → Did stage s k doing s.links nodes links
+      → new.nodes.items ≡ nodes → new.links.items ≡ links → Done stage k doing new s
   done_by st nodes links n l d en el = record {
     new = d.new;
     does = d.does;
     stand = record {
       count = ap length en ∙ n ∙ st.count;
       as_many = ap length el ∙ l ∙ st.as_many;
-      nodes = subst (NodesStand stands (moved s d.new)) (sym en) d.at_nodes;
+      nodes = subst (NodesStand stage (moved s d.new)) (sym en) d.at_nodes;
       links = subst (LinksStand s.size d.new) (sym el) d.at_links;
     };
   }
 
 -- The sink.
 
-module _ {S R : Type 0} {stands : Node S R → List ℕ → At → Type 0} {old : Web S R} {s : Scene} {n : ℕ} {link : port.Link}
-    (at : IsAt stands old s) (many : n ≡ length old.links.items)
-    (value : link ≡ get_or old.links.items (n - 1) link) where
+module _ {S R : Type 0} {stage : Stage S} {old : Web S R} {s : Scene} {n : ℕ} {link : port.Link} (at : IsAt stage old s)
+    (many : n ≡ length old.links.items) (value : link ≡ get_or old.links.items (n - 1) link) where
   is_last : n - 1 ≡ last (plan_of s)
   is_last = rw sub-one (ap pred (many ∙ at.stand.as_many))
 
@@ -58,12 +57,12 @@ module _ {S R : Type 0} {stands : Node S R → List ℕ → At → Type 0} {old 
 
   pub sunk : {new : Web S R} (after : port.Link) → Goes link after (λ l. popped l l.waiting)
       → new.nodes.items ≡ old.nodes.items → new.links.items ≡ slice_set old.links.items (n - 1) after
-      → Done stands s.count (Takes (last (plan_of s))) new s
+      → Done stage s.count (Takes (last (plan_of s))) new s
   sunk {new} after goes en el =
       let st = at.stand in
-      subst (λ i. Done stands s.count (Takes i) new s) is_last
-      (done_by stands s.count (Takes (n - 1)) old new s st _ _ refl (length-set old.links.items (n - 1) after)
-      (did_sink s (n - 1) stands old.nodes.items old.links.items st.nodes st.links st.count link after
+      subst (λ i. Done stage s.count (Takes i) new s) is_last
+      (done_by stage s.count (Takes (n - 1)) old new s st _ _ refl (length-set old.links.items (n - 1) after)
+      (did_sink s (n - 1) stage old.nodes.items old.links.items st.nodes st.links st.count link after
       last_there goes at.reached.ok is_last) en el)
 
   pub told_taken : {answer : Taken} → Tells link answer (λ size l. taken_of l.waiting l.mark)
@@ -80,15 +79,15 @@ module _ {S R : Type 0} {stands : Node S R → List ℕ → At → Type 0} {old 
 set_same : {X : Type 0} (xs : List X) (i : ℕ) (x : X) → slice_get xs i ≡ Some x → slice_set xs i x ≡ xs
 set_same xs i x h = ap (slice_set xs i) (sym (get_or_from_slice_get xs i x x h)) ∙ set-get_or xs i x
 
-pub finished : {S R : Type 0} {stands : Node S R → List ℕ → At → Type 0} {k : ℕ} {old new : Web S R} {s : Scene}
-    {e : End} {link : port.Link} (after : port.Link) → MayAct stands k (does.Done e) old s
+pub finished : {S R : Type 0} {stage : Stage S} {k : ℕ} {old new : Web S R} {s : Scene}
+    {e : End} {link : port.Link} (after : port.Link) → MayAct stage k (does.Done e) old s
     → slice_get old.links.items k ≡ Some link → Goes link after (ended e) → new.nodes.items ≡ old.nodes.items
-    → new.links.items ≡ slice_set old.links.items k after → Done stands k Ends new s
-finished {S} {R} {stands} {k} {old} {new} {s} {e} {link} after may at goes en el =
+    → new.links.items ≡ slice_set old.links.items k after → Done stage k Ends new s
+finished {S} {R} {stage} {k} {old} {new} {s} {e} {link} after may at goes en el =
     let st = may.at.stand in
-    let node = node_of stands k old s may.less st in
-    done_by stands k Ends old new s st _ _ (length-set old.nodes.items k node.0) (length-set old.links.items k after)
-    (did_end stands s k s.links old.nodes.items old.links.items (λ i y o g. st.nodes i y g) st.links node.0 after e
+    let node = node_of stage k old s may.less st in
+    done_by stage k Ends old new s st _ _ (length-set old.nodes.items k node.0) (length-set old.links.items k after)
+    (did_end stage s k s.links old.nodes.items old.links.items (λ i y o g. st.nodes i y g) st.links node.0 after e
     (done_end s s.links k e may.does) (st.nodes k node.0 node.1) (goes s.size (s.links k) (st.links k link at)))
     (en ∙ sym (set_same old.nodes.items k node.0 node.1)) el
 
@@ -105,25 +104,24 @@ keeps {S} {R} {k} {old} {new} node kind e = record {
       ];
 }
 
-module _ {S R : Type 0} {stands : Node S R → List ℕ → At → Type 0} {k : ℕ} {old : Web S R} {s : Scene}
-    (may : MayAct stands k does.Gives old s) where
+module _ {S R : Type 0} {stage : Stage S} {k : ℕ} {old : Web S R} {s : Scene} (may : MayAct stage k does.Gives old s) where
   pub gives_room : {link : port.Link} → link ≡ get_or old.links.items k link → room link ≡ true
   gives_room e =
       room_same k may.at.stand (link_at may.less may.at.stand e)
       ∙ sym (ap (can s.size s.links k) (state_gives s s.links k may.less may.does)) ∙ may.can
 
   module _ {node : Node S R} {o : Option Row} (after : Node S R) (at_node : slice_get old.nodes.items k ≡ Some node)
-      (taken : (rest : List ℕ) → HasTaken (stands node rest) (stands after rest) o) where
+      (taken : (rest : List ℕ) → HasTaken (StandsAs stage.stands node rest) (StandsAs stage.stands after rest) o) where
     pub gave : {new : Web S R} {link : port.Link} {x : Row} (put : port.Link)
         → slice_get old.links.items k ≡ Some link → o ≡ Some x → Goes link put (λ l. pushed l x)
         → new.nodes.items ≡ slice_set old.nodes.items k after
-        → new.links.items ≡ slice_set old.links.items k put → Done stands k Gives new s
+        → new.links.items ≡ slice_set old.links.items k put → Done stage k Gives new s
     gave {new} {link} {x} put at_link is goes en el =
         let st = may.at.stand in
         let t = at_of s.kinds s.links k in
         let h = rw is at (taken (s.rests k) t (st.nodes k node at_node)) in
-        done_by stands k Gives old new s st _ _ (length-set old.nodes.items k after) (length-set old.links.items k put)
-        (did_give stands s k s.links old.nodes.items old.links.items (λ i y o g. st.nodes i y g) st.links
+        done_by stage k Gives old new s st _ _ (length-set old.nodes.items k after) (length-set old.links.items k put)
+        (did_give stage s k s.links old.nodes.items old.links.items (λ i y o g. st.nodes i y g) st.links
         after put x (sym h.0) h.1 (goes s.size (s.links k) (st.links k link at_link))) en el
 
     -- it has something to give
@@ -135,19 +133,18 @@ module _ {S R : Type 0} {stands : Node S R → List ℕ → At → Type 0} {k : 
         (next.0, (taken (s.rests k) t (may.at.stand.nodes k node at_node)).0 ∙ next.1)
 
 -- A stage takes from this link, at this place.
-pub record Passing {S R : Type 0} (stands : Node S R → List ℕ → At → Type 0) (k place : ℕ) (old : Web S R)
+pub record Passing {S R : Type 0} (stage : Stage S) (k place : ℕ) (old : Web S R)
     (s : Scene) (i : ℕ) (link : port.Link) : Type 0 where
-  pub may : MayAct stands k (does.Wants place) old s
+  pub may : MayAct stage k (does.Wants place) old s
   pub at : slice_get (s.kinds k).stage.sources place ≡ Some i
   pub index : i ≡ slice_index (s.kinds k).stage.sources place
   pub lower : i < k
   pub some : has_some (s.links i) ≡ true
   pub at_link : slice_get old.links.items i ≡ Some link
 
-module _ {S R : Type 0} {stands : Node S R → List ℕ → At → Type 0} {k place : ℕ} {old : Web S R} {s : Scene} {i : ℕ}
-    {link : port.Link} where
-  pub passing : MayAct stands k (does.Wants place) old s → i ≡ slice_index (s.kinds k).stage.sources place
-      → link ≡ get_or old.links.items i link → Passing stands k place old s i link
+module _ {S R : Type 0} {stage : Stage S} {k place : ℕ} {old : Web S R} {s : Scene} {i : ℕ} {link : port.Link} where
+  pub passing : MayAct stage k (does.Wants place) old s → i ≡ slice_index (s.kinds k).stage.sources place
+      → link ≡ get_or old.links.items i link → Passing stage k place old s i link
   passing may e value =
       let w = wants_at s k place may.at.reached.ok may.less may.does in
       record {
@@ -159,10 +156,10 @@ module _ {S R : Type 0} {stands : Node S R → List ℕ → At → Type 0} {k pl
         at_link = nth old.links.items i link (omega (arith, w.lower, may.at.stand.as_many, may.less, e)) value;
       }
 
-  pub link_here : Passing stands k place old s i link → IsLink s.size link (s.links i)
+  pub link_here : Passing stage k place old s i link → IsLink s.size link (s.links i)
   link_here w = w.may.at.stand.links i link w.at_link
 
-  module _ {change : Flow Row → Flow Row} (w : Passing stands k place old s i link)
+  module _ {change : Flow Row → Flow Row} (w : Passing stage k place old s i link)
       (v : view (left s i) ≡ change (view (s.links i))) where
     pub may_take : MayChange (at_of s.kinds s.links k) change place
     may_take =
@@ -170,18 +167,18 @@ module _ {S R : Type 0} {stands : Node S R → List ℕ → At → Type 0} {k pl
 
     pub passed : {new : Web S R} {node : Node S R} (after : Node S R) (put : port.Link)
         → slice_get old.nodes.items k ≡ Some node
-        → ((rest : List ℕ) (t : At) → stands node rest t → MayChange t change place
-        → stands after rest (after_change change place t))
+        → ((rest : List ℕ) (t : At) → StandsAs stage.stands node rest t → MayChange t change place
+        → StandsAs stage.stands after rest (after_change change place t))
         → Goes link put (λ l. popped l l.waiting)
         → new.nodes.items ≡ slice_set old.nodes.items k after
         → new.links.items ≡ slice_set old.links.items i put
-        → Done stands k (state (plan_of s) s.links k) new s
+        → Done stage k (state (plan_of s) s.links k) new s
     passed {new} {node} after put at_node puts goes en el =
         let st = w.may.at.stand in
         has_done (state_at s s.links k w.may.less w.may.does)
-        (subst (λ j. Done stands k (Takes j) new s) w.index
-        (done_by stands k (Takes i) old new s st _ _ (length-set old.nodes.items k after) (length-set old.links.items i put)
-        (did_take s i stands old.nodes.items old.links.items st.nodes st.links st.count link put
+        (subst (λ j. Done stage k (Takes j) new s) w.index
+        (done_by stage k (Takes i) old new s st _ _ (length-set old.nodes.items k after) (length-set old.links.items i put)
+        (did_take s i stage old.nodes.items old.links.items st.nodes st.links st.count link put
         w.at_link goes k place after change w.may.at.reached.tree w.may.less w.lower w.at v
         (puts (s.rests k) (at_of s.kinds s.links k) (st.nodes k node at_node) may_take))
         en el))

@@ -2,28 +2,28 @@
 use Rattle.std.proofs.Common.{◌≡◌, ◌∙◌, ℕ, Bool, false, List, [], ◌++◌, Option, None, refl, sym, ap, subst, append_assoc, arith}
 use Rattle.std.proofs.Math.Path.{fun_ext}
 use Rattle.std.specs.Prelude.{is_some, IfSome}
+use Rattle.hum_text.specs.declared.calls.Source.{Ghosts as Source}
+use Rattle.hum_text.specs.declared.calls.Sink.{Ghosts as Sink}
 use Rattle.hum_record.specs.Row.{Row}
+use Rattle.hum_stage.specs.declared.contract.Stage.{Ghosts as Stage}
 use Rattle.hum_turns.specs.Failures.{Now, result}
 use Rattle.hum_turns.specs.Orders.{Order, LeansTo}
 use Rattle.hum_turns.proofs.Writing.{still}
-use Rattle.hum_nodes.specs.At.{At}
-use Rattle.hum_nodes.specs.Polls.{HasRead}
-use Rattle.hum_nodes.specs.declared.node.Node.{Node}
 use Rattle.hum_nodes.proofs.Followed.{read_none, read_more}
 use Rattle.hum_engine.specs.declared.net.Net.{Net}
 use Rattle.hum_engine.specs.declared.search.Search.{Search}
 use Rattle.hum_engine.specs.Scene.{Scene, plan_of, before_all}
-use Rattle.hum_engine.specs.Readers.{ended_at, remaining_at}
 use Rattle.hum_engine.specs.Nets.{NetAt, IsRunning, AreOver, Sees, HasStepped, HasAdvanced, MarksFailures, MayPick, MayStep}
 use Rattle.hum_engine.specs.Nets.{MayAdvance, Leads, Watches}
 use Rattle.hum_engine.proofs.Netting.{not_over}
 use Rattle.hum_engine.proofs.Running.{driven_on, no_rests, seen, unfailed_at}
+use Rattle.hum_engine.specs.Readers.{HaveRead}
 
 -- A run goes on.
-module _ {S R W : Type 0} {stands : Node S R → List ℕ → At → Type 0} {contents : W → Option (List ℕ)} {flushed : W → Bool}
-    {look : Option Search} {net : Net S R W} (may : MayStep stands contents flushed look net) where
+module _ {S R W : Type 0} {stage : Stage S} {writer : Sink W}
+    {look : Option Search} {net : Net S R W} (may : MayStep stage writer look net) where
   -- where nothing more is to come
-  pub pick_now : MayPick stands contents flushed look net
+  pub pick_now : MayPick stage writer look net
   pick_now = record {
     running = record {
       start = may.start;
@@ -42,48 +42,45 @@ module _ {S R W : Type 0} {stands : Node S R → List ℕ → At → Type 0} {co
   pub record Then (reads rests : ℕ → List ℕ) : Type 0 where
     pub scene : Scene
     pub now : Now Row
-    pub at : NetAt stands contents flushed may.start (before_all reads (record scene { rests = rests })) net now
+    pub at : NetAt stage writer may.start (before_all reads (record scene { rests = rests })) net now
     pub going : result (plan_of scene) now ≡ None
     pub sees : Sees look (record scene { rests = rests }) now net
 
-  pub then_at : (remaining : R → Option (List ℕ)) (new : Net S R W) (reads rests : ℕ → List ℕ)
-      → ((i : ℕ) → HasRead (ended_at i net.web.nodes.items) (ended_at i new.web.nodes.items)
-      (remaining_at remaining i net.web.nodes.items) (remaining_at remaining i new.web.nodes.items) (reads i))
-      → AreOver new.web.nodes.items rests → Then reads rests
-  then_at remaining new reads rests read over =
+  pub then_at : (reader : Source R) (new : Net S R W) (reads rests : ℕ → List ℕ)
+      → HaveRead reader net.web.nodes.items new.web.nodes.items reads → AreOver new.web.nodes.items rests → Then reads rests
+  then_at reader new reads rests read over =
       let all : ℕ → List ℕ = λ i. reads i ++ rests i in
       let was : AreOver net.web.nodes.items all = λ i e.
       ap (λ l. l ++ rests i) ((read i).still e).0 ∙ over i ((read i).still e).1 in
       record {
         scene = may.scene all was;
         now = may.now all was;
-        at = subst (λ f. NetAt stands contents flushed may.start (record (may.scene all was) { rests = f }) net (may.now all was))
+        at = subst (λ f. NetAt stage writer may.start (record (may.scene all was) { rests = f }) net (may.now all was))
             (may.rests all was) (may.at all was);
         going = may.going all was;
         sees = seen look (may.scene all was) rests (may.now all was) net (may.sees all was);
       }
 
 -- Where a step leads, if these bytes are still to come then.
-module _ {S R W O : Type 0} {stands : Node S R → List ℕ → At → Type 0} {remaining : R → Option (List ℕ)}
-    {contents : W → Option (List ℕ)} {flushed : W → Bool} {order : Order O} {before look : Option Search} {o p : O}
-    {old net : Net S R W} {is_over : Bool} (may : MayStep stands contents flushed before old)
-    (one : HasStepped stands remaining contents flushed order o p before look old net is_over)
-    (rests : ℕ → List ℕ) (over : AreOver net.web.nodes.items rests) where
+module _ {S R W O : Type 0} {stage : Stage S} {reader : Source R} {writer : Sink W} {order : Order O}
+    {before look : Option Search} {o p : O} {old net : Net S R W} {is_over : Bool} (may : MayStep stage writer before old)
+    (one : HasStepped stage reader writer order o p before look old net is_over) (rests : ℕ → List ℕ)
+    (over : AreOver net.web.nodes.items rests) where
   abbrev pub then_on : Then may one.reads rests
-  then_on = then_at may remaining net one.reads rests one.read over
+  then_on = then_at may reader net one.reads rests one.read over
 
-  pub led_on : (d : Leads stands contents flushed order o p may.start (record then_on.scene { rests = rests }) then_on.now net)
+  pub led_on : (d : Leads stage writer order o p may.start (record then_on.scene { rests = rests }) then_on.now net)
       × Watches look is_over (record then_on.scene { rests = rests }) d.to net
   led_on = one.goes may.start (record then_on.scene { rests = rests }) then_on.now over then_on.at then_on.going then_on.sees
 
-  pub running_on : IsRunning stands contents flushed net
+  pub running_on : IsRunning stage writer net
   running_on = record { start = may.start; scene = record then_on.scene { rests = rests }; now = led_on.0.to; at = led_on.0.at }
 
-module _ {S R W O : Type 0} {stands : Node S R → List ℕ → At → Type 0} {remaining : R → Option (List ℕ)}
-    {contents : W → Option (List ℕ)} {flushed : W → Bool} {order : Order O} {before look : Option Search} {o p : O}
-    {old net : Net S R W} (one : HasStepped stands remaining contents flushed order o p before look old net false) where
+module _ {S R W O : Type 0} {stage : Stage S} {reader : Source R}
+    {writer : Sink W} {order : Order O} {before look : Option Search} {o p : O}
+    {old net : Net S R W} (one : HasStepped stage reader writer order o p before look old net false) where
   -- Behind a step that doesn't end the run another may follow.
-  pub may_on : MayStep stands contents flushed before old → MayStep stands contents flushed look net
+  pub may_on : MayStep stage writer before old → MayStep stage writer look net
   may_on may = record {
     start = may.start;
     scene = λ rests over. record ((then_on may one rests over).scene) { rests = rests };
@@ -96,8 +93,8 @@ module _ {S R W O : Type 0} {stands : Node S R → List ℕ → At → Type 0} {
 
   -- Two steps are one.
   pub stepped_twice : {after : Option Search} {is_over : Bool} {q : O} {new : Net S R W}
-      → HasStepped stands remaining contents flushed order p q look after net new is_over
-      → HasStepped stands remaining contents flushed order o q before after old new is_over
+      → HasStepped stage reader writer order p q look after net new is_over
+      → HasStepped stage reader writer order o q before after old new is_over
   stepped_twice {after} {is_over} {q} {new} two = record {
     reads = λ i. one.reads i ++ two.reads i;
     read = λ i. read_more _ _ _ _ _ _ _ _ (one.read i) (two.read i);
@@ -105,7 +102,7 @@ module _ {S R W O : Type 0} {stands : Node S R → List ℕ → At → Type 0} {
         let mid : Scene = before_all two.reads s in
         let d = one.goes start mid now
         (λ i e. ap (λ l. l ++ s.rests i) ((two.read i).still e).0 ∙ over i ((two.read i).still e).1)
-        (subst (λ (f : ℕ → List ℕ). NetAt stands contents flushed start (record s { rests = f }) old now)
+        (subst (λ (f : ℕ → List ℕ). NetAt stage writer start (record s { rests = f }) old now)
         (fun_ext (λ i. append_assoc (one.reads i) (two.reads i) (s.rests i))) h)
         none (seen before s mid.rests now old sees) in
         let going = not_over _ d.1.tells refl in
@@ -115,21 +112,21 @@ module _ {S R W O : Type 0} {stands : Node S R → List ℕ → At → Type 0} {
   }
 
 -- Nothing has moved.
-pub marks_none : {S R W : Type 0} {failed : R → Bool} {broken : W → Bool} {old new : Net S R W} → new ≡ old → old.failure ≡ None
-    → MarksFailures failed broken old new
-marks_none {S} {R} {W} {failed} {broken} {old} {new} same none = subst (MarksFailures failed broken old) (sym same) (record {
+pub marks_none : {S R W : Type 0} {reader : Source R} {writer : Sink W} {old new : Net S R W} → new ≡ old → old.failure ≡ None
+    → MarksFailures reader writer old new
+marks_none {reader = reader} {writer} {old} same none = subst (MarksFailures reader writer old) (sym same) (record {
   reads = λ i. grind (arith, none);
   writes = grind (arith, none);
   takers = refl;
 })
 
-module _ {S R W O : Type 0} {stands : Node S R → List ℕ → At → Type 0} {remaining : R → Option (List ℕ)} {failed : R → Bool}
-    {contents : W → Option (List ℕ)} {flushed broken : W → Bool} {order : Order O} {before : Option Search} {o : O} {old : Net S R W}
+module _ {S R W O : Type 0} {stage : Stage S} {reader : Source R}
+    {writer : Sink W} {order : Order O} {before : Option Search} {o : O} {old : Net S R W}
     (leans : IfSome before (λ look. LeansTo look.side order.pick order.next o)) (none : old.failure ≡ None) where
   pub advanced_none : {new : Net S R W} → new ≡ old
-      → HasAdvanced stands remaining failed contents flushed broken order o o before before old new false
+      → HasAdvanced stage reader writer order o o before before old new false
   advanced_none same = record {
-    stepped = subst (λ n. HasStepped stands remaining contents flushed order o o before before old n false) (sym same) (record {
+    stepped = subst (λ n. HasStepped stage reader writer order o o before before old n false) (sym same) (record {
       reads = λ i. [];
       read = λ i. read_none _ _;
       goes = λ start s now over h none sees. (
@@ -141,16 +138,15 @@ module _ {S R W O : Type 0} {stands : Node S R → List ℕ → At → Type 0} {
     marks = marks_none same none;
   }
 
-module _ {S R W O : Type 0} {stands : Node S R → List ℕ → At → Type 0} {remaining : R → Option (List ℕ)} {failed : R → Bool}
-    {contents : W → Option (List ℕ)} {flushed broken : W → Bool} {order : Order O} {before look : Option Search} {o p : O}
-    {old net : Net S R W} (may : MayAdvance stands contents flushed order o before old)
-    (one : HasAdvanced stands remaining failed contents flushed broken order o p before look old net false) where
-  pub may_then : MayAdvance stands contents flushed order p look net
+module _ {S R W O : Type 0} {stage : Stage S} {reader : Source R} {writer : Sink W} {order : Order O}
+    {before look : Option Search} {o p : O} {old net : Net S R W} (may : MayAdvance stage writer order o before old)
+    (one : HasAdvanced stage reader writer order o p before look old net false) where
+  pub may_then : MayAdvance stage writer order p look net
   may_then = record { step = may_on one.stepped may.step; leans = one.leans }
 
   pub advanced_twice : {after : Option Search} {is_over : Bool} {q : O} {new : Net S R W}
-      → HasAdvanced stands remaining failed contents flushed broken order p q look after net new is_over
-      → HasAdvanced stands remaining failed contents flushed broken order o q before after old new is_over
+      → HasAdvanced stage reader writer order p q look after net new is_over
+      → HasAdvanced stage reader writer order o q before after old new is_over
   advanced_twice {after} {is_over} {q} {new} two =
       let none = none_yet may_then.step in
       record {

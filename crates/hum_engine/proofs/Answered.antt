@@ -2,8 +2,9 @@
 use Rattle.std.proofs.Common.{◌≡◌, ◌∙◌, ℕ, Bool, true, false, List, Option, Some, Ok, Err, refl, sym, ap, slice_get}
 use Rattle.std.proofs.Common.{slice_set, get_or, inr, is_none}
 use Rattle.std.proofs.lemmas.Bool.{false≢true}
+use Rattle.hum_text.specs.declared.calls.Source.{Ghosts as Source}
 use Rattle.hum_record.specs.Row.{Row}
-use Rattle.hum_stage.specs.Meaning.{Moment}
+use Rattle.hum_stage.specs.declared.contract.Stage.{Ghosts as Stage}
 use Rattle.hum_read.specs.declared.ReadError.TheVariants as error
 use Rattle.hum_turns.specs.Flow.{Flow}
 use Rattle.hum_turns.specs.Links.{has_room}
@@ -33,50 +34,49 @@ use Rattle.hum_engine.proofs.Stepping.{has_done}
 use Rattle.hum_engine.proofs.Turning.{acting, actor_of, asks_no_one, stage_fed, stage_ready, stage_too, turn_of}
 
 -- What is asked of a look whether it can do this.
-abbrev pub MayCan : {S R : Type 0} → (Node S R → List ℕ → At → Type 0) → ℕ → Web S R → Readiness → Type 0
-MayCan stands k web r = record { about : Somewhere (IsAboutKind stands k r web); stage : IsKind false k web }
+abbrev pub MayCan : {S R : Type 0} → Stage S → ℕ → Web S R → Readiness → Type 0
+MayCan stage k web r = record { about : Somewhere (IsAboutKind stage k r web); stage : IsKind false k web }
 
 -- What follows from what a stage does next.
-module _ {S R : Type 0} {stands : Node S R → List ℕ → At → Type 0} {k : ℕ} {web : Web S R} where
-  pub may_can : {r : Readiness} → IsDoing stands k web r → Somewhere (HasActor stands k web) → MayCan stands k web r
+module _ {S R : Type 0} {stage : Stage S} {k : ℕ} {web : Web S R} where
+  pub may_can : {r : Readiness} → IsDoing stage k web r → Somewhere (HasActor stage k web) → MayCan stage k web r
   may_can doing h = record {
     about = record { scene = h.scene; holds = doing.1 h.scene h.holds.at h.holds.less };
     stage = doing.0;
   }
 
-  pub may_try : {place : ℕ} → IsDoing stands k web (kinds.Wants place) → Somewhere (HasActor stands k web)
-      → Somewhere (IsAbout stands k (does.Wants place) web)
+  pub may_try : {place : ℕ} → IsDoing stage k web (kinds.Wants place) → Somewhere (HasActor stage k web)
+      → Somewhere (IsAbout stage k (does.Wants place) web)
   may_try doing h = record { scene = h.scene; holds = wants_about (doing.1 h.scene h.holds.at h.holds.less) refl }
 
-  pub may_turn : (h : Somewhere (HasActor stands k web))
-      → ready (plan_of h.scene) h.scene.size h.scene.links k ≡ true → Somewhere (MayTurn stands k web)
+  pub may_turn : (h : Somewhere (HasActor stage k web))
+      → ready (plan_of h.scene) h.scene.size h.scene.links k ≡ true → Somewhere (MayTurn stage k web)
   may_turn h is = record { scene = h.scene; holds = record { at = h.holds.at; less = h.holds.less; ready = is } }
 
   module _ {b : Bool} {s : Scene} where
-    pub can_ready : {r : Readiness} → IsDoing stands k web r → HasActor stands k web s
-        → ((s : Scene) → IsAboutKind stands k r web s → b ≡ can s.size s.links k (state (plan_of s) s.links k))
+    pub can_ready : {r : Readiness} → IsDoing stage k web r → HasActor stage k web s
+        → ((s : Scene) → IsAboutKind stage k r web s → b ≡ can s.size s.links k (state (plan_of s) s.links k))
         → b ≡ ready (plan_of s) s.size s.links k
     can_ready doing h tells = let a = doing.1 s h.at h.less in tells s a ∙ sym (stage_ready (about_by a refl))
 
     module _ {link : port.Link} where
-      pub gives_ready : IsDoing stands k web kinds.Gives → HasActor stands k web s
+      pub gives_ready : IsDoing stage k web kinds.Gives → HasActor stage k web s
           → link ≡ get_or web.links.items k link → Tells link b has_room → b ≡ ready (plan_of s) s.size s.links k
       gives_ready doing h e tells =
           let a = gives_about (doing.1 s h.at h.less) refl in room_gives a e tells ∙ sym (stage_ready a)
 
-      pub ends_ready : IsDoing stands k web kinds.Done → HasActor stands k web s
+      pub ends_ready : IsDoing stage k web kinds.Done → HasActor stage k web s
           → link ≡ get_or web.links.items k link → Tells link b (λ size l. is_none l.mark)
           → b ≡ ready (plan_of s) s.size s.links k
       ends_ready doing h e tells =
           let a = (done_about (doing.1 s h.at h.less) refl).1 in unset_ends a e tells ∙ sym (stage_ready a)
 
-module _ {S R : Type 0} {stage : S → Moment → Type 0} {tells : R → Option (List ℕ)} {calls : R → ℕ}
-    {failed : R → Bool} {k : ℕ} {old new : Web S R} where
+module _ {S R : Type 0} {stage : Stage S} {reader : Source R} {k : ℕ} {old new : Web S R} where
   -- one that changes the stage's own link
-  pub told_own : IsKind false k old → Keeps k old new → {here : Scene} → MayTurn (StandsAs stage) k old here
-      → ((s : Scene) → MayTurn (StandsAs stage) k old s → Done (StandsAs stage) k (state (plan_of s) s.links k) new s)
-      → ((s : Scene) → IsActor (StandsAs stage) k old s → k ≡ touched k (state (plan_of s) s.links k))
-      → HasTold (StandsAs stage) tells calls failed k old new
+  pub told_own : IsKind false k old → Keeps k old new → {here : Scene} → MayTurn stage k old here
+      → ((s : Scene) → MayTurn stage k old s → Done stage k (state (plan_of s) s.links k) new s)
+      → ((s : Scene) → IsActor stage k old s → k ≡ touched k (state (plan_of s) s.links k))
+      → HasTold stage reader k old new
       (Ok (record { link = k; is_full = false; has_taken = false }))
   told_own was keep may does touches = record {
     turned = stage_fed may was does keep;
@@ -88,9 +88,9 @@ module _ {S R : Type 0} {stage : S → Moment → Type 0} {tells : R → Option 
   }
 
   -- one that gives
-  pub told_given : IsDoing (StandsAs stage) k old kinds.Gives → Keeps k old new → Somewhere (MayTurn (StandsAs stage) k old)
-      → ((s : Scene) → MayAct (StandsAs stage) k does.Gives old s → Done (StandsAs stage) k Gives new s)
-      → HasTold (StandsAs stage) tells calls failed k old new
+  pub told_given : IsDoing stage k old kinds.Gives → Keeps k old new → Somewhere (MayTurn stage k old)
+      → ((s : Scene) → MayAct stage k does.Gives old s → Done stage k Gives new s)
+      → HasTold stage reader k old new
       (Ok (record { link = k; is_full = false; has_taken = false }))
   told_given doing keep here given = told_own doing.0 keep here.holds
       (λ u turn.
@@ -100,24 +100,23 @@ module _ {S R : Type 0} {stage : S → Moment → Type 0} {tells : R → Option 
       let h = stage_too (actor_of here.holds) actor in touched_gives (gives_about (doing.1 u h.at h.less) refl))
 
   -- one that ran out of memory
-  pub told_out : IsKind false k old → Keeps k old new → HasTold (StandsAs stage) tells calls failed k old new
+  pub told_out : IsKind false k old → Keeps k old new → HasTold stage reader k old new
       (Err error.Memory)
   told_out was keep =
       record { turned = tt; link = tt; full = tt; room = tt; read = λ h. cc; asked = asks_no_one was keep _ refl }
 
 -- What the turn of a stage tells that has taken this from its source.
-pub told_taken : {S R : Type 0} {stage : S → Moment → Type 0} {tells : R → Option (List ℕ)} {calls : R → ℕ}
-    {failed : R → Bool} {k place source : ℕ} {web new : Web S R} {node : Node S R} {link : port.Link} {answer : Taken}
+pub told_taken : {S R : Type 0} {stage : Stage S} {reader : Source R} {k place source : ℕ} {web new : Web S R} {node : Node S R} {link : port.Link} {answer : Taken}
     {full has : Bool} {here : Scene} (change : Flow Row → Flow Row) (after : Node S R) (put : port.Link)
-    → WantsFrom (StandsAs stage) k place source web → link ≡ get_or web.links.items source link
+    → WantsFrom stage k place source web → link ≡ get_or web.links.items source link
     → Tells link answer (λ size l. taken_of l.waiting l.mark)
-    → HasActor (StandsAs stage) k web here → node ≡ get_or web.nodes.items k node
+    → HasActor stage k web here → node ≡ get_or web.nodes.items k node
     → is_some_of answer ≡ true → Changes link source change → is_source after ≡ false
-    → ((rest : List ℕ) (place : ℕ) → HasChanged (StandsAs stage node rest) (StandsAs stage after rest) place change)
+    → ((rest : List ℕ) (place : ℕ) → HasChanged (StandsAs stage.stands node rest) (StandsAs stage.stands after rest) place change)
     → Goes link put (λ l. popped l l.waiting) → new.nodes.items ≡ slice_set web.nodes.items k after
     → new.links.items ≡ slice_set web.links.items source put
     → (full ≡ true → HasFullLink k new × (after.readiness ≡ kinds.Gives)) → (has ≡ true → room put ≡ true)
-    → HasTold (StandsAs stage) tells calls failed k web new
+    → HasTold stage reader k web new
     (Ok (record { link = source; is_full = full; has_taken = has }))
 told_taken {S} {R} {stage} {k = k} {place} {source = source} {web = web} {new = new} {node = node} {link = link} {here = here}
     change after put w value told h e some changes kind puts goes en el full has =
@@ -133,7 +132,7 @@ told_taken {S} {R} {stage} {k = k} {place} {source = source} {web = web} {new = 
       link = λ u actor.
           let a = stage_too h actor in touched_takes (next_about w a) (next_source w a);
       full = λ is.
-          let l = link_of (StandsAs stage) k web here h.less h.at.stand in
+          let l = link_of stage k web here h.less h.at.stand in
           let its = set_there web.links.items source k put l.0 l.1 in
           let at = ap (λ ls. slice_get ls k) el ∙ its.1 in
           record {

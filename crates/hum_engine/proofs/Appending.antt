@@ -9,6 +9,7 @@ use Rattle.std.proofs.lemmas.Bool.{or_right, eqb-false}
 use Rattle.std.proofs.lemmas.List.{nil_from_length, take_all, take-append-drop}
 use Rattle.std.proofs.Math.Nat.{min-le_left}
 use Rattle.hum_text.specs.Calls.{counted}
+use Rattle.hum_text.specs.declared.calls.Sink.{Ghosts as Sink}
 use Rattle.hum_engine.specs.Writing.{Wrote, HasWritten}
 
 pub appends_none : (c : Option (List ℕ)) → Appends c c []
@@ -31,42 +32,41 @@ one_call : (n m : ℕ) → m ≡ counted n → m ≤ n + 1
 one_call n m is = rw is (min-le_left (n + 1) 18446744073709551615)
 
 -- Some of a text was written, by calls that didn't fail, and the rest is left.
-pub record IsWriting {W : Type 0} (contents : W → Option (List ℕ)) (failed : W → Bool) (calls : W → ℕ) (old now : W)
+pub record IsWriting {W : Type 0} (writer : Sink W) (old now : W)
     (text rest : List ℕ) : Type 0 where
-  pub wrote : Wrote (contents old) (contents now) text rest
-  pub sound : failed now ≡ failed old
-  pub few : calls now + length rest ≤ calls old + length text
+  pub wrote : Wrote (writer.contents old) (writer.contents now) text rest
+  pub sound : writer.failed now ≡ writer.failed old
+  pub few : writer.calls now + length rest ≤ writer.calls old + length text
 
-pub begun : {W : Type 0} {contents : W → Option (List ℕ)} {failed : W → Bool} {calls : W → ℕ} (sink : W) (text : List ℕ)
-    → IsWriting contents failed calls sink sink text text
-begun {contents = contents} sink text = record {
-  wrote = record { bytes = []; sum = refl; appends = appends_none (contents sink) };
+pub begun : {W : Type 0} {writer : Sink W} (sink : W) (text : List ℕ)
+    → IsWriting writer sink sink text text
+begun {writer = writer} sink text = record {
+  wrote = record { bytes = []; sum = refl; appends = appends_none (writer.contents sink) };
   sound = refl;
   few = omega arith;
 }
 
-module _ {W : Type 0} {contents : W → Option (List ℕ)} {failed : W → Bool} {calls : W → ℕ} {old now : W} {text rest : List ℕ}
-    (w : IsWriting contents failed calls old now text rest) where
+module _ {W : Type 0} {writer : Sink W} {old now : W} {text rest : List ℕ} (w : IsWriting writer old now text rest) where
   -- A call takes bytes of it.
-  pub writes_on : {new : W} (n : ℕ) → (n ≡ 0 → ⊥) → n ≤ length rest → Appends (contents now) (contents new) (take n rest)
-      → calls new ≡ counted (calls now) → failed new ≡ (failed now || (n == 0))
-      → IsWriting contents failed calls old new text (take (length rest - n) (drop n rest))
+  pub writes_on : {new : W} (n : ℕ) → (n ≡ 0 → ⊥) → n ≤ length rest → Appends (writer.contents now) (writer.contents new) (take n rest)
+      → writer.calls new ≡ counted (writer.calls now) → writer.failed new ≡ (writer.failed now || (n == 0))
+      → IsWriting writer old new text (take (length rest - n) (drop n rest))
   writes_on {new} n some within appends called marked =
       rw (take_all (length rest - n) (drop n rest) (omega (arith, length-drop n rest))) (record {
         wrote = record {
           bytes = w.wrote.bytes ++ take n rest;
           sum = rw (append_assoc, take-append-drop n rest) w.wrote.sum;
-          appends = appends_trans (contents old) (contents now) (contents new) w.wrote.bytes (take n rest) w.wrote.appends appends;
+          appends = appends_trans (writer.contents old) (writer.contents now) (writer.contents new) w.wrote.bytes (take n rest) w.wrote.appends appends;
         };
         sound = grind (arith, ne_eqb n 0 some, marked, w.sound);
-        few = omega (arith, length-drop n rest, w.few, one_call (calls now) (calls new) called, some, within);
+        few = omega (arith, length-drop n rest, w.few, one_call (writer.calls now) (writer.calls new) called, some, within);
       })
 
   -- Another call writes the rest.
-  pub written_behind : {A E : Type 0} {new : W} {result : Result A E} → HasWritten contents failed calls now new rest result
-      → HasWritten contents failed calls old new text result
+  pub written_behind : {A E : Type 0} {new : W} {result : Result A E} → HasWritten writer now new rest result
+      → HasWritten writer old new text result
   written_behind {new = new} {result = Ok x} h = record {
-    ok = rw (sym w.wrote.sum) (appends_trans (contents old) (contents now) (contents new) w.wrote.bytes rest w.wrote.appends h.ok);
+    ok = rw (sym w.wrote.sum) (appends_trans (writer.contents old) (writer.contents now) (writer.contents new) w.wrote.bytes rest w.wrote.appends h.ok);
     err = tt;
     sound = h.sound ∙ w.sound;
     marked = tt;
@@ -77,7 +77,7 @@ module _ {W : Type 0} {contents : W → Option (List ℕ)} {failed : W → Bool}
     err = record {
       bytes = w.wrote.bytes ++ h.err.bytes;
       front = (h.err.front.0, rw (append_assoc, h.err.front.1) w.wrote.sum);
-      appends = appends_trans (contents old) (contents now) (contents new) w.wrote.bytes h.err.bytes w.wrote.appends h.err.appends;
+      appends = appends_trans (writer.contents old) (writer.contents now) (writer.contents new) w.wrote.bytes h.err.bytes w.wrote.appends h.err.appends;
     };
     sound = tt;
     marked = h.marked;
@@ -85,19 +85,19 @@ module _ {W : Type 0} {contents : W → Option (List ℕ)} {failed : W → Bool}
   }
 
   -- A call fails, and takes none.
-  pub gives_up : {A E : Type 0} {new : W} {e : E} → false ≡ (length rest == 0) → Appends (contents now) (contents new) []
-      → calls new ≡ counted (calls now) → failed new ≡ (failed now || true)
-      → HasWritten {A = A} contents failed calls old new text (Err e)
+  pub gives_up : {A E : Type 0} {new : W} {e : E} → false ≡ (length rest == 0) → Appends (writer.contents now) (writer.contents new) []
+      → writer.calls new ≡ counted (writer.calls now) → writer.failed new ≡ (writer.failed now || true)
+      → HasWritten {A = A} writer old new text (Err e)
   gives_up {new = new} some appends called marked = written_behind (record {
     ok = tt;
     err = record { bytes = []; front = (rest, refl); appends = appends };
     sound = tt;
-    marked = marked ∙ or_right (failed now) true refl;
-    few = omega (arith, one_call (calls now) (calls new) called, eqb-false (length rest) 0 (sym some));
+    marked = marked ∙ or_right (writer.failed now) true refl;
+    few = omega (arith, one_call (writer.calls now) (writer.calls new) called, eqb-false (length rest) 0 (sym some));
   })
 
   -- Nothing is left.
-  pub all_written : {A E : Type 0} {x : A} → length rest ≡ 0 → HasWritten {E = E} contents failed calls old now text (Ok x)
+  pub all_written : {A E : Type 0} {x : A} → length rest ≡ 0 → HasWritten {E = E} writer old now text (Ok x)
   all_written none = record {
     ok = rw (sym w.wrote.sum) (rw (nil_from_length rest none, append-nil) w.wrote.appends);
     err = tt;

@@ -3,9 +3,10 @@ use Rattle.std.proofs.Common.{◌≡◌, ◌∙◌, ◌⊎◌, ℕ, zero, suc, L
 use Rattle.std.proofs.Common.{slice_get}
 use Rattle.std.proofs.lemmas.Option.{none-some, same_Some}
 use Rattle.hum_record.specs.Row.{Row}
+use Rattle.hum_stage.specs.declared.contract.Stage.{Ghosts as Stage}
 use Rattle.hum_turns.specs.Links.{Moment, view, fresh, IsOpening}
-use Rattle.hum_nodes.specs.At.{Kind, At, fresh as fresh_at}
-use Rattle.hum_nodes.specs.declared.node.Node.{Node}
+use Rattle.hum_nodes.specs.At.{Kind, fresh as fresh_at}
+use Rattle.hum_nodes.specs.Nodes.{StandsAs}
 use Rattle.hum_engine.specs.declared.link.Link as port
 use Rattle.hum_engine.specs.Links.{IsLink}
 use Rattle.hum_engine.specs.declared.web.Web.{Web}
@@ -24,16 +25,16 @@ at_fresh : (kinds : ℕ → Kind) (m : Moment Row) → IsOpening m → (k : ℕ)
 at_fresh kinds m start k =
     rw (ap (λ f. map f (kinds k).stage.sources) (fun_ext (λ i. ap view (start i))), start k)
 
-pub begins : {S R : Type 0} {stands : Node S R → List ℕ → At → Type 0} {size : ℕ} {web : Web S R} {s : Scene}
-    → IsOpening s.links → IsBegun stands size web.nodes.items s
+pub begins : {S R : Type 0} {stage : Stage S} {size : ℕ} {web : Web S R} {s : Scene}
+    → IsOpening s.links → IsBegun stage size web.nodes.items s
     → length web.links.items ≡ length web.nodes.items
     → ((k : ℕ) (link : port.Link) → slice_get web.links.items k ≡ Some link → IsLink size link fresh)
-    → Stands stands web s
-begins {stands = stands} {size = size} {s = s} opening begun count each = record {
+    → Stands stage web s
+begins {stage = stage} {size = size} {s = s} opening begun count each = record {
   count = begun.count;
   as_many = count ∙ begun.count;
   nodes = λ k node at.
-      subst (stands node (s.rests k)) (sym (at_fresh s.kinds s.links opening k)) (begun.stand k node at);
+      subst (StandsAs stage.stands node (s.rests k)) (sym (at_fresh s.kinds s.links opening k)) (begun.stand k node at);
   links = λ k link at.
       subst (λ l. IsLink s.size link l) (sym (opening k))
       (subst (λ n. IsLink n link fresh) (sym begun.of_size) (each k link at));

@@ -4,13 +4,15 @@ use Rattle.std.proofs.Common.{sym, ap, subst, arith, ⊎_elim, ◌⊎◌, inl, i
 use Rattle.std.proofs.Common.{Global}
 use Rattle.std.specs.Prelude.{is_some, is_none, IfSome, ◌&&◌}
 use Rattle.std.proofs.Math.Bool.{and-false}
+use Rattle.hum_text.specs.declared.calls.Source.{Ghosts as Source}
+use Rattle.hum_text.specs.declared.calls.Sink.{Ghosts as Sink}
+use Rattle.hum_stage.specs.declared.contract.Stage.{Ghosts as Stage}
 use Rattle.hum_turns.specs.Links.{has_some}
 use Rattle.hum_turns.specs.Turns.{ready}
 use Rattle.hum_turns.proofs.Near.{ready_sink}
 use Rattle.std.proofs.lemmas.Bool.{false≢true, cases_Bool, cases_lt}
 use Rattle.std.proofs.lemmas.Option.{slice_get-get_or, none-some}
 use Rattle.hum_record.specs.Row.{Row}
-use Rattle.hum_stage.specs.Meaning.{Moment}
 use Rattle.hum_turns.specs.Plan.{last}
 use Rattle.hum_turns.specs.declared.order.Side.{Side}
 use Rattle.hum_turns.specs.declared.order.Side.TheVariants as side
@@ -19,9 +21,6 @@ use Rattle.hum_turns.specs.Failures.{Now, is_ready, result}
 use Rattle.hum_turns.specs.Orders.{Order, ready_list, LeansTo}
 use Rattle.hum_turns.proofs.States.{sink_state, last_less}
 use Rattle.hum_turns.proofs.Writing.{still}
-use Rattle.hum_nodes.specs.At.{At}
-use Rattle.hum_nodes.specs.Nodes.{StandsAs}
-use Rattle.hum_nodes.specs.declared.node.Node.{Node}
 use Rattle.hum_nodes.proofs.Followed.{read_none}
 use Rattle.hum_engine.specs.declared.net.Net.{Net}
 use Rattle.hum_engine.specs.declared.net.Turned.{Turned}
@@ -57,24 +56,23 @@ pub front_of : {S R W : Type 0} {look : Option Search} {by : Search} (s : Scene)
 front_of s now net is sees = subst (λ l. Sees l s now net) is sees
 
 -- The actor k that is asked: where a search stands, or else the order's pick.
-pub record Asked {S R W O : Type 0} (stands : Node S R → List ℕ → At → Type 0) (contents : W → Option (List ℕ)) (flushed : W → Bool)
+pub record Asked {S R W O : Type 0} (stage : Stage S) (writer : Sink W)
     (order : Order O) (look : Option Search) (k : ℕ) (p q : O) (net : Net S R W) : Type 0 where
-  pub may : MayStep stands contents flushed look net
+  pub may : MayStep stage writer look net
   pub here : (by : Search) → look ≡ Some by → (k ≡ by.from) × (q ≡ p) × LeansTo by.side order.pick order.next p
-  pub picked : look ≡ None → AtEach stands contents flushed net (λ start s now. result (plan_of s) now ≡ None
+  pub picked : look ≡ None → AtEach stage writer net (λ start s now. result (plan_of s) now ≡ None
       → Sees None s now net → HasPicked order (plan_of s) s.size p q now k)
 
-module _ {S R W O : Type 0} {stands : Node S R → List ℕ → At → Type 0} {contents : W → Option (List ℕ)} {flushed : W → Bool}
-    {order : Order O} {o : O} {look : Option Search} {net : Net S R W}
-    (may : MayAdvance stands contents flushed order o look net) where
+module _ {S R W O : Type 0} {stage : Stage S} {writer : Sink W} {order : Order O} {o : O} {look : Option Search}
+    {net : Net S R W} (may : MayAdvance stage writer order o look net) where
   pub search_few : {by : Search} → look ≡ Some by → (by.from < 256) × (by.behind < 257)
   search_few is =
       let m = pick_now may.step in
       let front = front_of m.running.scene m.running.now net is m.sees in
       (omega (arith, m.running.at.plan.few, front.within), omega (arith, m.running.at.plan.few, front.last))
 
-  pub asked : {p : O} {k : ℕ} → IsNext stands contents flushed order o p look net k
-      → Asked stands contents flushed order look k o p net
+  pub asked : {p : O} {k : ℕ} → IsNext stage writer order o p look net k
+      → Asked stage writer order look k o p net
   asked {p} {k} next = record {
     may = may.step;
     here = λ by is.
@@ -84,19 +82,18 @@ module _ {S R W O : Type 0} {stands : Node S R → List ℕ → At → Type 0} {
   }
 
   -- by a search
-  pub asked_from : {by : Search} {k : ℕ} → look ≡ Some by → k ≡ by.from → Asked stands contents flushed order look k o o net
+  pub asked_from : {by : Search} {k : ℕ} → look ≡ Some by → k ≡ by.from → Asked stage writer order look k o o net
   asked_from {by} is from = asked (record { from = rw is (from, refl); picked = λ isnt. absurd (none-some by (sym isnt ∙ is)) })
 
-module _ {S R W O : Type 0} {stands : Node S R → List ℕ → At → Type 0} {contents : W → Option (List ℕ)} {flushed : W → Bool}
-    {order : Order O} {look : Option Search} {k : ℕ} {p q : O} {net : Net S R W}
-    (a : Asked stands contents flushed order look k p q net) where
-  chosen_now : {start : Option (List ℕ)} {s : Scene} {now : Now Row} → look ≡ None → NetAt stands contents flushed start s net now
+module _ {S R W O : Type 0} {stage : Stage S} {writer : Sink W} {order : Order O} {look : Option Search} {k : ℕ} {p q : O}
+    {net : Net S R W} (a : Asked stage writer order look k p q net) where
+  chosen_now : {start : Option (List ℕ)} {s : Scene} {now : Now Row} → look ≡ None → NetAt stage writer start s net now
       → result (plan_of s) now ≡ None → Sees look s now net → (k ≤ s.count) × (is_ready (plan_of s) s.size now k ≡ true)
   chosen_now {start} {s} {now} isnt h none sees =
       picked h (order.pick p (ready_list (plan_of s) s.size now)) none
       (a.picked isnt start s now h none (subst (λ l. Sees l s now net) isnt sees)).choice
 
-  pub may_ask : MayAsk stands contents flushed k net
+  pub may_ask : MayAsk stage writer k net
   may_ask =
       let m = pick_now a.may in
       record {
@@ -108,7 +105,7 @@ module _ {S R W O : Type 0} {stands : Node S R → List ℕ → At → Type 0} {
             (searches look);
       }
 
-  within_all : {start : Option (List ℕ)} {s : Scene} {now : Now Row} → NetAt stands contents flushed start s net now → k ≤ s.count
+  within_all : {start : Option (List ℕ)} {s : Scene} {now : Now Row} → NetAt stage writer start s net now → k ≤ s.count
   within_all h = omega (arith, may_ask.within, may_ask.running.at.actors, h.actors)
 
   pub leans_on : {by : Search} {to : Side} → look ≡ Some by → to ≡ by.side → LeansTo to order.pick order.next q
@@ -118,7 +115,7 @@ module _ {S R W O : Type 0} {stands : Node S R → List ℕ → At → Type 0} {
   leans_still = each_some (λ by. LeansTo by.side order.pick order.next q) look (λ by is. leans_on is refl)
 
   -- It isn't ready, so there is a search.
-  module _ {new : Net S R W} (rests : HasRested stands contents flushed k net new) where
+  module _ {new : Net S R W} (rests : HasRested stage writer k net new) where
     pub never_picked : look ≡ None → ⊥
     never_picked isnt =
         let m = pick_now a.may in
@@ -126,15 +123,15 @@ module _ {S R W O : Type 0} {stands : Node S R → List ℕ → At → Type 0} {
         false≢true (sym (rests.idle m.running.start m.running.scene m.running.now m.running.at m.going ready.0) ∙ ready.1)
 
     unready_at : {by : Search} {start : Option (List ℕ)} {s : Scene} {now : Now Row} → look ≡ Some by
-        → NetAt stands contents flushed start s net now → result (plan_of s) now ≡ None
+        → NetAt stage writer start s net now → result (plan_of s) now ≡ None
         → is_ready (plan_of s) s.size now by.from ≡ false
     unready_at {by} {start} {s} {now} is h none =
         ap (is_ready (plan_of s) s.size now) (sym (a.here by is).0) ∙ rests.idle start s now h none (within_all h)
 
     -- The search goes on.
-    pub stepped_past : {remaining : R → Option (List ℕ)} {by after : Search} → look ≡ Some by → after ≡ passed by
-        → HasStepped stands remaining contents flushed order p q look (Some after) net new false
-    stepped_past {remaining} {by} {after} is to =
+    pub stepped_past : {reader : Source R} {by after : Search} → look ≡ Some by → after ≡ passed by
+        → HasStepped stage reader writer order p q look (Some after) net new false
+    stepped_past {reader} {by} {after} is to =
         rw (to, rests.same) (record {
           reads = λ i. [];
           read = λ i. read_none _ _;
@@ -147,9 +144,8 @@ module _ {S R W O : Type 0} {stands : Node S R → List ℕ → At → Type 0} {
           );
         })
 
-    pub past_advanced : {remaining : R → Option (List ℕ)} {failed : R → Bool} {broken : W → Bool} {by after : Search}
-        → look ≡ Some by → after ≡ passed by
-        → HasAdvanced stands remaining failed contents flushed broken order p q look (Some after) net new false
+    pub past_advanced : {reader : Source R} {by after : Search} → look ≡ Some by → after ≡ passed by
+        → HasAdvanced stage reader writer order p q look (Some after) net new false
     past_advanced is to = record {
       stepped = stepped_past is to;
       leans = leans_on is (ap (λ (b : Search). b.side) to);
@@ -165,19 +161,19 @@ module _ {S R W O : Type 0} {stands : Node S R → List ℕ → At → Type 0} {
         rw (to, is) (inr (inr (ap (λ (n : Net S R W). n.turns) rests.same, fewer)))
 
   -- It was ready, and has had its turn.
-  module _ {remaining : R → Option (List ℕ)} {link : ℕ} {behind : Net S R W} {is_over : Bool}
-      (m : HasMoved stands remaining contents flushed k link net behind is_over) where
+  module _ {reader : Source R} {link : ℕ} {behind : Net S R W} {is_over : Bool}
+      (m : HasMoved stage reader writer k link net behind is_over) where
     -- what has come of one moment
     record Next (start : Option (List ℕ)) (s : Scene) (now : Now Row) : Type 0 where
       going : result (plan_of s) now ≡ None
       sees : Sees look s now net
       picks : HasPicked order (plan_of s) s.size p q now k
       within : k ≤ s.count
-      goes : GoesTo stands contents flushed start s k now behind is_over
+      goes : GoesTo stage writer start s k now behind is_over
       link_is : IsChanged k (moved s now.links) behind.failure link
 
     next_at : (start : Option (List ℕ)) (s : Scene) (now : Now Row) → AreOver behind.web.nodes.items s.rests
-        → NetAt stands contents flushed start (before_all m.turned.reads s) net now
+        → NetAt stage writer start (before_all m.turned.reads s) net now
         → result (plan_of s) now ≡ None → Sees look s now net → Next start s now
     next_at start s now over h none sees =
         let mid : Scene = before_all m.turned.reads s in
@@ -200,7 +196,7 @@ module _ {S R W O : Type 0} {stands : Node S R → List ℕ → At → Type 0} {
           within = within;
           goes = m.turned.turns start s now over h within ready;
           link_is = m.changes (moved mid now.links)
-              (record { at = is_at stands contents flushed start mid net now k h ready; within = within });
+              (record { at = is_at stage writer start mid net now k h ready; within = within });
         }
 
     module _ {start : Option (List ℕ)} {s : Scene} {now : Now Row} (n : Next start s now)
@@ -231,7 +227,7 @@ module _ {S R W O : Type 0} {stands : Node S R → List ℕ → At → Type 0} {
     stepped_by : {after : Option Search} (flags : Vec Bool Global) → length flags.items ≡ length behind.actors.items
         → ((start : Option (List ℕ)) (s : Scene) (now : Now Row) → (n : Next start s now)
         → result (plan_of s) n.goes.to ≡ None → Sees after s n.goes.to (record behind { actors = flags }))
-        → HasStepped stands remaining contents flushed order p q look after net (record behind { actors = flags }) is_over
+        → HasStepped stage reader writer order p q look after net (record behind { actors = flags }) is_over
     stepped_by flags len known = record {
       reads = m.turned.reads;
       read = m.turned.read;
@@ -249,7 +245,7 @@ module _ {S R W O : Type 0} {stands : Node S R → List ℕ → At → Type 0} {
 
     -- and the run is over
     pub stepped_out : is_over ≡ true → {after : Option Search}
-        → HasStepped stands remaining contents flushed order p q look after net behind is_over
+        → HasStepped stage reader writer order p q look after net behind is_over
     stepped_out is = stepped_by behind.actors refl
         (λ start s now n goes. absurd (false≢true (sym (n.goes.tells ∙ ap is_some goes) ∙ is)))
 
@@ -257,7 +253,7 @@ module _ {S R W O : Type 0} {stands : Node S R → List ℕ → At → Type 0} {
     next_now : is_over ≡ false → (start : Option (List ℕ)) × (s : Scene) × (now : Now Row)
         × (n : Next start s now) × (result (plan_of s) n.goes.to ≡ None)
     next_now not_yet =
-        let t = then_at a.may remaining behind m.turned.reads (λ i. []) m.turned.read (no_rests behind) in
+        let t = then_at a.may reader behind m.turned.reads (λ i. []) m.turned.read (no_rests behind) in
         let n = next_at a.may.start (record t.scene { rests = λ i. [] }) t.now (no_rests behind) t.at t.going t.sees in
         (a.may.start, record t.scene { rests = λ i. [] }, t.now, n, not_over _ n.goes.tells not_yet)
 
@@ -270,7 +266,7 @@ module _ {S R W O : Type 0} {stands : Node S R → List ℕ → At → Type 0} {
     searched : {by after : Search} → look ≡ Some by
         → ((start : Option (List ℕ)) (s : Scene) (now : Now Row) → (n : Next start s now) → result (plan_of s) n.goes.to ≡ None
         → k ≡ by.from → IsFront by s now → IsFront after s n.goes.to)
-        → HasStepped stands remaining contents flushed order p q look (Some after) net behind is_over
+        → HasStepped stage reader writer order p q look (Some after) net behind is_over
     searched {by} is known = stepped_by behind.actors refl
         (λ start s now n goes. known start s now n goes (a.here by is).0 (front_of s now net is n.sees))
 
@@ -278,57 +274,54 @@ module _ {S R W O : Type 0} {stands : Node S R → List ℕ → At → Type 0} {
         → ((taker : ℕ) → slice_get behind.takers.items link ≡ Some taker
         → (start : Option (List ℕ)) (s : Scene) (now : Now Row) → (n : Next start s now) → result (plan_of s) n.goes.to ≡ None
         → k ≡ by.from → IsFront by s now → IsFront after s n.goes.to)
-        → HasStepped stands remaining contents flushed order p q look (Some after) net behind is_over
+        → HasStepped stage reader writer order p q look (Some after) net behind is_over
     searched_on is known = ⊎_elim (λ over. stepped_out over) (λ on. searched is
         (known (get_or behind.takers.items link 0) (slice_get-get_or behind.takers.items link 0 (link_few on))))
         (cases_Bool is_over)
 
     pub stepped_on : {by after : Search} → look ≡ Some by
         → ((taker : ℕ) → slice_get behind.takers.items link ≡ Some taker → after ≡ changed by (outer by.side link taker))
-        → HasStepped stands remaining contents flushed order p q look (Some after) net behind is_over
+        → HasStepped stage reader writer order p q look (Some after) net behind is_over
     stepped_on is to = searched_on is
         (λ taker at start s now n goes here front.
         subst (λ l. IsFront l s n.goes.to) (sym (to taker at)) (front_changed (turn_of n goes) (taker_of n goes at) here front))
 
-    pub moved_advanced : {failed : R → Bool} {broken : W → Bool} {by after : Search} → MarksFailures failed broken net behind
+    pub moved_advanced : {by after : Search} → MarksFailures reader writer net behind
         → look ≡ Some by → after.side ≡ by.side
         → ((taker : ℕ) → slice_get behind.takers.items link ≡ Some taker → after ≡ changed by (outer by.side link taker))
-        → HasAdvanced stands remaining failed contents flushed broken order p q look (Some after) net behind is_over
+        → HasAdvanced stage reader writer order p q look (Some after) net behind is_over
     moved_advanced marks is same to = record { stepped = stepped_on is to; leans = leans_on is same; marks = marks }
 
     -- From the right it looks on from who takes from the actor's own link, and not at the actor, which isn't ready;
     pub stepped_past_it : {by : Search} {taker : ℕ} → look ≡ Some by → by.side ≡ side.Right → k ≡ link → 0 < k
         → slice_get behind.takers.items link ≡ Some taker
-        → AtEach stands contents flushed behind (λ start s now. result (plan_of s) now ≡ None
+        → AtEach stage writer behind (λ start s now. result (plan_of s) now ≡ None
         → is_ready (plan_of s) s.size now k ≡ false)
-        → HasStepped stands remaining contents flushed order p q look (Some (record by { from = taker })) net behind is_over
+        → HasStepped stage reader writer order p q look (Some (record by { from = taker })) net behind is_over
     stepped_past_it is right own some at idle = searched is
         (λ start s now n goes here front.
         moves_past (turn_of n goes) (taker_of n goes at) here front right own some (idle start s n.goes.to n.goes.at goes))
 
     -- or stays where it is, behind the turn of who takes from the link.
     pub stepped_there : {by : Search} → look ≡ Some by → by.side ≡ side.Right → slice_get behind.takers.items link ≡ Some k
-        → AtEach stands contents flushed behind (λ start s now. result (plan_of s) now ≡ None → by.behind < link
+        → AtEach stage writer behind (λ start s now. result (plan_of s) now ≡ None → by.behind < link
         → is_ready (plan_of s) s.size now link ≡ false)
-        → HasStepped stands remaining contents flushed order p q look (Some by) net behind is_over
+        → HasStepped stage reader writer order p q look (Some by) net behind is_over
     stepped_there is right at idle = searched is
         (λ start s now n goes here front.
         stays_past (turn_of n goes) (taker_of n goes at) here front right refl (idle start s n.goes.to n.goes.at goes))
 
 -- A turn as it is told, and what the search makes of it.
-module _ {S R W O : Type 0} {stage : S → Moment → Type 0} {contents : W → Option (List ℕ)} {flushed : W → Bool}
-    {order : Order O} {look : Option Search} {k : ℕ} {p q : O} {net : Net S R W}
-    (a : Asked (StandsAs stage) contents flushed order look k p q net)
-    {remaining : R → Option (List ℕ)} {calls : R → ℕ} {failed : R → Bool} {broken : W → Bool} {writes : W → ℕ}
-    {behind : Net S R W} {turned : Turned}
-    (w : HasWorked (StandsAs stage) remaining calls failed contents flushed broken writes k net behind turned) where
+module _ {S R W O : Type 0} {stage : Stage S} {writer : Sink W} {order : Order O} {look : Option Search} {k : ℕ} {p q : O}
+    {net : Net S R W} (a : Asked stage writer order look k p q net) {reader : Source R} {behind : Net S R W} {turned : Turned}
+    (w : HasWorked stage reader writer k net behind turned) where
   abbrev pub Steps : Option Search → Net S R W → Bool → Type 0
-  Steps after new is_over = HasStepped (StandsAs stage) remaining contents flushed order p q look after net new is_over
+  Steps after new is_over = HasStepped stage reader writer order p q look after net new is_over
 
   abbrev pub Advances : Option Search → Net S R W → Bool → Type 0
-  Advances after new over = HasAdvanced (StandsAs stage) remaining failed contents flushed broken order p q look after net new over
+  Advances after new over = HasAdvanced stage reader writer order p q look after net new over
 
-  pub worked : HasMoved (StandsAs stage) remaining contents flushed k turned.link net behind turned.is_over
+  pub worked : HasMoved stage reader writer k turned.link net behind turned.is_over
   worked = record {
     ready = λ start s now h none. w.ready start s now h none (within_all a h);
     turned = w.gone.turned;
@@ -343,7 +336,7 @@ module _ {S R W O : Type 0} {stage : S → Moment → Type 0} {contents : W → 
     told_so {after} flags leans stepped = record {
       stepped = subst (Steps after (record behind { actors = flags })) is_so stepped;
       leans = leans;
-      marks = record { reads = w.gone.reads; writes = w.gone.writes; takers = w.gone.takers };
+      marks = record { reads = w.gone.marks.reads; writes = w.gone.marks.writes; takers = w.gone.marks.takers };
     }
 
     pub on_advanced : {by after : Search} → look ≡ Some by → after.side ≡ by.side
@@ -428,11 +421,11 @@ module _ {S R W O : Type 0} {stage : S → Moment → Type 0} {contents : W → 
       taker_at : slice_get behind.takers.items turned.link ≡ Some taker
       taker_at = nth behind.takers.items turned.link taker link_by read
 
-      pub ends_by : IsGoing (StandsAs stage) contents flushed turned.link behind
-          × IsGoing (StandsAs stage) contents flushed taker behind
+      pub ends_by : IsGoing stage writer turned.link behind
+          × IsGoing stage writer taker behind
       ends_by =
           let t = next_now a worked on in
-          let r : IsRunning (StandsAs stage) contents flushed behind =
+          let r : IsRunning stage writer behind =
           record { start = t.0; scene = t.1; now = t.3.goes.to; at = t.3.goes.at } in (
             record { running = r; going = now_unfailed r.at t.4; within = omega (arith, link_within a worked t.3 t.4) },
             record { running = r; going = now_unfailed r.at t.4; within = (taker_of a worked t.3 t.4 taker_at).most },
@@ -441,7 +434,7 @@ module _ {S R W O : Type 0} {stage : S → Moment → Type 0} {contents : W → 
       -- and are, where there is no search.
       pub else_advanced : {new : Net S R W} → look ≡ None → new ≡ record behind { actors = new.actors }
           → length new.actors.items ≡ length behind.actors.items
-          → AtEach (StandsAs stage) contents flushed behind (λ start s now. result (plan_of s) now ≡ None
+          → AtEach stage writer behind (λ start s now. result (plan_of s) now ≡ None
           → turned.link ≤ s.count → taker ≤ s.count → new.actors.items ≡ slice_set
           (slice_set behind.actors.items turned.link (is_ready (plan_of s) s.size now turned.link))
           taker (is_ready (plan_of s) s.size now taker))

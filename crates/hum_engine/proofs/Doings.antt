@@ -2,6 +2,7 @@
 use Rattle.std.proofs.Common.{◌≡◌, ◌∙◌, ℕ, Bool, true, false, List, Some, slice_get, get_or, refl, sym, ap, arith}
 use Rattle.std.proofs.lemmas.Bool.{false_from_ne_true, true_from_ne_false}
 use Rattle.hum_stage.specs.declared.faults.End.{End}
+use Rattle.hum_stage.specs.declared.contract.Stage.{Ghosts as Stage}
 use Rattle.hum_nodes.specs.At.{At, doing_of, readiness_of}
 use Rattle.hum_nodes.specs.declared.node.Node.{Node}
 use Rattle.hum_nodes.specs.Doing.{Doing}
@@ -11,7 +12,6 @@ use Rattle.hum_nodes.specs.declared.node.Readiness.TheVariants as kind
 use Rattle.hum_engine.specs.declared.web.Web.{Web}
 use Rattle.hum_nodes.specs.Nodes.{is_source, readiness_at, StandsAs}
 use Rattle.hum_nodes.proofs.Standing.{stage_bytes}
-use Rattle.hum_stage.specs.Meaning.{Moment}
 use Rattle.hum_engine.specs.Scene.{Scene, at_of, HasActor, IsAbout, IsAboutKind, IsDoing, IsKind, Somewhere}
 use Rattle.hum_engine.proofs.Feeding.{node_at}
 use Rattle.hum_engine.proofs.Readying.{never}
@@ -33,27 +33,27 @@ done_of (does.Wants p) h = absurd cc
 done_of (does.Done e) h = (e, refl)
 
 -- A stage that is about to do something of a kind is about to do that.
-module _ {S R : Type 0} {stands : Node S R → List ℕ → At → Type 0} {k : ℕ} {web : Web S R} {s : Scene}
-    {r : Readiness} (a : IsAboutKind stands k r web s) where
-  pub about_by : {doing : Doing} → doing_of (at_of s.kinds s.links k) ≡ doing → IsAbout stands k doing web s
+module _ {S R : Type 0} {stage : Stage S} {k : ℕ} {web : Web S R} {s : Scene}
+    {r : Readiness} (a : IsAboutKind stage k r web s) where
+  pub about_by : {doing : Doing} → doing_of (at_of s.kinds s.links k) ≡ doing → IsAbout stage k doing web s
   about_by is = record { at = a.at; less = a.less; bytes = a.bytes; does = is }
 
-  pub gives_about : r ≡ kind.Gives → IsAbout stands k does.Gives web s
+  pub gives_about : r ≡ kind.Gives → IsAbout stage k does.Gives web s
   gives_about is = about_by (gives_of _ (a.does ∙ is))
 
-  pub reads_about : r ≡ kind.Reads → IsAbout stands k does.Reads web s
+  pub reads_about : r ≡ kind.Reads → IsAbout stage k does.Reads web s
   reads_about is = about_by (reads_of _ (a.does ∙ is))
 
-  pub wants_about : {place : ℕ} → r ≡ kind.Wants place → IsAbout stands k (does.Wants place) web s
+  pub wants_about : {place : ℕ} → r ≡ kind.Wants place → IsAbout stage k (does.Wants place) web s
   wants_about {place} is = about_by (wants_of _ place (a.does ∙ is))
 
-  pub done_about : r ≡ kind.Done → (end : End) × IsAbout stands k (does.Done end) web s
+  pub done_about : r ≡ kind.Done → (end : End) × IsAbout stage k (does.Done end) web s
   done_about is = let d = done_of _ (a.does ∙ is) in (d.0, about_by d.1)
 
 -- What a node says that it does next.
-module _ {S R : Type 0} {stage : S → Moment → Type 0} {k : ℕ} {web : Web S R} {node : Node S R} {r : Readiness}
-    (h : Somewhere (HasActor (StandsAs stage) k web)) (value : node ≡ get_or web.nodes.items k node)
-    (told : (rest : List ℕ) (t : At) → StandsAs stage node rest t → r ≡ readiness_at (is_source node) (doing_of t)) where
+module _ {S R : Type 0} {stage : Stage S} {k : ℕ} {web : Web S R} {node : Node S R} {r : Readiness}
+    (h : Somewhere (HasActor stage k web)) (value : node ≡ get_or web.nodes.items k node)
+    (told : (rest : List ℕ) (t : At) → StandsAs stage.stands node rest t → r ≡ readiness_at (is_source node) (doing_of t)) where
   says_at : slice_get web.nodes.items k ≡ Some node
   says_at = node_at h.holds.less h.holds.at.stand value
 
@@ -62,7 +62,7 @@ module _ {S R : Type 0} {stage : S → Moment → Type 0} {k : ℕ} {web : Web S
   says b is = grind (arith, told _ _ (h.holds.at.stand.nodes k node says_at), is)
 
   -- one that doesn't read isn't one, and what it does next is known whatever else the web stands for
-  pub doing_is : {other : Readiness} → r ≡ other → (other ≡ kind.Reads → ⊥) → IsDoing (StandsAs stage) k web other
+  pub doing_is : {other : Readiness} → r ≡ other → (other ≡ kind.Reads → ⊥) → IsDoing stage k web other
   doing_is is other =
       let none = false_from_ne_true _ (λ src. other (sym (says true src ∙ is))) in (
         one_kind k web says_at none,
@@ -71,7 +71,7 @@ module _ {S R : Type 0} {stage : S → Moment → Type 0} {k : ℕ} {web : Web S
             record {
               at = at;
               less = less;
-              bytes = stage_bytes stage node (u.rests k) _ none here;
+              bytes = stage_bytes stage.stands node (u.rests k) _ none here;
               does = sym (sym is ∙ told _ _ here ∙ ap (λ b. readiness_at b (doing_of (at_of u.kinds u.links k))) none);
             },
       )
@@ -83,6 +83,6 @@ module _ {S R : Type 0} {stage : S → Moment → Type 0} {k : ℕ} {web : Web S
       one_kind k web says_at (true_from_ne_false _ (λ isnt. never (record {
         at = a.at;
         less = a.less;
-        bytes = stage_bytes stage node (h.scene.rests k) _ isnt (a.at.stand.nodes k node says_at);
+        bytes = stage_bytes stage.stands node (h.scene.rests k) _ isnt (a.at.stand.nodes k node says_at);
         does = reads_of _ (says false isnt ∙ e);
       })))

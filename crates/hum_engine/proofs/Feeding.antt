@@ -6,10 +6,11 @@ use Rattle.std.specs.Prelude.{IfOk, OnErr}
 use Rattle.std.proofs.lemmas.Option.{slice_get_within, same_Some}
 use Rattle.std.proofs.lemmas.Bool.{cond-true, cond-false, and_parts, false≢true}
 use Rattle.circular_buffer.proofs.Places.{slice_get-some}
+use Rattle.hum_text.specs.declared.calls.Source.{Ghosts as Source}
+use Rattle.hum_stage.specs.declared.contract.Stage.{Ghosts as Stage}
 use Rattle.hum_turns.specs.Links.{has_room}
 use Rattle.hum_turns.proofs.Near.{ready_reader, source_touches}
 use Rattle.hum_turns.proofs.States.{source_is}
-use Rattle.hum_stage.specs.Meaning.{Moment}
 use Rattle.hum_nodes.specs.At.{At}
 use Rattle.hum_nodes.specs.declared.node.Node.{Node}
 use Rattle.hum_read.specs.Reading.{Polled}
@@ -37,38 +38,37 @@ within xs k count x many at = omega (arith, slice_get_within xs k x at, many)
 
 -- What lies where an actor has its turn.
 
-module _ {S R : Type 0} {stands : Node S R → List ℕ → At → Type 0} {k : ℕ} {web : Web S R} {s : Scene} where
-  pub node_at : {node : Node S R} → k < s.count → Stands stands web s
+module _ {S R : Type 0} {stage : Stage S} {k : ℕ} {web : Web S R} {s : Scene} where
+  pub node_at : {node : Node S R} → k < s.count → Stands stage web s
       → node ≡ get_or web.nodes.items k node → slice_get web.nodes.items k ≡ Some node
   node_at {node} less st e = nth web.nodes.items k node (omega (arith, less, st.count)) e
 
-  pub link_at : {link : port.Link} → k < s.count → Stands stands web s
+  pub link_at : {link : port.Link} → k < s.count → Stands stage web s
       → link ≡ get_or web.links.items k link → slice_get web.links.items k ≡ Some link
   link_at {link} less st e = nth web.links.items k link (omega (arith, less, st.as_many)) e
 
-pub turn_link : {S R : Type 0} {stands : Node S R → List ℕ → At → Type 0} {k : ℕ} {web : Web S R} {link : port.Link}
-    → Somewhere (MayTurn stands k web) → link ≡ get_or web.links.items k link → slice_get web.links.items k ≡ Some link
+pub turn_link : {S R : Type 0} {stage : Stage S} {k : ℕ} {web : Web S R} {link : port.Link}
+    → Somewhere (MayTurn stage k web) → link ≡ get_or web.links.items k link → slice_get web.links.items k ≡ Some link
 turn_link h e = link_at h.holds.less h.holds.at.stand e
 
-module _ {S R : Type 0} (stands : Node S R → List ℕ → At → Type 0) (k : ℕ) (web : Web S R)
-    (s : Scene) where
-  pub node_of : k < s.count → Stands stands web s
+module _ {S R : Type 0} (stage : Stage S) (k : ℕ) (web : Web S R) (s : Scene) where
+  pub node_of : k < s.count → Stands stage web s
       → (node : Node S R) × (slice_get web.nodes.items k ≡ Some node)
   node_of less st = slice_get-some web.nodes.items k (omega (arith, less, st.count))
 
-  pub link_of : k < s.count → Stands stands web s
+  pub link_of : k < s.count → Stands stage web s
       → (link : port.Link) × (slice_get web.links.items k ≡ Some link)
   link_of less st = slice_get-some web.links.items k (omega (arith, less, st.as_many))
 
 -- A link has room where the plan's has.
-pub room_same : {S R : Type 0} {stands : Node S R → List ℕ → At → Type 0} (k : ℕ) {web : Web S R} {s : Scene} {link : port.Link}
-    → Stands stands web s → slice_get web.links.items k ≡ Some link → room link ≡ has_room s.size (s.links k)
+pub room_same : {S R : Type 0} {stage : Stage S} (k : ℕ) {web : Web S R} {s : Scene} {link : port.Link}
+    → Stands stage web s → slice_get web.links.items k ≡ Some link → room link ≡ has_room s.size (s.links k)
 room_same k {s = s} {link = link} st at =
     let p = st.links k link at in
     ap (λ n. nat_lt n link.waiting.capacity) (ap length p.waiting) ∙ ap (nat_lt (length (s.links k).waiting)) p.capacity
 
 -- What was just put lies there.
-pub still_here : {N : Type 0} (nodes : List N) (k : ℕ) (node after x : N)
+pub still_here : {S R : Type 0} (nodes : List (Node S R)) (k : ℕ) (node after x : Node S R)
     → slice_get nodes k ≡ Some node → x ≡ get_or (slice_set nodes k after) k x → x ≡ after
 still_here nodes k node after x was e =
     let n = slice_get_within nodes k node was in
@@ -77,8 +77,8 @@ still_here nodes k node after x was e =
     (sym (nth (slice_set nodes k after) k x (omega (arith, n, len)) e) ∙ set_here nodes k after node was)
 
 -- A source that is ready is polled.
-module _ {S R : Type 0} {stage : S → Moment → Type 0} {k : ℕ} {old : Web S R} {node : Node S R}
-    (turn : Somewhere (MayTurn (StandsAs stage) k old)) (value : node ≡ get_or old.nodes.items k node) where
+module _ {S R : Type 0} {stage : Stage S} {k : ℕ} {old : Web S R} {node : Node S R}
+    (turn : Somewhere (MayTurn stage k old)) (value : node ≡ get_or old.nodes.items k node) where
   pub polled_at : slice_get old.nodes.items k ≡ Some node
   polled_at = node_at turn.holds.less turn.holds.at.stand value
 
@@ -87,7 +87,7 @@ module _ {S R : Type 0} {stage : S → Moment → Type 0} {k : ℕ} {old : Web S
   source_room {link} kind e =
       let s = turn.scene in
       let may = turn.holds in
-      let b = source_bytes stage node (s.rests k) _ (kind node polled_at) (may.at.stand.nodes k node polled_at) in
+      let b = source_bytes stage.stands node (s.rests k) _ (kind node polled_at) (may.at.stand.nodes k node polled_at) in
       let r = sym (ready_reader (plan_of s) s.size k s.links may.less b) ∙ may.ready in
       room_same k may.at.stand (link_at may.less may.at.stand e) ∙ (and_parts (is_none (s.links k).mark) _ r).1
 
@@ -113,13 +113,12 @@ module _ {S R : Type 0} {stage : S → Moment → Type 0} {k : ℕ} {old : Web S
         record { node = after; is = is_after; gives = inl kind; link = put; its = now; full = full put now }
 
     -- its turn, by what has come of it
-    pub fed : {tells : R → Option (List ℕ)} {link : port.Link} {r : Result Polled ReadError} {p : Polled} (put : port.Link)
+    pub fed : {reader : Source R} {link : port.Link} {r : Result Polled ReadError} {p : Polled} (put : port.Link)
         → slice_get old.links.items k ≡ Some link → r ≡ Ok p
-        → IfOk r (HasPolled (StandsAs stage node) (StandsAs stage after) (ended_of node) (ended_of after)
-        (remaining_of tells node) (remaining_of tells after))
-        → LinkGoes p link put → new.links.items ≡ links_by p old.links.items k put → Fed (StandsAs stage) tells k old new
-    fed {tells} {link} {r} {p} put at_link is polled goes links =
-        let stands : Node S R → List ℕ → At → Type 0 = StandsAs stage in
+        → IfOk r (HasPolled (StandsAs stage.stands node) (StandsAs stage.stands after) (ended_of node) (ended_of after)
+        (remaining_of reader.remaining node) (remaining_of reader.remaining after))
+        → LinkGoes p link put → new.links.items ≡ links_by p old.links.items k put → Fed stage reader k old new
+    fed {reader} {link} {r} {p} put at_link is polled goes links =
         let h = rw is at polled in
         record {
           node = node;
@@ -133,11 +132,11 @@ module _ {S R : Type 0} {stage : S → Moment → Type 0} {k : ℕ} {old : Web S
           still = h.still;
           turns = λ s last may.
               let st = may.at.stand in
-              let here : stands node (h.read ++ s.rests k) (at_of s.kinds s.links k) =
+              let here : StandsAs stage.stands node (h.read ++ s.rests k) (at_of s.kinds s.links k) =
               rw (cond-true _ _ _ (eq-eqb k k refl)) at (st.nodes k node polled_at) in
-              let others : OthersStand stands s k s.links old.nodes.items = λ i y o g.
+              let others : OthersStand stage s k s.links old.nodes.items = λ i y o g.
               rw (cond-false _ _ _ (ne_eqb i k o)) at (st.nodes i y g) in
-              let t = polls stands s k old.nodes.items old.links.items may.less after link put at_link
+              let t = polls stage s k old.nodes.items old.links.items may.less after link put at_link
               others st.links may.ready p (h.polls (s.rests k) (at_of s.kinds s.links k) last here) goes in
               record {
                 new = t.new;
@@ -152,13 +151,12 @@ module _ {S R : Type 0} {stage : S → Moment → Type 0} {k : ℕ} {old : Web S
         }
 
     -- what its reader was asked
-    module _ {tells : R → Option (List ℕ)} {calls : R → ℕ} {failed : R → Bool} (r : Result Polled ReadError)
-        (once : AsksAtMostOnce (calls_of calls node) (failed_of failed node) (calls_of calls after) (failed_of failed after))
-        (marks : (rest : List ℕ) (t : At) → StandsAs stage node rest t
-        → failed_of failed after ≡ (failed_of failed node || is_failed_read r)) where
+    module _ {reader : Source R} (r : Result Polled ReadError)
+        (once : AsksAtMostOnce (calls_of reader.calls node) (failed_of reader.failed node) (calls_of reader.calls after) (failed_of reader.failed after))
+        (marks : (rest : List ℕ) (t : At) → StandsAs stage.stands node rest t → failed_of reader.failed after ≡ (failed_of reader.failed node || is_failed_read r)) where
       asked : {A : Type 0} {told : Result A ReadError} → is_failed_read told ≡ is_failed_read r
-          → OnErr told (HasStayed (ended_of node) (ended_of after) (remaining_of tells node) (remaining_of tells after))
-          → AsksOne tells calls failed k old new told
+          → OnErr told (HasStayed (ended_of node) (ended_of after) (remaining_of reader.remaining node) (remaining_of reader.remaining after))
+          → AsksOne reader k old new told
       asked same stays =
           record {
             others = others_same;
@@ -167,28 +165,28 @@ module _ {S R : Type 0} {stage : S → Moment → Type 0} {k : ℕ} {old : Web S
             stays = rw (is_after, polled_at) stays;
           }
 
-      pub asked_ok : {A : Type 0} {x : A} {p : Polled} → r ≡ Ok p → AsksOne tells calls failed k old new (Ok x)
+      pub asked_ok : {A : Type 0} {x : A} {p : Polled} → r ≡ Ok p → AsksOne reader k old new (Ok x)
       asked_ok is = asked (sym (ap is_failed_read is)) tt
 
       pub asked_err : {A : Type 0} {e : ReadError} → r ≡ Err e
-          → OnErr r (HasStayed (ended_of node) (ended_of after) (remaining_of tells node) (remaining_of tells after))
-          → AsksOne {A = A} tells calls failed k old new (Err e)
+          → OnErr r (HasStayed (ended_of node) (ended_of after) (remaining_of reader.remaining node) (remaining_of reader.remaining after))
+          → AsksOne {A = A} reader k old new (Err e)
       asked_err is stays = asked (sym (ap is_failed_read is)) (rw is at stays)
 
       -- and what its turn tells
       module _ (kind : IsKind true k old) where
         pub told_read : {link : port.Link} {p : Polled} {full : Bool} (put : port.Link)
             → slice_get old.links.items k ≡ Some link → r ≡ Ok p
-            → IfOk r (HasPolled (StandsAs stage node) (StandsAs stage after) (ended_of node) (ended_of after)
-            (remaining_of tells node) (remaining_of tells after))
+            → IfOk r (HasPolled (StandsAs stage.stands node) (StandsAs stage.stands after) (ended_of node) (ended_of after)
+            (remaining_of reader.remaining node) (remaining_of reader.remaining after))
             → LinkGoes p link put → new.links.items ≡ links_by p old.links.items k put → (full ≡ true → IsFull k new)
-            → HasTold (StandsAs stage) tells calls failed k old new
+            → HasTold stage reader k old new
             (Ok (record { link = k; is_full = full; has_taken = false }))
         told_read put its is polled goes links full = record {
           turned = fed put its is polled goes links;
           link = λ s actor.
               let less : k < s.count = omega (arith, turn.holds.less, turn.holds.at.stand.count, actor.at.stand.count) in
-              let some = source_bytes stage node (s.rests k) _ (kind node polled_at) (actor.at.stand.nodes k node polled_at) in
+              let some = source_bytes stage.stands node (s.rests k) _ (kind node polled_at) (actor.at.stand.nodes k node polled_at) in
               sym (source_touches (plan_of s) actor.at.reached.ok s.size k s.links (source_is (plan_of s) k less some));
           full = full;
           room = λ has. absurd (false≢true has);
@@ -197,7 +195,7 @@ module _ {S R : Type 0} {stage : S → Moment → Type 0} {k : ℕ} {old : Web S
         }
 
         pub told_failed : {e : ReadError} → r ≡ Err e
-            → OnErr r (HasStayed (ended_of node) (ended_of after) (remaining_of tells node) (remaining_of tells after))
-            → HasTold (StandsAs stage) tells calls failed k old new (Err e)
+            → OnErr r (HasStayed (ended_of node) (ended_of after) (remaining_of reader.remaining node) (remaining_of reader.remaining after))
+            → HasTold stage reader k old new (Err e)
         told_failed is stays =
             record { turned = tt; link = tt; full = tt; room = tt; read = λ h. kind; asked = asked_err is stays }

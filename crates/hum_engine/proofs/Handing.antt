@@ -3,6 +3,8 @@ use Rattle.std.proofs.Common.{◌≡◌, ◌∙◌, ◌<◌, ℕ, zero, suc, len
 use Rattle.std.proofs.Common.{slice_get, slice_set, slice_index, get_or, refl, sym, ap, subst, lt-ltb, arith, ⊎_elim}
 use Rattle.std.proofs.Common.{inl, inr}
 use Rattle.std.specs.Prelude.{nat_lt, is_some, is_none, ◌||◌, ◌&&◌, MatchOption, None}
+use Rattle.hum_text.specs.declared.calls.Source.{Ghosts as Source}
+use Rattle.hum_stage.specs.declared.contract.Stage.{Ghosts as Stage}
 use Rattle.hum_turns.specs.Links.{has_room, view}
 use Rattle.hum_turns.proofs.Near.{source_touches}
 use Rattle.hum_engine.specs.Scene.{IsHanding, Somewhere, HandsOut, Scene, plan_of, at_of, IsAt, IsKind, IsAbout}
@@ -16,7 +18,6 @@ use Rattle.hum_engine.proofs.Readying.{source_ready, room_in, room_stage, some_t
 use Rattle.hum_engine.proofs.Readying.{touched_takes}
 use Rattle.std.proofs.lemmas.Option.{none-some, same_Some, slice_get_within, get_or_from_slice_get}
 use Rattle.hum_record.specs.Row.{Row}
-use Rattle.hum_stage.specs.Meaning.{Moment}
 use Rattle.hum_turns.specs.Flow.{Flow}
 use Rattle.hum_turns.specs.Turns.{can, ready, state, pushed, popped}
 use Rattle.hum_turns.specs.Near.{touched}
@@ -42,14 +43,14 @@ use Rattle.hum_engine.proofs.Tried.{record_left, tells_some}
 use Rattle.hum_engine.proofs.Turning.{stage_fed, stage_ready, one_kind, acting, actor_of, turn_of, about_of}
 
 -- A stage that has taken a record ahead, and whose link has room: it gives next, and can.
-pub record IsAhead {S R : Type 0} (stage : S → Moment → Type 0) (k : ℕ) (web : Web S R) (node : Node S R) : Type 0 where
+pub record IsAhead {S R : Type 0} (stage : Stage S) (k : ℕ) (web : Web S R) (node : Node S R) : Type 0 where
   pub there : slice_get web.nodes.items k ≡ Some node
   pub kind : is_source node ≡ false
-  pub may : (s : Scene) → IsAt (StandsAs stage) web s → MayAct (StandsAs stage) k does.Gives web s
+  pub may : (s : Scene) → IsAt stage web s → MayAct stage k does.Gives web s
 
-module _ {S R : Type 0} {stage : S → Moment → Type 0} {k : ℕ} {web : Web S R} {node : Node S R} {s : Scene} where
-  pub ahead : IsAt (StandsAs stage) web s → HasRoom k web → node ≡ get_or web.nodes.items k node
-      → ((rest : List ℕ) (t : At) → StandsAs stage node rest t → (is_source node ≡ false) × (doing_of t ≡ does.Gives))
+module _ {S R : Type 0} {stage : Stage S} {k : ℕ} {web : Web S R} {node : Node S R} {s : Scene} where
+  pub ahead : IsAt stage web s → HasRoom k web → node ≡ get_or web.nodes.items k node
+      → ((rest : List ℕ) (t : At) → StandsAs stage.stands node rest t → (is_source node ≡ false) × (doing_of t ≡ does.Gives))
       → IsAhead stage k web node
   ahead at room value gives =
       let there = node_at (room_stage at room).less at.stand value in
@@ -64,37 +65,37 @@ module _ {S R : Type 0} {stage : S → Moment → Type 0} {k : ℕ} {web : Web S
             record {
               at = here;
               less = less;
-              bytes = stage_bytes stage node (u.rests k) _ kind stand;
+              bytes = stage_bytes stage.stands node (u.rests k) _ kind stand;
               does = h.1;
               can = ap (can u.size u.links k) (state_gives u u.links k less h.1) ∙ room_in here.stand room;
             };
       }
 
-  pub ahead_turn : IsAhead stage k web node → IsAt (StandsAs stage) web s → MayTurn (StandsAs stage) k web s
+  pub ahead_turn : IsAhead stage k web node → IsAt stage web s → MayTurn stage k web s
   ahead_turn a at = let may = a.may s at in turn_of (about_of may) may.can
 
-  pub ahead_touches : IsAhead stage k web node → IsActor (StandsAs stage) k web s
+  pub ahead_touches : IsAhead stage k web node → IsActor stage k web s
       → k ≡ touched k (state (plan_of s) s.links k)
   ahead_touches a actor = touched_gives (about_of (a.may s actor.at))
 
   -- the record lies on its link then
   pub ahead_done : {new : Web S R} {row : Row} {link : port.Link} (after : Node S R) (put : port.Link)
       → IsAhead stage k web node → slice_get web.links.items k ≡ Some link
-      → ((rest : List ℕ) → HasTaken (StandsAs stage node rest) (StandsAs stage after rest) (Some row))
+      → ((rest : List ℕ) → HasTaken (StandsAs stage.stands node rest) (StandsAs stage.stands after rest) (Some row))
       → Goes link put (λ l. pushed l row) → new.nodes.items ≡ slice_set web.nodes.items k after
       → new.links.items ≡ slice_set web.links.items k put
-      → MayTurn (StandsAs stage) k web s → Done (StandsAs stage) k (state (plan_of s) s.links k) new s
+      → MayTurn stage k web s → Done stage k (state (plan_of s) s.links k) new s
   ahead_done after put a its taken goes en el turn =
       let may = a.may s turn.at in
       has_done (state_gives s s.links k may.less may.does) (gave may after a.there taken put its refl goes en el)
 
-pub ahead_kind : {S R : Type 0} {stage : S → Moment → Type 0} {k : ℕ} {web : Web S R} {node : Node S R}
+pub ahead_kind : {S R : Type 0} {stage : Stage S} {k : ℕ} {web : Web S R} {node : Node S R}
     → IsAhead stage k web node → IsKind false k web
 ahead_kind {k = k} {web = web} a = one_kind k web a.there a.kind
 
 -- An idle link has room.
-pub room_idle : {S R : Type 0} {stands : Node S R → List ℕ → At → Type 0} {k : ℕ} {web : Web S R} {s : Scene}
-    → IsAt stands web s → HasIdleLink k web → HasRoom k web
+pub room_idle : {S R : Type 0} {stage : Stage S} {k : ℕ} {web : Web S R} {s : Scene}
+    → IsAt stage web s → HasIdleLink k web → HasRoom k web
 room_idle {k = k} at i =
     let p = at.stand.links k i.link i.its in
     record {
@@ -105,11 +106,11 @@ room_idle {k = k} at i =
     }
 
 -- A stage that may hand a record on is ready, and changes its own link.
-module _ {S R : Type 0} {stage : S → Moment → Type 0} {k : ℕ} {web : Web S R} (h : IsHanding (StandsAs stage) k web) {s : Scene} where
-  handing_less : IsAt (StandsAs stage) web s → k < s.count
+module _ {S R : Type 0} {stage : Stage S} {k : ℕ} {web : Web S R} (h : IsHanding stage k web) {s : Scene} where
+  handing_less : IsAt stage web s → k < s.count
   handing_less at = omega (arith, h.less, at.stand.count)
 
-  pub handing_at : {node : Node S R} → IsKind false k web → IsAt (StandsAs stage) web s → node ≡ get_or web.nodes.items k node
+  pub handing_at : {node : Node S R} → IsKind false k web → IsAt stage web s → node ≡ get_or web.nodes.items k node
       → IsAhead stage k web node
   handing_at {node} kind at value =
       let there = node_at (handing_less at) at.stand value in
@@ -118,15 +119,15 @@ module _ {S R : Type 0} {stage : S → Moment → Type 0} {k : ℕ} {web : Web S
         kind node there,
         ⊎_elim
             (λ source. absurd (false≢true (sym (kind h.node h.is) ∙ source)))
-            (λ other. other.1 rest t (subst (λ n. StandsAs stage n rest t) is stand))
+            (λ other. other.1 rest t (subst (λ n. StandsAs stage.stands n rest t) is stand))
             h.next,
       ))
 
-  handing_ahead : is_source h.node ≡ false → IsAt (StandsAs stage) web s → IsAhead stage k web h.node
+  handing_ahead : is_source h.node ≡ false → IsAt stage web s → IsAhead stage k web h.node
   handing_ahead kind at =
       handing_at (one_kind k web h.is kind) at (sym (get_or_from_slice_get web.nodes.items k h.node h.node h.is))
 
-  pub handing_turn : IsAt (StandsAs stage) web s → MayTurn (StandsAs stage) k web s
+  pub handing_turn : IsAt stage web s → MayTurn stage k web s
   handing_turn at = ⊎_elim
       (λ source.
       let p = at.stand.links k h.idle.link h.idle.its in
@@ -141,7 +142,7 @@ module _ {S R : Type 0} {stage : S → Moment → Type 0} {k : ℕ} {web : Web S
       (λ other. ahead_turn (handing_ahead other.0 at) at)
       h.next
 
-  pub handing_touches : IsActor (StandsAs stage) k web s → k ≡ touched k (state (plan_of s) s.links k)
+  pub handing_touches : IsActor stage k web s → k ≡ touched k (state (plan_of s) s.links k)
   handing_touches actor = ⊎_elim
       (λ source. sym (source_touches (plan_of s) actor.at.reached.ok s.size k s.links
       (source_here stage k web s actor.at (handing_less actor.at) (one_kind k web h.is source))))
@@ -149,16 +150,16 @@ module _ {S R : Type 0} {stage : S → Moment → Type 0} {k : ℕ} {web : Web S
       h.next
 
 -- A stage whose link is idle may hand a record on: a source, or one that gives next.
-module _ {S R : Type 0} {stage : S → Moment → Type 0} {k : ℕ} {web : Web S R} (at : Somewhere (IsAt (StandsAs stage) web))
+module _ {S R : Type 0} {stage : Stage S} {k : ℕ} {web : Web S R} (at : Somewhere (IsAt stage web))
     (less : k < length web.nodes.items) (idle : HasIdleLink k web) where
-  pub source_hands : IsKind true k web → IsHanding (StandsAs stage) k web
+  pub source_hands : IsKind true k web → IsHanding stage k web
   source_hands kind =
-      let node = node_of (StandsAs stage) k web at.scene (omega (arith, less, at.holds.stand.count)) at.holds.stand in
+      let node = node_of stage k web at.scene (omega (arith, less, at.holds.stand.count)) at.holds.stand in
       record { less = less; node = node.0; is = node.1; next = inl (kind node.0 node.1); idle = idle }
 
   pub stage_hands : {node : Node S R} → IsKind false k web → node ≡ get_or web.nodes.items k node
-      → ((rest : List ℕ) (t : At) → StandsAs stage node rest t → kinds.Gives ≡ readiness_at (is_source node) (doing_of t))
-      → IsHanding (StandsAs stage) k web
+      → ((rest : List ℕ) (t : At) → StandsAs stage.stands node rest t → kinds.Gives ≡ readiness_at (is_source node) (doing_of t))
+      → IsHanding stage k web
   stage_hands {node} kind value gives =
       let there = nth web.nodes.items k node less value in
       record {
@@ -183,21 +184,21 @@ goes_loaded row link size l h = record {
 }
 
 -- What it has taken out, which lies nowhere as yet.
-pub gave_out : {S R : Type 0} {stage : S → Moment → Type 0} (tells : R → Option (List ℕ)) {k : ℕ} {web : Web S R} {s : Scene}
-    {node : Node S R} {given : Option Row} {pool : _} → IsAt (StandsAs stage) web s → HasIdleLink k web → IsAhead stage k web node
-    → (after : Node S R) → ((rest : List ℕ) → HasTaken (StandsAs stage node rest) (StandsAs stage after rest) given)
+pub gave_out : {S R : Type 0} {stage : Stage S} (reader : Source R) {k : ℕ} {web : Web S R} {s : Scene}
+    {node : Node S R} {given : Option Row} {pool : _} → IsAt stage web s → HasIdleLink k web → IsAhead stage k web node
+    → (after : Node S R) → ((rest : List ℕ) → HasTaken (StandsAs stage.stands node rest) (StandsAs stage.stands after rest) given)
     → is_source after ≡ false → let new = record web { nodes = with_item web.nodes k after; pool = pool } in
-    MatchOption given (Fed (StandsAs stage) tells k web new) (λ row. HandsOut (StandsAs stage) tells k row web new)
-gave_out tells {given = None} at idle a after taken kind =
+    MatchOption given (Fed stage reader k web new) (λ row. HandsOut stage reader k row web new)
+gave_out reader {given = None} at idle a after taken kind =
     absurd (none-some _ (gives_some (a.may _ at) after a.there taken).1)
-gave_out tells {given = Some row} at idle a after taken kind = record {
+gave_out reader {given = Some row} at idle a after taken kind = record {
   links = refl;
   fed = λ link its. stage_fed (ahead_turn a at) (ahead_kind a)
       (λ u turn. ahead_done after (loaded row link) a its taken (goes_loaded row link) refl refl turn) (keeps after kind refl);
 }
 
-pub hand_turn : {S R : Type 0} {stage : S → Moment → Type 0} {k : ℕ} {web : Web S R} → Somewhere (IsAt (StandsAs stage) web)
-    → IsHanding (StandsAs stage) k web → Somewhere (MayTurn (StandsAs stage) k web)
+pub hand_turn : {S R : Type 0} {stage : Stage S} {k : ℕ} {web : Web S R} → Somewhere (IsAt stage web)
+    → IsHanding stage k web → Somewhere (MayTurn stage k web)
 hand_turn at h = record { scene = at.scene; holds = handing_turn h at.holds }
 
 -- A record taken.
@@ -225,27 +226,27 @@ set_back (y ∷ xs) (suc i) a x h = ap (λ l. y ∷ l) (set_back xs i a x h)
 
 -- A stage that takes from its source next.
 
-wants_by : {S R : Type 0} {stage : S → Moment → Type 0} (k : ℕ) {place source : ℕ} (web : Web S R) {node : Node S R}
+wants_by : {S R : Type 0} {stage : Stage S} (k : ℕ) {place source : ℕ} (web : Web S R) {node : Node S R}
     → slice_get web.nodes.items k ≡ Some node → is_source node ≡ false → node.readiness ≡ kinds.Wants place
-    → ((rest : List ℕ) (t : At) → StandsAs stage node rest t → doing_of t ≡ does.Wants place
+    → ((rest : List ℕ) (t : At) → StandsAs stage.stands node rest t → doing_of t ≡ does.Wants place
     → source ≡ slice_index (sources_of t) place)
-    → WantsFrom (StandsAs stage) k place source web
+    → WantsFrom stage k place source web
 wants_by {stage = stage} k {place} web {node} there kind knows from =
-    let wants : (rest : List ℕ) (t : At) → StandsAs stage node rest t → doing_of t ≡ does.Wants place = λ rest t h.
+    let wants : (rest : List ℕ) (t : At) → StandsAs stage.stands node rest t → doing_of t ≡ does.Wants place = λ rest t h.
     wants_of _ place (ap (λ b. readiness_at b (doing_of t)) (sym kind) ∙ sym h.knows ∙ knows) in
     record { node = node; is = there; kind = kind; wants = wants; from = λ rest t h. sym (from rest t h (wants rest t h)) }
 
 -- At one moment it does, so it does whatever else the web stands for.
-pub wanting : {S R : Type 0} {stage : S → Moment → Type 0} {k place source : ℕ} {web : Web S R} {s : Scene}
-    {node : Node S R} → IsAbout (StandsAs stage) k (does.Wants place) web s → IsKind false k web
+pub wanting : {S R : Type 0} {stage : Stage S} {k place source : ℕ} {web : Web S R} {s : Scene}
+    {node : Node S R} → IsAbout stage k (does.Wants place) web s → IsKind false k web
     → node ≡ get_or web.nodes.items k node
-    → (is_source node ≡ false → (rest : List ℕ) (t : At) (place : ℕ) → StandsAs stage node rest t
+    → (is_source node ≡ false → (rest : List ℕ) (t : At) (place : ℕ) → StandsAs stage.stands node rest t
     → doing_of t ≡ does.Wants place → source ≡ slice_index (sources_of t) place)
-    → WantsFrom (StandsAs stage) k place source web
+    → WantsFrom stage k place source web
 wanting {stage = stage} {k = k} {place = place} {web = web} {s = s} {node = node} a stage_kind value from =
     let there : slice_get web.nodes.items k ≡ Some node = node_at a.less a.at.stand value in
     let kind = stage_kind node there in
-    wants_by k web there kind (wants_place stage node (s.rests k) _ place kind (a.at.stand.nodes k node there) a.does)
+    wants_by k web there kind (wants_place stage.stands node (s.rests k) _ place kind (a.at.stand.nodes k node there) a.does)
     (λ rest t h wants. from kind rest t place h wants)
 
 -- What is taken from its source changes its input by this.
@@ -253,20 +254,19 @@ abbrev pub Changes : port.Link → ℕ → (Flow Row → Flow Row) → Type 0
 Changes link source change =
     (s : Scene) → IsLink s.size link (s.links source) → view (left s source) ≡ change (view (s.links source))
 
-module _ {S R : Type 0} {stage : S → Moment → Type 0} {k place source : ℕ} {web : Web S R}
-    (w : WantsFrom (StandsAs stage) k place source web) where
+module _ {S R : Type 0} {stage : Stage S} {k place source : ℕ} {web : Web S R} (w : WantsFrom stage k place source web) where
   pub next_kind : IsKind false k web
   next_kind = one_kind k web w.is w.kind
 
-  module _ {s : Scene} (h : HasActor (StandsAs stage) k web s) where
-    standing : StandsAs stage w.node (s.rests k) (at_of s.kinds s.links k)
+  module _ {s : Scene} (h : HasActor stage k web s) where
+    standing : StandsAs stage.stands w.node (s.rests k) (at_of s.kinds s.links k)
     standing = h.at.stand.nodes k w.node w.is
 
-    pub next_about : IsAbout (StandsAs stage) k (does.Wants place) web s
+    pub next_about : IsAbout stage k (does.Wants place) web s
     next_about = record {
       at = h.at;
       less = h.less;
-      bytes = stage_bytes stage w.node (s.rests k) _ w.kind standing;
+      bytes = stage_bytes stage.stands w.node (s.rests k) _ w.kind standing;
       does = w.wants (s.rests k) _ standing;
     }
 
@@ -289,7 +289,7 @@ module _ {S R : Type 0} {stage : S → Moment → Type 0} {k place source : ℕ}
           is = w.is;
           kind = w.kind;
           place = place;
-          wants = wants_place stage w.node (s.rests k) _ place w.kind standing next_about.does;
+          wants = wants_place stage.stands w.node (s.rests k) _ place w.kind standing next_about.does;
           less = subst (λ i. i < k) (sym from) next_low;
           link = link;
           its = ap (slice_get web.links.items) from ∙ nth web.links.items source link next_within e;
@@ -299,61 +299,60 @@ module _ {S R : Type 0} {stage : S → Moment → Type 0} {k place source : ℕ}
   -- It tries to take what is there.
   module _ {link : port.Link} {answer : Taken} (value : link ≡ get_or web.links.items source link)
       (told : Tells link answer (λ size l. taken_of l.waiting l.mark)) where
-    pub trying_able : {s : Scene} → HasActor (StandsAs stage) k web s
+    pub trying_able : {s : Scene} → HasActor stage k web s
         → is_some_of answer ≡ ready (plan_of s) s.size s.links k
     trying_able h =
         some_takes (next_about h) (next_source h) value (tells_some told) ∙ sym (stage_ready (next_about h))
 
-    pub takes : is_some_of answer ≡ true → {s : Scene} → HasActor (StandsAs stage) k web s
-        → Passing (StandsAs stage) k place web s source link
+    pub takes : is_some_of answer ≡ true → {s : Scene} → HasActor stage k web s
+        → Passing stage k place web s source link
     takes some h = passing (acting (next_about h) (sym (trying_able h) ∙ some)) (next_source h) value
 
-    pub trying_may : {s : Scene} {node : Node S R} {change : Flow Row → Flow Row} → HasActor (StandsAs stage) k web s
+    pub trying_may : {s : Scene} {node : Node S R} {change : Flow Row → Flow Row} → HasActor stage k web s
         → node ≡ get_or web.nodes.items k node → is_some_of answer ≡ true → Changes link source change
-        → (place : ℕ) × MayDo (StandsAs stage node []) (λ t. MayChange t change place)
+        → (place : ℕ) × MayDo (StandsAs stage.stands node []) (λ t. MayChange t change place)
     trying_may {s} {node} h e some changes =
         let there : slice_get web.nodes.items k ≡ Some node = node_at h.less h.at.stand e in (
           place,
           record {
             at = at_of s.kinds s.links k;
-            stand = any_rest stage node (next_kind node there) (s.rests k) [] _ (h.at.stand.nodes k node there);
+            stand = any_rest stage.stands node (next_kind node there) (s.rests k) [] _ (h.at.stand.nodes k node there);
             holds = may_take (takes some h) (changes s (link_here (takes some h)));
           },
         )
 
 -- A stage takes a record that was handed to it.
-module _ {S R : Type 0} (stage : S → Moment → Type 0) (k place source : ℕ) (row : Row) (web : Web S R) (link : port.Link)
+module _ {S R : Type 0} (stage : Stage S) (k place source : ℕ) (row : Row) (web : Web S R) (link : port.Link)
     (its : slice_get web.links.items source ≡ Some link) (empty : link.waiting.items ≡ [])
-    (w : WantsFrom (StandsAs stage) k place source web) where
+    (w : WantsFrom stage k place source web) where
   laid_value : loaded row link ≡ get_or (laid source row link web).links.items source (loaded row link)
   laid_value =
       sym (get_or_from_slice_get _ source (loaded row link) _ (set_here web.links.items source (loaded row link) link its))
 
-  laid_wants : WantsFrom (StandsAs stage) k place source (laid source row link web)
+  laid_wants : WantsFrom stage k place source (laid source row link web)
   laid_wants = record { node = w.node; is = w.is; kind = w.kind; wants = w.wants; from = w.from }
 
-  module _ (s : Scene) (at : IsAt (StandsAs stage) (laid source row link web) s) (less : k < s.count) where
-    pub accept_turn : MayTurn (StandsAs stage) k (laid source row link web) s
+  module _ (s : Scene) (at : IsAt stage (laid source row link web) s) (less : k < s.count) where
+    pub accept_turn : MayTurn stage k (laid source row link web) s
     accept_turn =
-        let h : HasActor (StandsAs stage) k (laid source row link web) s = record { at = at; less = less } in
+        let h : HasActor stage k (laid source row link web) s = record { at = at; less = less } in
         record { at = at; less = less; ready = sym (trying_able laid_wants laid_value (tells_loaded row link empty) h) }
 
     pub accept_touches : source ≡ touched k (state (plan_of s) s.links k)
     accept_touches =
-        let h : HasActor (StandsAs stage) k (laid source row link web) s = record { at = at; less = less } in
+        let h : HasActor stage k (laid source row link web) s = record { at = at; less = less } in
         touched_takes (next_about laid_wants h) (next_source laid_wants h)
 
 -- It takes from a stage to its left, and still does once that has had its turn.
-module _ {S R : Type 0} (stage : S → Moment → Type 0) (k place source : ℕ) (web : Web S R)
-    (w : WantsFrom (StandsAs stage) k place source web) where
+module _ {S R : Type 0} (stage : Stage S) (k place source : ℕ) (web : Web S R) (w : WantsFrom stage k place source web) where
   pub wants_within : k < length web.nodes.items
   wants_within = slice_get_within web.nodes.items k w.node w.is
 
-  pub wants_above : (s : Scene) → IsAt (StandsAs stage) web s → source < k
+  pub wants_above : (s : Scene) → IsAt stage web s → source < k
   wants_above s at = next_low w (record { at = at; less = omega (arith, wants_within, at.stand.count) })
 
   pub wants_still : (new : Web S R) → KeepsOthers source web new → source < k
-      → WantsFrom (StandsAs stage) k place source new
+      → WantsFrom stage k place source new
   wants_still new others less = record {
     node = w.node;
     is = others k (λ e. omega (arith, less, e)) ∙ w.is;
@@ -363,11 +362,10 @@ module _ {S R : Type 0} (stage : S → Moment → Type 0) (k place source : ℕ)
   }
 
 -- A record is offered once, and taken.
-module _ {S R : Type 0} {stage : S → Moment → Type 0} {k : ℕ} {row : Row} {web : Web S R}
-    (o : IsOffered (StandsAs stage) k row web) where
+module _ {S R : Type 0} {stage : Stage S} {k : ℕ} {row : Row} {web : Web S R} (o : IsOffered stage k row web) where
   -- it may be put
   pub offered_put : {node : Node S R} → node ≡ get_or web.nodes.items k node
-      → (place : ℕ) × MayPut (StandsAs stage node []) place row
+      → (place : ℕ) × MayPut (StandsAs stage.stands node []) place row
   offered_put e =
       let tells = tells_loaded row o.link o.empty in
       trying_may (laid_wants stage k o.place o.source row web o.link o.its o.empty o.wants)
@@ -375,31 +373,31 @@ module _ {S R : Type 0} {stage : S → Moment → Type 0} {k : ℕ} {row : Row} 
       (record { at = o.at; less = o.less }) e refl (λ s here. record_left tells s o.source here refl)
 
   module _ {source place : ℕ} {link : port.Link} (its : slice_get web.links.items source ≡ Some link)
-      (w : WantsFrom (StandsAs stage) k place source web) where
+      (w : WantsFrom stage k place source web) where
     source_is : o.source ≡ source
     source_is =
         let s = o.scene in
         let here = o.at.stand.nodes k o.wants.node o.wants.is in
         let same : o.wants.node ≡ w.node = same_Some _ _ (sym o.wants.is ∙ w.is) in
         let t = at_of s.kinds s.links k in
-        let there = subst (λ n. StandsAs stage n (s.rests k) t) same here in
+        let there = subst (λ n. StandsAs stage.stands n (s.rests k) t) same here in
         let wants : does.Wants o.place ≡ does.Wants place =
         sym (o.wants.wants (s.rests k) t here) ∙ w.wants (s.rests k) t there in
         let place_is : o.place ≡ place = cc in
         sym (o.wants.from (s.rests k) t here) ∙ ap (slice_index (sources_of t)) place_is ∙ w.from (s.rests k) t there
 
-    offered_at : IsAt (StandsAs stage) (laid source row link web) o.scene
+    offered_at : IsAt stage (laid source row link web) o.scene
     offered_at =
         let same : o.link ≡ link = same_Some _ _ (sym o.its ∙ ap (slice_get web.links.items) source_is ∙ its) in
-        subst (λ l. IsAt (StandsAs stage) (laid source row l web) o.scene) same
-        (subst (λ i. IsAt (StandsAs stage) (laid i row o.link web) o.scene) source_is o.at)
+        subst (λ l. IsAt stage (laid source row l web) o.scene) same
+        (subst (λ i. IsAt stage (laid i row o.link web) o.scene) source_is o.at)
 
-    pub accepted : {tells : R → Option (List ℕ)} {new : Web S R} {node : Node S R} (after : Node S R)
+    pub accepted : {reader : Source R} {new : Web S R} {node : Node S R} (after : Node S R)
         → link.waiting.items ≡ [] → node ≡ get_or web.nodes.items k node → is_source after ≡ false
-        → ((rest : List ℕ) (place : ℕ) → HasPut (StandsAs stage node rest) (StandsAs stage after rest) place row)
+        → ((rest : List ℕ) (place : ℕ) → HasPut (StandsAs stage.stands node rest) (StandsAs stage.stands after rest) place row)
         → new.nodes.items ≡ slice_set web.nodes.items k after → new.links.items ≡ web.links.items
-        → Fed (StandsAs stage) tells k (laid source row link web) new
-    accepted {tells} {new} {node} after empty value kind puts en el =
+        → Fed stage reader k (laid source row link web) new
+    accepted {reader} {new} {node} after empty value kind puts en el =
         let told = tells_loaded row link empty in
         let wants = laid_wants stage k place source row web link its empty w in
         let lies = laid_value stage k place source row web link its empty w in
@@ -412,17 +410,17 @@ module _ {S R : Type 0} {stage : S → Moment → Type 0} {k : ℕ} {row : Row} 
         (keeps after kind en)
 
 -- One that waits isn't ready.
-module _ {S R : Type 0} (stage : S → Moment → Type 0) (k : ℕ) (web : Web S R) (w : IsWaiting k web) where
+module _ {S R : Type 0} (stage : Stage S) (k : ℕ) (web : Web S R) (w : IsWaiting k web) where
   waiting_tells : Tells w.link false (λ size l. nat_lt 0 (length l.waiting) || is_some l.mark)
   waiting_tells size l h =
       sym (ap (λ (ws : List Row). nat_lt 0 (length ws) || is_some l.mark) (sym h.waiting ∙ w.idle.empty)
       ∙ ap is_some (sym h.mark ∙ w.idle.unset))
 
-  pub waiting_unready : (s : Scene) → IsAt (StandsAs stage) web s → k < s.count
+  pub waiting_unready : (s : Scene) → IsAt stage web s → k < s.count
       → ready (plan_of s) s.size s.links k ≡ false
   waiting_unready s at less =
-      let h : HasActor (StandsAs stage) k web s = record { at = at; less = less } in
-      let wants : WantsFrom (StandsAs stage) k w.place w.node.from web =
+      let h : HasActor stage k web s = record { at = at; less = less } in
+      let wants : WantsFrom stage k w.place w.node.from web =
       wants_by k web w.is w.kind w.wants (λ rest t stand wants. stand.takes w.kind w.place wants) in
       stage_ready (next_about wants h)
       ∙ sym (some_takes (next_about wants h) (next_source wants h)

@@ -3,13 +3,12 @@ use Rattle.std.proofs.Common.{◌≡◌, ◌∙◌, ℕ, zero, suc, pred, ◌+�
 use Rattle.std.proofs.Common.{Some, None, refl, sym, ap, subst, slice_get, get_or, arith, inr, ⊎_elim}
 use Rattle.std.proofs.lemmas.Bool.{cases_Bool, cond-false, ne_eqb}
 use Rattle.std.proofs.lemmas.Option.{same_Some, slice_get-get_or, slice_get_within}
+use Rattle.hum_text.specs.declared.calls.Source.{Ghosts as Source}
+use Rattle.hum_text.specs.declared.calls.Sink.{Ghosts as Sink}
+use Rattle.hum_stage.specs.declared.contract.Stage.{Ghosts as Stage}
 use Rattle.hum_turns.specs.Failures.{is_ready, result}
 use Rattle.hum_turns.specs.Orders.{Order}
 use Rattle.hum_turns.specs.declared.order.Side.TheVariants as side
-use Rattle.hum_stage.specs.Meaning.{Moment}
-use Rattle.hum_nodes.specs.At.{At}
-use Rattle.hum_nodes.specs.Nodes.{StandsAs}
-use Rattle.hum_nodes.specs.declared.node.Node.{Node}
 use Rattle.hum_engine.specs.declared.net.Net.{Net}
 use Rattle.hum_engine.specs.declared.search.Search.{Search}
 use Rattle.hum_engine.specs.Search.{outer, changed, handed, passed, is_left}
@@ -24,13 +23,13 @@ use Rattle.hum_engine.proofs.Searching.{right_side}
 use Rattle.hum_engine.proofs.Netting.{actor_now, ready_by}
 
 -- Where a search stands, and what there is.
-pub record Fits {S R W : Type 0} (stands : Node S R → List ℕ → At → Type 0) (by : Search) (net : Net S R W) : Type 0 where
+pub record Fits {S R W : Type 0} (stage : Stage S) (by : Search) (net : Net S R W) : Type 0 where
   pub within : by.from ≤ length net.web.nodes.items
   pub behind : by.behind ≤ length net.web.nodes.items + 1
   pub links : length net.web.links.items ≡ length net.web.nodes.items
   pub takers : length net.takers.items ≡ length net.web.nodes.items
   pub few : length net.web.nodes.items < 256
-  pub at : Somewhere (IsAt stands net.web)
+  pub at : Somewhere (IsAt stage net.web)
   -- the sink takes from the last stage
   pub last : (k : ℕ) → k + 1 ≡ length net.web.nodes.items → slice_get net.takers.items k ≡ Some (length net.web.nodes.items)
 
@@ -38,15 +37,14 @@ one_before : (k count : ℕ) → k + 1 ≡ count → k ≡ pred count
 one_before k zero h = absurd (omega (arith, h))
 one_before k (suc c) h = omega (arith, h)
 
-pub search_fits : {S R W : Type 0} {stands : Node S R → List ℕ → At → Type 0} {contents : W → Option (List ℕ)}
-    {flushed : W → Bool} {look : Option Search} {by : Search} {net : Net S R W}
-    → MayStep stands contents flushed look net → look ≡ Some by → Fits stands by net
-search_fits {S} {R} {W} {stands} {contents} {flushed} {look} {by} {net} may is =
+pub search_fits : {S R W : Type 0} {stage : Stage S} {writer : Sink W} {look : Option Search} {by : Search} {net : Net S R W}
+    → MayStep stage writer look net → look ≡ Some by → Fits stage by net
+search_fits {S} {R} {W} {stage} {writer} {look} {by} {net} may is =
     let m = pick_now may in
     let r = m.running in
     let s = r.scene in
     let front = front_of s r.now net is m.sees in
-    let at = (actor_now stands contents flushed r.start s net r.now 0 r.at m.going (omega arith)).at in
+    let at = (actor_now stage writer r.start s net r.now 0 r.at m.going (omega arith)).at in
     let count = at.stand.count in
     record {
       within = omega (arith, front.within, count);
@@ -63,32 +61,31 @@ search_fits {S} {R} {W} {stands} {contents} {flushed} {look} {by} {net} may is =
     }
 
 -- A stage that waits isn't ready.
-waiting_idle : {S R W : Type 0} {stage : S → Moment → Type 0} (contents : W → Option (List ℕ)) (flushed : W → Bool) {k : ℕ}
-    {net : Net S R W} → IsWaiting k net.web → AtEach (StandsAs stage) contents flushed net
+waiting_idle : {S R W : Type 0} {stage : Stage S} (writer : Sink W) {k : ℕ}
+    {net : Net S R W} → IsWaiting k net.web → AtEach stage writer net
     (λ start s now. result (plan_of s) now ≡ None → is_ready (plan_of s) s.size now k ≡ false)
-waiting_idle {S} {R} {W} {stage} contents flushed {k} {net} w start s now h none =
+waiting_idle {stage = stage} writer {k} {net} w start s now h none =
     let within = slice_get_within net.web.nodes.items k w.node w.is in
-    let count = (actor_now (StandsAs stage) contents flushed start s net now 0 h none (omega arith)).at.stand.count in
-    sym (ready_by (StandsAs stage) contents flushed start s net now k h false none (omega (arith, within, count))
+    let count = (actor_now stage writer start s net now 0 h none (omega arith)).at.stand.count in
+    sym (ready_by stage writer start s net now k h false none (omega (arith, within, count))
     (λ t actor. sym (waiting_unready stage k net.web w t actor.at (omega (arith, within, actor.at.stand.count)))))
 
 -- From the right stage k, where the search stands, hands a record on to this actor, which takes from it.
-pub record Hands {S R W O : Type 0} (stage : S → Moment → Type 0) (contents : W → Option (List ℕ)) (flushed : W → Bool)
+pub record Hands {S R W O : Type 0} (stage : Stage S) (writer : Sink W)
     (order : Order O) (look : Option Search) (by : Search) (k taker : ℕ) (o : O) (old : Net S R W) : Type 0 where
-  pub may : MayAdvance (StandsAs stage) contents flushed order o look old
+  pub may : MayAdvance stage writer order o look old
   pub is : look ≡ Some by
   pub from : k ≡ by.from
   pub right : by.side ≡ side.Right
   pub takes : slice_get old.takers.items k ≡ Some taker
   pub above : k < taker
 
-module _ {S R W O : Type 0} {stage : S → Moment → Type 0} {contents : W → Option (List ℕ)} {flushed : W → Bool}
-    {order : Order O} {look : Option Search} {by : Search} {k : ℕ} {o : O} {old : Net S R W}
-    (may : MayAdvance (StandsAs stage) contents flushed order o look old) (is : look ≡ Some by) (from : k ≡ by.from)
+module _ {S R W O : Type 0} {stage : Stage S} {writer : Sink W} {order : Order O} {look : Option Search} {by : Search} {k : ℕ}
+    {o : O} {old : Net S R W} (may : MayAdvance stage writer order o look old) (is : look ≡ Some by) (from : k ≡ by.from)
     {b : Bool} (tells : b ≡ is_left by.side) (isnt : b ≡ false) where
   pub to_stage : {taker : ℕ} → k < length old.web.nodes.items → taker ≡ get_or old.takers.items k taker
-      → (place : ℕ) × WantsFrom (StandsAs stage) taker place k old.web
-      → Hands stage contents flushed order look by k taker o old
+      → (place : ℕ) × WantsFrom stage taker place k old.web
+      → Hands stage writer order look by k taker o old
   to_stage {taker} less read wants =
       let fits = search_fits may.step is in
       record {
@@ -100,7 +97,7 @@ module _ {S R W O : Type 0} {stage : S → Moment → Type 0} {contents : W → 
         above = wants_above stage taker wants.0 k old.web wants.1 fits.at.scene fits.at.holds;
       }
 
-  pub to_sink : k + 1 ≡ length old.web.nodes.items → Hands stage contents flushed order look by k (k + 1) o old
+  pub to_sink : k + 1 ≡ length old.web.nodes.items → Hands stage writer order look by k (k + 1) o old
   to_sink next = record {
     may = may;
     is = is;
@@ -111,15 +108,13 @@ module _ {S R W O : Type 0} {stage : S → Moment → Type 0} {contents : W → 
   }
 
 -- A stage has handed a record on; where it waits then, it isn't ready.
-module _ {S R W O : Type 0} {stage : S → Moment → Type 0} {remaining : R → Option (List ℕ)} {failed : R → Bool}
-    {contents : W → Option (List ℕ)} {flushed broken : W → Bool} {order : Order O} {look : Option Search} {by : Search}
-    {k taker : ℕ} {o : O} {old new : Net S R W} {is_over : Bool}
-    (x : Hands stage contents flushed order look by k taker o old)
-    (h : HasHanded (StandsAs stage) remaining failed contents flushed broken k taker old new is_over) where
+module _ {S R W O : Type 0} {stage : Stage S} {reader : Source R} {writer : Sink W} {order : Order O} {look : Option Search}
+    {by : Search} {k taker : ℕ} {o : O} {old new : Net S R W} {is_over : Bool}
+    (x : Hands stage writer order look by k taker o old) (h : HasHanded stage reader writer k taker old new is_over) where
   abbrev pub Steps : Search → Net S R W → Bool → Type 0
-  Steps after net over = HasStepped (StandsAs stage) remaining contents flushed order o o look (Some after) old net over
+  Steps after net over = HasStepped stage reader writer order o o look (Some after) old net over
 
-  ask : Asked (StandsAs stage) contents flushed order look k o o old
+  ask : Asked stage writer order look k o o old
   ask = asked_from x.may x.is x.from
 
   takes_between : slice_get h.both.between.takers.items k ≡ Some taker
@@ -133,16 +128,16 @@ module _ {S R W O : Type 0} {stage : S → Moment → Type 0} {remaining : R →
   first : (w : Bool) → (w ≡ true → IsWaiting k new.web) → Steps (handed by taker w) h.both.between false
   first false waits = stepped_on ask h.both.given x.is to_between
   first true waits = stepped_past_it ask h.both.given x.is x.right refl (omega (arith, (waits refl).less)) takes_between
-      (waiting_idle contents flushed (h.both.waits (waits refl)))
+      (waiting_idle writer (h.both.waits (waits refl)))
 
-  isnt_behind : (w : Bool) → (w ≡ true → IsWaiting k new.web) → AtEach (StandsAs stage) contents flushed new (λ start s now.
+  isnt_behind : (w : Bool) → (w ≡ true → IsWaiting k new.web) → AtEach stage writer new (λ start s now.
       result (plan_of s) now ≡ None → (handed by taker w).behind < k → is_ready (plan_of s) s.size now k ≡ false)
   isnt_behind false waits start s now n none low = absurd (omega (arith, low, x.from))
-  isnt_behind true waits start s now n none low = waiting_idle contents flushed (waits refl) start s now n none
+  isnt_behind true waits start s now n none low = waiting_idle writer (waits refl) start s now n none
 
   module _ {w : Bool} (waits : w ≡ true → IsWaiting k new.web) where
     ask_then : (net : Net S R W) → Steps (handed by taker w) net false
-        → Asked (StandsAs stage) contents flushed order (Some (handed by taker w)) taker o o net
+        → Asked stage writer order (Some (handed by taker w)) taker o o net
     ask_then net step = asked_from (record { step = may_on step x.may.step; leans = (ask.here by x.is).2 }) refl refl
 
     both : Steps (handed by taker w) new is_over
@@ -153,11 +148,11 @@ module _ {S R W O : Type 0} {stage : S → Moment → Type 0} {remaining : R →
     both_on on = subst (Steps (handed by taker w) new) on both
 
     pub handed_advanced : {after : Search} → after ≡ handed by taker w
-        → HasAdvanced (StandsAs stage) remaining failed contents flushed broken order o o look (Some after) old new is_over
+        → HasAdvanced stage reader writer order o o look (Some after) old new is_over
     handed_advanced to = rw to (record { stepped = both; leans = leans_on ask x.is refl; marks = h.marks })
 
     -- While the run goes on it is an actor still,
-    pub actor_still : is_over ≡ false → Somewhere (HasActor (StandsAs stage) k new.web)
+    pub actor_still : is_over ≡ false → Somewhere (HasActor stage k new.web)
     actor_still on =
         let fits = search_fits (may_on (both_on on) x.may.step) refl in
         let less : k < fits.at.scene.count = omega (arith, x.above, fits.within, fits.at.holds.stand.count) in
@@ -165,9 +160,9 @@ module _ {S R W O : Type 0} {stage : S → Moment → Type 0} {remaining : R →
 
     -- and the taker isn't ready then.
     pub passed_advanced : {hand after : Search}
-        → AtEach (StandsAs stage) contents flushed new (λ start s now. result (plan_of s) now ≡ None
+        → AtEach stage writer new (λ start s now. result (plan_of s) now ≡ None
         → is_ready (plan_of s) s.size now taker ≡ false) → hand ≡ handed by taker w → after ≡ passed hand
-        → HasAdvanced (StandsAs stage) remaining failed contents flushed broken order o o look (Some after) old new is_over
+        → HasAdvanced stage reader writer order o o look (Some after) old new is_over
     passed_advanced quiet to past = rw (past, to) (record {
       stepped = ⊎_elim
           (λ over. stepped_twice (first w waits) (stepped_out (ask_then h.both.between (first w waits)) h.both.taken over))

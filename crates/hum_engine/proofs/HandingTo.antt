@@ -5,16 +5,18 @@ use Rattle.std.proofs.Common.{length-set, arith, inl, ⊎_elim}
 use Rattle.std.proofs.lemmas.Bool.{cases_eq}
 use Rattle.std.proofs.Math.Bool.{and-false, or-false}
 use Rattle.std.specs.Prelude.{is_some, if◌then◌else◌, OnOk, MatchOption, Ok}
+use Rattle.hum_text.specs.declared.calls.Source.{Ghosts as Source}
+use Rattle.hum_text.specs.declared.calls.Sink.{Ghosts as Sink}
+use Rattle.hum_stage.specs.declared.contract.Stage.{Ghosts as Stage}
 use Rattle.hum_read.specs.declared.ReadError.{ReadError}
 use Rattle.hum_record.specs.Row.{Row}
-use Rattle.hum_stage.specs.Meaning.{Moment}
 use Rattle.hum_turns.specs.declared.result.RunResult.{RunResult}
 use Rattle.hum_turns.specs.declared.result.RunResult.TheVariants as ends
 use Rattle.hum_turns.specs.Failures.{is_ready, result}
 use Rattle.hum_turns.specs.Plan.{last}
 use Rattle.hum_turns.specs.Links.{has_some}
 use Rattle.hum_turns.specs.Turns.{Takes}
-use Rattle.hum_nodes.specs.Nodes.{StandsAs, failed_of}
+use Rattle.hum_nodes.specs.Nodes.{failed_of}
 use Rattle.hum_engine.specs.declared.link.Link as port
 use Rattle.hum_engine.specs.declared.net.Net.{Net}
 use Rattle.hum_engine.specs.declared.web.Web.{Web}
@@ -40,9 +42,8 @@ use Rattle.hum_engine.proofs.Stepping.{sink_touches}
 use Rattle.hum_engine.proofs.Taking.{did_sink}
 
 -- A stage that may hand a record on may be asked.
-module _ {S R W : Type 0} {stage : S → Moment → Type 0} {contents : W → Option (List ℕ)} {flushed : W → Bool} {k : ℕ}
-    {net : Net S R W} (m : MayHand (StandsAs stage) contents flushed k net) where
-  pub hand_ask : MayAsk (StandsAs stage) contents flushed k net
+module _ {S R W : Type 0} {stage : Stage S} {writer : Sink W} {k : ℕ} {net : Net S R W} (m : MayHand stage writer k net) where
+  pub hand_ask : MayAsk stage writer k net
   hand_ask =
       let may = pick_now m.step in
       record {
@@ -57,10 +58,10 @@ module _ {S R W : Type 0} {stage : S → Moment → Type 0} {contents : W → Op
   pub hand_stage : k ≢ length net.web.nodes.items
   hand_stage here = omega (arith, here, m.handing.less)
 
-  hand_at : Somewhere (HasActor (StandsAs stage) k net.web)
+  hand_at : Somewhere (HasActor stage k net.web)
   hand_at = asked_stage hand_ask hand_stage
 
-  pub hand_somewhere : Somewhere (IsAt (StandsAs stage) net.web)
+  pub hand_somewhere : Somewhere (IsAt stage net.web)
   hand_somewhere = record { scene = hand_at.scene; holds = hand_at.holds.at }
 
   pub hand_unfailed : net.failure ≡ None
@@ -73,15 +74,15 @@ module _ {S R W : Type 0} {stage : S → Moment → Type 0} {contents : W → Op
   hand_few = asked_few hand_ask
 
   -- a moment that its turn has led to, while the run goes on
-  led : {remaining : R → Option (List ℕ)} {link : ℕ} {new : Net S R W}
-      → HasMoved (StandsAs stage) remaining contents flushed k link net new false
-      → Somewhere (λ s. IsAt (StandsAs stage) new.web s × (length net.web.nodes.items ≡ s.count))
+  led : {reader : Source R} {link : ℕ} {new : Net S R W}
+      → HasMoved stage reader writer k link net new false
+      → Somewhere (λ s. IsAt stage new.web s × (length net.web.nodes.items ≡ s.count))
   led {new = new} h =
       let reads : ℕ → List ℕ = λ i. h.turned.reads i ++ [] in
       let was : AreOver net.web.nodes.items reads = λ i e. ap (λ l. l ++ []) ((h.turned.read i).still e).0 in
       let s : Scene = record (m.step.scene reads was) { rests = λ i. [] } in
       let now = m.step.now reads was in
-      let at = subst (λ f. NetAt (StandsAs stage) contents flushed m.step.start (record (m.step.scene reads was)
+      let at = subst (λ f. NetAt stage writer m.step.start (record (m.step.scene reads was)
       { rests = f }) net now) (m.step.rests reads was) (m.step.at reads was) in
       let none = m.step.going reads was in
       let count = (at_now at none).stand.count in
@@ -90,11 +91,11 @@ module _ {S R W : Type 0} {stage : S → Moment → Type 0} {contents : W → Op
       record { scene = moved s g.to.links; holds = (at_now g.at (not_over _ g.tells refl), count) }
 
 -- Of a turn of one actor that has marked no reader the marks of all are as they were.
-marks_kept : {S R : Type 0} (failed : R → Bool) (k : ℕ) (old new : Web S R) → KeepsOthers k old new
-    → failed_at failed k new.nodes.items ≡ failed_at failed k old.nodes.items
-    → (i : ℕ) → failed_at failed i new.nodes.items ≡ failed_at failed i old.nodes.items
-marks_kept failed k old new others here i = ⊎_elim
-    (λ (is : i ≡ k). rw is here) (λ (o : i ≢ k). ap (or_none false (failed_of failed)) (others i o)) (cases_eq i k)
+marks_kept : {S R : Type 0} (reader : Source R) (k : ℕ) (old new : Web S R) → KeepsOthers k old new
+    → failed_at reader k new.nodes.items ≡ failed_at reader k old.nodes.items
+    → (i : ℕ) → failed_at reader i new.nodes.items ≡ failed_at reader i old.nodes.items
+marks_kept reader k old new others here i = ⊎_elim
+    (λ (is : i ≡ k). rw is here) (λ (o : i ≢ k). ap (or_none false (failed_of reader.failed)) (others i o)) (cases_eq i k)
 
 one_before : (k count : ℕ) → k + 1 ≡ count → k ≡ pred count
 one_before k zero h = absurd (omega (arith, h))
@@ -108,10 +109,8 @@ abbrev memory_so : Bool → Option RunResult
 memory_so is_over = if is_over then Some ends.Memory else None
 
 -- Stage k has had its turn and has given this record, but that the record doesn't lie on its link, which is idle.
-module _ {S R W : Type 0} {stage : S → Moment → Type 0} {remaining : R → Option (List ℕ)} {failed : R → Bool}
-    {contents : W → Option (List ℕ)} {flushed : W → Bool} {k : ℕ} {old mid : Net S R W} {row : Row}
-    (m : MayHand (StandsAs stage) contents flushed k old)
-    (f : HasInHand (StandsAs stage) remaining failed k old mid row) where
+module _ {S R W : Type 0} {stage : Stage S} {reader : Source R} {writer : Sink W} {k : ℕ} {old mid : Net S R W} {row : Row}
+    (m : MayHand stage writer k old) (f : HasInHand stage reader k old mid row) where
   abbrev web : Web S R
   web = mid.web
 
@@ -131,7 +130,7 @@ module _ {S R W : Type 0} {stage : S → Moment → Type 0} {remaining : R → O
   its : slice_get web.links.items k ≡ Some link
   its = ap (λ v. slice_get v.items k) f.out.links ∙ m.handing.idle.its
 
-  given : HasMoved (StandsAs stage) remaining contents flushed k k old between false
+  given : HasMoved stage reader writer k k old between false
   given = record {
     ready = λ start s now n none.
         sym (ready_at n none k (sym (handing_turn m.handing {s = moved s now.links} (at_now n none)).ready));
@@ -140,7 +139,7 @@ module _ {S R W : Type 0} {stage : S → Moment → Type 0} {remaining : R → O
     turns = refl;
   }
 
-  after : Somewhere (λ s. IsAt (StandsAs stage) (laid k row link web) s × (length old.web.nodes.items ≡ s.count))
+  after : Somewhere (λ s. IsAt stage (laid k row link web) s × (length old.web.nodes.items ≡ s.count))
   after = led m given
 
   many : length web.nodes.items ≡ length old.web.nodes.items
@@ -163,17 +162,17 @@ module _ {S R W : Type 0} {stage : S → Moment → Type 0} {remaining : R → O
   }
 
   -- A stage takes it.
-  module _ {taker : ℕ} (wants : (place : ℕ) × WantsFrom (StandsAs stage) taker place k old.web) where
+  module _ {taker : ℕ} (wants : (place : ℕ) × WantsFrom stage taker place k old.web) where
     above : k < taker
     above = wants_above stage taker wants.0 k old.web wants.1 _ (hand_at m).holds.at
 
-    still : WantsFrom (StandsAs stage) taker wants.0 k web
+    still : WantsFrom stage taker wants.0 k web
     still = wants_still stage taker wants.0 k old.web wants.1 web f.others above
 
     takes : (s : Scene) → length web.nodes.items ≡ s.count → taker < s.count
     takes s count = omega (arith, many, wants_within stage taker wants.0 k old.web wants.1, count)
 
-    pub offered : IsOffered (StandsAs stage) taker row web
+    pub offered : IsOffered stage taker row web
     offered = record {
       place = wants.0;
       source = k;
@@ -187,8 +186,8 @@ module _ {S R W : Type 0} {stage : S → Moment → Type 0} {remaining : R → O
     }
 
     moves : (new : Web S R) (failure : Option RunResult) → KeepsOthers taker web new
-        → ComesTo (StandsAs stage) remaining taker (laid k row link web) new failure
-        → HasMoved (StandsAs stage) remaining contents flushed taker k between
+        → ComesTo stage reader taker (laid k row link web) new failure
+        → HasMoved stage reader writer taker k between
         (record old { web = new; turns = (old.turns + 1) + 1; failure = failure }) (is_some failure)
     moves new failure kept comes = record {
       ready = λ start s now n none.
@@ -203,23 +202,23 @@ module _ {S R W : Type 0} {stage : S → Moment → Type 0} {remaining : R → O
     }
 
     -- It has, or has had no memory for that.
-    pub handed_to : {broken : W → Bool} {new : Net S R W} (b : Bool)
+    pub handed_to : {new : Net S R W} (b : Bool)
         → (b ≡ false → (new ≡ record mid { web = new.web; turns = mid.turns + 1 })
-        × HasAccepted (StandsAs stage) remaining taker row web new.web)
+        × HasAccepted stage reader taker row web new.web)
         → (b ≡ true → new ≡ record mid { web = new.web; turns = mid.turns + 1; failure = Some ends.Memory })
-        → AsksNone remaining failed taker web new.web
-        → HasHanded (StandsAs stage) remaining failed contents flushed broken k taker old new b
-    handed_to {broken} {new} b ok err a = record {
+        → AsksNone reader taker web new.web
+        → HasHanded stage reader writer k taker old new b
+    handed_to {new} b ok err a = record {
       both = record {
         between = between;
         given = given;
-        taken = subst (λ n. HasMoved (StandsAs stage) remaining contents flushed taker k between n b) (sym (net b ok err)) (by b ok);
+        taken = subst (λ n. HasMoved stage reader writer taker k between n b) (sym (net b ok err)) (by b ok);
         takers = refl;
         waits = waits_then (a.others k (λ e. omega (arith, above, e))) a.links;
       };
       marks = rw (net b ok err) (record {
-        reads = λ i. rw ((quiet b i).0, or-false) (marks_kept failed taker web new.web a.others a.marks i
-            ∙ marks_kept failed k old.web web f.others f.marks i);
+        reads = λ i. rw ((quiet b i).0, or-false) (marks_kept reader taker web new.web a.others a.marks i
+            ∙ marks_kept reader k old.web web f.others f.marks i);
         writes = rw ((quiet b 0).1, or-false) refl;
         takers = refl;
       });
@@ -227,7 +226,7 @@ module _ {S R W : Type 0} {stage : S → Moment → Type 0} {remaining : R → O
     }
       where
         net : (b : Bool) → (b ≡ false → (new ≡ record mid { web = new.web; turns = mid.turns + 1 })
-            × HasAccepted (StandsAs stage) remaining taker row web new.web)
+            × HasAccepted stage reader taker row web new.web)
             → (b ≡ true → new ≡ record mid { web = new.web; turns = mid.turns + 1; failure = Some ends.Memory })
             → new ≡ record old { web = new.web; turns = (old.turns + 1) + 1; failure = memory_so b }
         net true ok err = err refl
@@ -239,8 +238,8 @@ module _ {S R W : Type 0} {stage : S → Moment → Type 0} {remaining : R → O
         quiet false i = (refl, refl)
 
         by : (b : Bool) → (b ≡ false → (new ≡ record mid { web = new.web; turns = mid.turns + 1 })
-            × HasAccepted (StandsAs stage) remaining taker row web new.web)
-            → HasMoved (StandsAs stage) remaining contents flushed taker k between
+            × HasAccepted stage reader taker row web new.web)
+            → HasMoved stage reader writer taker k between
             (record old { web = new.web; turns = (old.turns + 1) + 1; failure = memory_so b }) b
         by false ok = moves new.web None a.others ((ok refl).1 k wants.0 link its m.handing.idle.idle.empty still)
         by true ok = moves new.web (Some ends.Memory) a.others ((λ s at less. refl), a.stays)
@@ -253,38 +252,38 @@ module _ {S R W : Type 0} {stage : S → Moment → Type 0} {remaining : R → O
     there : slice_get (laid k row link web).links.items k ≡ Some (loaded row link)
     there = set_here web.links.items k (loaded row link) link its
 
-    waits : (s : Scene) → IsAt (StandsAs stage) (laid k row link web) s → (s.links (last (plan_of s))).waiting ≡ row ∷ []
+    waits : (s : Scene) → IsAt stage (laid k row link web) s → (s.links (last (plan_of s))).waiting ≡ row ∷ []
     waits s at =
         subst (λ i. (s.links i).waiting ≡ row ∷ []) (last_is s at.stand.count)
         (alone row link m.handing.idle.idle.empty s.size (s.links k) (at.stand.links k (loaded row link) there))
 
-    sunk : (s : Scene) → IsAt (StandsAs stage) (laid k row link web) s
-        → Done (StandsAs stage) s.count (Takes (last (plan_of s))) web s
+    sunk : (s : Scene) → IsAt stage (laid k row link web) s
+        → Done stage s.count (Takes (last (plan_of s))) web s
     sunk s at =
         let st = at.stand in
         let at_last = last_is s st.count in
-        subst (λ i. Done (StandsAs stage) s.count (Takes i) web s) at_last
-        (done_by (StandsAs stage) s.count (Takes k) (laid k row link web) web s st web.nodes.items
+        subst (λ i. Done stage s.count (Takes i) web s) at_last
+        (done_by stage s.count (Takes k) (laid k row link web) web s st web.nodes.items
         (slice_set (laid k row link web).links.items k link) refl (length-set (laid k row link web).links.items k link)
-        (did_sink s k (StandsAs stage) web.nodes.items (laid k row link web).links.items st.nodes st.links st.count
+        (did_sink s k stage web.nodes.items (laid k row link web).links.items st.nodes st.links st.count
         (loaded row link) link there (goes_unloaded row link m.handing.idle.idle.empty) at.reached.ok at_last)
         refl (set_back web.links.items k (loaded row link) link its))
 
-    pub handed_sink : {broken : W → Bool} {calls : W → ℕ} {new : Net S R W} {b : Bool}
-        → HasSent contents broken calls row (record mid { turns = mid.turns + 1 }) new b
-        → HasHanded (StandsAs stage) remaining failed contents flushed broken k (k + 1) old new b
-    handed_sink {broken} {calls} {new} {b} told =
-        let sent : HasSent contents broken calls row (record old { web = web; turns = (old.turns + 1) + 1 }) new b =
-        subst (λ n. HasSent contents broken calls row (record n { turns = n.turns + 1 }) new b) f.net told in
+    pub handed_sink : {new : Net S R W} {b : Bool}
+        → HasSent writer row (record mid { turns = mid.turns + 1 }) new b
+        → HasHanded stage reader writer k (k + 1) old new b
+    handed_sink {new} {b} told =
+        let sent : HasSent writer row (record old { web = web; turns = (old.turns + 1) + 1 }) new b =
+        subst (λ n. HasSent writer row (record n { turns = n.turns + 1 }) new b) f.net told in
         let net = sent_net (hand_unfailed m) sent in
         record {
-          both = subst (λ n. HasHandedOn (StandsAs stage) remaining contents flushed k (k + 1) old n b) (sym net) (record {
+          both = subst (λ n. HasHandedOn stage reader writer k (k + 1) old n b) (sym net) (record {
             between = between;
             given = given;
             taken = record {
               ready = sink_ready (next ∙ sym many) (λ s at heard. rw (heard, waits s at) refl) refl;
-              turned = sink_turned {calls = λ r. 0} {failed = λ r. false} (failed_so b) (next ∙ sym many)
-                  (λ s w. sent_record (flushed new.sink) b sent (sunk s w.at) (ap next_of (sym (waits s w.at)))
+              turned = sink_turned (failed_so b) (next ∙ sym many)
+                  (λ s w. sent_record (writer.flushed new.sink) b sent (sunk s w.at) (ap next_of (sym (waits s w.at)))
                   (not_heard (s.links (last (plan_of s))) w.some))
                   (λ i. shows_alike web.nodes.items web.nodes.items i refl);
               changes = λ s actor. inl (sink_touches s (k + 1) k (next ∙ sym many ∙ actor.at.stand.count)
@@ -296,7 +295,7 @@ module _ {S R W : Type 0} {stage : S → Moment → Type 0} {remaining : R → O
           });
           marks = record {
             reads = λ i. rw (ap (λ n. is_read_of i n.failure) net ∙ unread_so b i, or-false)
-                (ap (λ n. failed_at failed i n.web.nodes.items) net ∙ marks_kept failed k old.web web f.others f.marks i);
+                (ap (λ n. failed_at reader i n.web.nodes.items) net ∙ marks_kept reader k old.web web f.others f.marks i);
             writes = sent_marked (hand_unfailed m) sent;
             takers = ap (λ n. n.takers) net;
           };
@@ -304,7 +303,7 @@ module _ {S R W : Type 0} {stage : S → Moment → Type 0} {remaining : R → O
         }
 
     -- It isn't ready then.
-    pub sink_idle : {new : Net S R W} → new.web ≡ web → AtEach (StandsAs stage) contents flushed new
+    pub sink_idle : {new : Net S R W} → new.web ≡ web → AtEach stage writer new
         (λ start s now. result (plan_of s) now ≡ None → is_ready (plan_of s) s.size now (k + 1) ≡ false)
     sink_idle {new = new} alike = sink_ready {net = new} (next ∙ sym many ∙ ap (λ w. length w.nodes.items) (sym alike)) (λ s at heard.
         let st = (rw alike at at).stand in
@@ -313,14 +312,13 @@ module _ {S R W : Type 0} {stage : S → Moment → Type 0} {remaining : R → O
         (rw (sym p.waiting ∙ m.handing.idle.idle.empty, sym p.mark ∙ m.handing.idle.idle.unset, and-false) refl)) refl
 
 -- What has come of its turn, by what that tells.
-module _ {S R W : Type 0} {stage : S → Moment → Type 0} {contents : W → Option (List ℕ)} {flushed : W → Bool}
-    (broken : W → Bool) {k : ℕ} {old : Net S R W} (m : MayHand (StandsAs stage) contents flushed k old)
-    {remaining : R → Option (List ℕ)} {calls : R → ℕ} {failed : R → Bool} {web : Web S R}
-    {told : Result (Option Row) ReadError} (h : HasFetched (StandsAs stage) remaining calls failed k old.web web told) where
+module _ {S R W : Type 0} {stage : Stage S} {writer : Sink W} {k : ℕ} {old : Net S R W} (m : MayHand stage writer k old)
+    {reader : Source R} {web : Web S R}
+    {told : Result (Option Row) ReadError} (h : HasFetched stage reader k old.web web told) where
   -- no record
-  pub gone_alone : {new : Net S R W} → OnOk told (Fed (StandsAs stage) remaining k old.web web)
+  pub gone_alone : {new : Net S R W} → OnOk told (Fed stage reader k old.web web)
       → new ≡ record old { web = web; turns = old.turns + 1; failure = fault_of k told }
-      → HasGoneAlone (StandsAs stage) remaining failed contents flushed broken k old new
+      → HasGoneAlone stage reader writer k old new
   gone_alone fed net = record {
     moved = rw net (record {
       ready = λ start s now n none.
@@ -334,8 +332,8 @@ module _ {S R W : Type 0} {stage : S → Moment → Type 0} {contents : W → Op
 
   -- a record, or none
   pub fetched_by : (given : Option Row) → told ≡ Ok given → let new = record old { web = web; turns = old.turns + 1 } in
-      MatchOption given (HasGoneAlone (StandsAs stage) remaining failed contents flushed broken k old new)
-      (HasInHand (StandsAs stage) remaining failed k old new)
+      MatchOption given (HasGoneAlone stage reader writer k old new)
+      (HasInHand stage reader k old new)
   fetched_by None is = gone_alone (rw is (rw is at h.turned)) (rw is (still_on m))
   fetched_by (Some row) is = record {
     net = refl;

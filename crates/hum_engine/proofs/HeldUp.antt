@@ -5,7 +5,9 @@ use Rattle.std.proofs.Common.{subst, arith, ⊎_elim, is_none, nat_lt, length, l
 use Rattle.std.proofs.Common.{lt-ltb, if◌then◌else◌}
 use Rattle.std.proofs.lemmas.Bool.{false≢true, cases_Bool, cases_eq, cases_lt, cond-true, cond-false}
 use Rattle.std.proofs.Math.Path.{fun_ext}
+use Rattle.hum_text.specs.declared.calls.Sink.{Ghosts as Sink}
 use Rattle.hum_record.specs.Row.{Row}
+use Rattle.hum_stage.specs.declared.contract.Stage.{Ghosts as Stage}
 use Rattle.hum_turns.specs.Flow.{Flow}
 use Rattle.hum_turns.specs.Plan.{Plan, IsPlan}
 use Rattle.hum_turns.specs.Links.{Moment, view, has_room, has_some, inputs}
@@ -18,7 +20,7 @@ use Rattle.hum_turns.proofs.Near.{step_touches}
 use Rattle.hum_nodes.specs.declared.node.Readiness.TheVariants as kinds
 use Rattle.hum_nodes.specs.Doing.{Doing}
 use Rattle.hum_nodes.specs.Doing as does
-use Rattle.hum_nodes.specs.Nodes.{StandsAs, readiness_at, is_source as reads_node}
+use Rattle.hum_nodes.specs.Nodes.{readiness_at, is_source as reads_node}
 use Rattle.hum_nodes.proofs.Standing.{source_bytes}
 use Rattle.hum_stage.specs.Meaning as stage
 use Rattle.hum_engine.proofs.Doings.{gives_of}
@@ -171,26 +173,26 @@ gives_by : (b : Bool) (d : Doing) → readiness_at b d ≡ kinds.Gives → b ≡
 gives_by b d is other = gives_of d (subst (λ x. readiness_at x d ≡ kinds.Gives) other is)
 
 -- So many records wait there in a net.
-pub crowded_by : {S R W : Type 0} {stands : S → stage.Moment → Type 0} {contents : W → Option (List ℕ)} {flushed : W → Bool}
+pub crowded_by : {S R W : Type 0} {stage : Stage S} {writer : Sink W}
     {k : ℕ} {net : Net S R W} {start : Option (List ℕ)} {s : Scene} {now : Now Row}
-    → NetAt (StandsAs stands) contents flushed start s net now → result (plan_of s) now ≡ None → k ≤ s.count
+    → NetAt stage writer start s net now → result (plan_of s) now ≡ None → k ≤ s.count
     → IsCrowded k net.web → 1 < length (now.links k).waiting
-crowded_by {stands = stands} {contents} {flushed} {k} {net} {start} {s} {now} h none within c =
-    let st = h.going (unfailed_now (StandsAs stands) contents flushed start s net now k h none) in
+crowded_by {stage = stage} {writer} {k} {net} {start} {s} {now} h none within c =
+    let st = h.going (unfailed_now stage writer start s net now k h none) in
     omega (arith, c.more, ap length (st.links k c.link c.its).waiting)
 
 -- The actor of a net that a turn has left so, while the run goes on.
-pub held_by : {S R W : Type 0} {stands : S → stage.Moment → Type 0} {contents : W → Option (List ℕ)} {flushed : W → Bool}
+pub held_by : {S R W : Type 0} {stage : Stage S} {writer : Sink W}
     {k : ℕ} {net : Net S R W} {start : Option (List ℕ)} {s : Scene} {now : Now Row}
-    → NetAt (StandsAs stands) contents flushed start s net now → result (plan_of s) now ≡ None → k ≤ s.count
+    → NetAt stage writer start s net now → result (plan_of s) now ≡ None → k ≤ s.count
     → IsFull k net.web → IsHeldUp s now.links k
-held_by {S} {R} {W} {stands} {contents} {flushed} {k} {net} {start} {s} {now} h none within f =
-    let st = h.going (unfailed_now (StandsAs stands) contents flushed start s net now k h none) in
+held_by {S} {R} {W} {stage} {writer} {k} {net} {start} {s} {now} h none within f =
+    let st = h.going (unfailed_now stage writer start s net now k h none) in
     let less : k < s.count = omega (arith, slice_get_within net.web.nodes.items k f.node f.is, st.count) in
     let node = st.nodes k f.node f.is in
     let link = st.links k f.link f.its in
     let reads : reads_node f.node ≡ true → is_source (plan_of s) k ≡ true =
-    λ src. source_is (plan_of s) k less (source_bytes stands f.node _ _ src node) in
+    λ src. source_is (plan_of s) k less (source_bytes stage.stands f.node _ _ src node) in
     record {
       gives = ⊎_elim
           (λ src. inl (reads src))

@@ -36,8 +36,7 @@ last_by (b ∷ bs) (suc k) h above =
     ∙ sym (cond-true _ _ _ (some_at bs k h))
 
 -- Who is ready, and nobody nearer to the side, is furthest to it.
-module _ (s : Scene) (now : Now Row) {k : ℕ} (within : k ≤ s.count)
-    (is : is_ready (plan_of s) s.size now k ≡ true) where
+module _ (s : Scene) (now : Now Row) {k : ℕ} (within : k ≤ s.count) (is : is_ready (plan_of s) s.size now k ≡ true) where
   here : get_or (ready_list (plan_of s) s.size now) k false ≡ true
   here = entry (is_ready (plan_of s) s.size now) (s.count + 1) k (omega (arith, within)) ∙ is
 

@@ -8,11 +8,14 @@ use Rattle.std.proofs.Math.Path.{fun_ext}
 use Rattle.circular_buffer.proofs.Places.{slice_get-set_same, slice_get-set_other}
 use Rattle.hum_record.specs.Row.{Row}
 use Rattle.hum_stage.specs.declared.faults.End.{End}
+use Rattle.hum_stage.specs.declared.contract.Stage.{Ghosts as Stage}
 use Rattle.hum_turns.specs.Flow.{Flow}
 use Rattle.hum_turns.specs.Plan.{end_of}
 use Rattle.hum_turns.specs.Links.{Link, Moment, given, view, settled}
 use Rattle.hum_turns.specs.Turns.{State, Gives, Ends, Does, Becomes, pushed, marked}
 use Rattle.hum_nodes.specs.At.{Kind, At, after_take, read_to}
+use Rattle.hum_nodes.specs.Nodes.{StandsAs}
+use Rattle.hum_nodes.specs.declared.node.Node.{Node}
 use Rattle.hum_engine.specs.declared.link.Link as port
 use Rattle.hum_engine.specs.Links.{IsLink}
 use Rattle.hum_engine.specs.Scene.{Scene, plan_of, moved, at_of, NodesStand, LinksStand}
@@ -93,23 +96,23 @@ pub at_here : (kinds : ℕ → Kind) (l : Link Row) (old new : Moment Row) (k : 
     → at_of kinds new k ≡ at_with (kinds k) (ins_of kinds old k) l.read (length (given l))
 at_here kinds l old new k d v = rw (ins_same kinds l old new k d v k, d.here)
 
-module _ {N : Type 0} (stands : N → List ℕ → At → Type 0) (s : Scene) where
+module _ {S R : Type 0} (stage : Stage S) (s : Scene) where
   -- each node but one
-  abbrev pub OthersStand : ℕ → Moment Row → List N → Type 0
+  abbrev pub OthersStand : ℕ → Moment Row → List (Node S R) → Type 0
   OthersStand k m nodes =
-      (i : ℕ) (y : N) → i ≢ k → slice_get nodes i ≡ Some y → stands y (s.rests i) (at_of s.kinds m i)
+      (i : ℕ) (y : Node S R) → i ≢ k → slice_get nodes i ≡ Some y → StandsAs stage.stands y (s.rests i) (at_of s.kinds m i)
 
-  pub nodes_set : (m : Moment Row) (nodes : List N) (k : ℕ) (node : N) → OthersStand k m nodes
-      → stands node (s.rests k) (at_of s.kinds m k)
-      → NodesStand stands (moved s m) (slice_set nodes k node)
+  pub nodes_set : (m : Moment Row) (nodes : List (Node S R)) (k : ℕ) (node : Node S R) → OthersStand k m nodes
+      → StandsAs stage.stands node (s.rests k) (at_of s.kinds m k)
+      → NodesStand stage (moved s m) (slice_set nodes k node)
   nodes_set m nodes k node h n i x at =
       elim (set_cases nodes k node i x at) [ inl here ↦ rw (here.0, sym here.1) n | inr there ↦ h i x there.0 there.1 ]
 
-  pub others_kept : (l : Link Row) (old new : Moment Row) (nodes : List N) (k : ℕ)
+  pub others_kept : (l : Link Row) (old new : Moment Row) (nodes : List (Node S R)) (k : ℕ)
       → Becomes k l old new → view l ≡ view (old k)
       → OthersStand k old nodes → OthersStand k new nodes
   others_kept l old new nodes k d v h i x o at =
-      subst (stands x (s.rests i)) (sym (at_same s.kinds old new i (ins_same s.kinds l old new k d v i)
+      subst (StandsAs stage.stands x (s.rests i)) (sym (at_same s.kinds old new i (ins_same s.kinds l old new k d v i)
       (ap (λ (l : Link Row). l.read) (d.elsewhere i o)) (ap given (d.elsewhere i o)))) (h i x o at)
 
 pub links_set : (size : ℕ) (l : Link Row) (old new : Moment Row) (links : List port.Link) (k : ℕ)
@@ -135,40 +138,39 @@ links_read size old new links k n h d i x at =
     }
 
 -- What is so after an actor has done this.
-pub record Did {N : Type 0} (stands : N → List ℕ → At → Type 0) (s : Scene) (k : ℕ) (doing : State)
-    (m : Moment Row) (nodes : List N) (links : List port.Link) : Type 0 where
+pub record Did {S R : Type 0} (stage : Stage S) (s : Scene) (k : ℕ) (doing : State)
+    (m : Moment Row) (nodes : List (Node S R)) (links : List port.Link) : Type 0 where
   pub new : Moment Row
   pub does : Does (plan_of s) k doing m new
-  pub at_nodes : NodesStand stands (moved s new) nodes
+  pub at_nodes : NodesStand stage (moved s new) nodes
   pub at_links : LinksStand s.size new links
 
-module _ {N : Type 0} (stands : N → List ℕ → At → Type 0) (s : Scene) (k : ℕ) (m : Moment Row)
-    (nodes : List N) (links : List port.Link) (others : OthersStand stands s k m nodes)
-    (hl : LinksStand s.size m links) where
+module _ {S R : Type 0} (stage : Stage S) (s : Scene) (k : ℕ) (m : Moment Row) (nodes : List (Node S R))
+    (links : List port.Link) (others : OthersStand stage s k m nodes) (hl : LinksStand s.size m links) where
   -- its link has become this, and shows its reader the same
-  changed : (l : Link Row) → view l ≡ view (m k) → (node : N) (after : port.Link)
-      → stands node (s.rests k) (at_with (s.kinds k) (ins_of s.kinds m k) l.read (length (given l))) → IsLink s.size after l
-      → NodesStand stands (moved s (put_at m k l)) (slice_set nodes k node)
+  changed : (l : Link Row) → view l ≡ view (m k) → (node : Node S R) (after : port.Link)
+      → StandsAs stage.stands node (s.rests k) (at_with (s.kinds k) (ins_of s.kinds m k) l.read (length (given l))) → IsLink s.size after l
+      → NodesStand stage (moved s (put_at m k l)) (slice_set nodes k node)
       × LinksStand s.size (put_at m k l) (slice_set links k after)
   changed l v node after n p =
       let new = put_at m k l in
       let d = put_becomes m k l in (
-        nodes_set stands s new nodes k node (others_kept stands s l m new nodes k d v others)
-            (subst (stands node (s.rests k)) (sym (at_here s.kinds l m new k d v)) n),
+        nodes_set stage s new nodes k node (others_kept stage s l m new nodes k d v others)
+            (subst (StandsAs stage.stands node (s.rests k)) (sym (at_here s.kinds l m new k d v)) n),
         links_set s.size l m new links k after hl p d,
       )
 
   -- what the node gave goes onto its link
-  pub did_give : (node : N) (after : port.Link) (x : Row)
+  pub did_give : (node : Node S R) (after : port.Link) (x : Row)
       → slice_get (settled (plan_of s) m k) (length (given (m k))) ≡ Some x
-      → stands node (s.rests k) (after_take (at_of s.kinds m k))
+      → StandsAs stage.stands node (s.rests k) (after_take (at_of s.kinds m k))
       → IsLink s.size after (pushed (m k) x)
-      → Did stands s k Gives m (slice_set nodes k node) (slice_set links k after)
+      → Did stage s k Gives m (slice_set nodes k node) (slice_set links k after)
   did_give node after x next n p =
       let longer : length (given (pushed (m k) x)) ≡ length (given (m k)) + 1 =
       ap length (sym (append_assoc (m k).taken (m k).waiting (x ∷ []))) ∙ length-append (given (m k)) (x ∷ []) in
       let c = changed (pushed (m k) x) refl node after
-      (subst (λ g. stands node (s.rests k) (at_with (s.kinds k) (ins_of s.kinds m k) (m k).read g)) (sym longer) n) p in
+      (subst (λ g. StandsAs stage.stands node (s.rests k) (at_with (s.kinds k) (ins_of s.kinds m k) (m k).read g)) (sym longer) n) p in
       record {
         new = put_at m k (pushed (m k) x);
         does = record { next = x; is_next = next; becomes = put_becomes m k (pushed (m k) x) };
@@ -177,11 +179,11 @@ module _ {N : Type 0} (stands : N → List ℕ → At → Type 0) (s : Scene) (k
       }
 
   -- the node sets its end
-  pub did_end : (node : N) (after : port.Link) (e : End)
+  pub did_end : (node : Node S R) (after : port.Link) (e : End)
       → e ≡ end_of (s.kinds k).stage (m k).read (ins_of s.kinds m k)
-      → stands node (s.rests k) (at_of s.kinds m k)
+      → StandsAs stage.stands node (s.rests k) (at_of s.kinds m k)
       → IsLink s.size after (record (m k) { mark = Some e })
-      → Did stands s k Ends m (slice_set nodes k node) (slice_set links k after)
+      → Did stage s k Ends m (slice_set nodes k node) (slice_set links k after)
   did_end node after e is n p =
       let l : Link Row = marked (plan_of s) m k in
       let c = changed l refl node after n (subst (λ f. IsLink s.size after (record (m k) { mark = Some f })) is p) in
@@ -192,7 +194,7 @@ module _ {N : Type 0} (stands : N → List ℕ → At → Type 0) (s : Scene) (k
     pub mid : Moment Row
     pub becomes : Becomes k (record (m k) { read = n }) m mid
     pub at : at_of s.kinds mid k ≡ read_to n (at_of s.kinds m k)
-    pub near : OthersStand stands s k mid nodes
+    pub near : OthersStand stage s k mid nodes
     pub at_links : LinksStand s.size mid links
 
   pub has_read : (n : ℕ) → ReadTo n
@@ -204,6 +206,6 @@ module _ {N : Type 0} (stands : N → List ℕ → At → Type 0) (s : Scene) (k
         mid = mid;
         becomes = d;
         at = at_here s.kinds l m mid k d refl;
-        near = others_kept stands s l m mid nodes k d refl others;
+        near = others_kept stage s l m mid nodes k d refl others;
         at_links = links_read s.size m mid links k n hl d;
       }

@@ -8,9 +8,11 @@ use Rattle.std.proofs.lemmas.Option.{none-some}
 use Rattle.std.proofs.Math.Path.{fun_ext}
 use Rattle.std.specs.Io.KnownBytes.{Appends}
 use Rattle.std.specs.Prelude.{is_some}
+use Rattle.hum_text.specs.declared.calls.Source.{Ghosts as Source}
+use Rattle.hum_text.specs.declared.calls.Sink.{Ghosts as Sink}
 use Rattle.hum_record.specs.Row.{Row, text_of}
-use Rattle.hum_stage.specs.Meaning.{Moment as StageMoment}
 use Rattle.hum_stage.specs.declared.faults.End.{End}
+use Rattle.hum_stage.specs.declared.contract.Stage.{Ghosts as Stage}
 use Rattle.hum_turns.specs.declared.result.RunResult.{RunResult}
 use Rattle.hum_turns.specs.Plan.{last}
 use Rattle.hum_turns.specs.Links.{Moment}
@@ -22,13 +24,13 @@ use Rattle.hum_turns.proofs.Near.{step_taken, step_heard, step_does, ready_sink}
 use Rattle.hum_turns.proofs.States.{sink_state, last_less, source_is}
 use Rattle.hum_nodes.specs.At.{At}
 use Rattle.hum_nodes.specs.declared.node.Node.{Node}
-use Rattle.hum_nodes.specs.Nodes.{StandsAs, ended_of}
+use Rattle.hum_nodes.specs.Nodes.{ended_of}
 use Rattle.hum_nodes.specs.Polls.{HasRead, HasStayed}
 use Rattle.hum_nodes.proofs.Followed.{read_once, read_none, read_stayed}
 use Rattle.hum_nodes.proofs.Standing.{source_bytes}
 use Rattle.hum_engine.specs.declared.web.Web.{Web}
 use Rattle.hum_engine.specs.declared.net.Net.{Net}
-use Rattle.hum_engine.specs.Readers.{ShowsSame, remaining_at, ended_at, or_none}
+use Rattle.hum_engine.specs.Readers.{ShowsSame, remaining_at, ended_at, or_none, HasReadNone}
 use Rattle.hum_engine.specs.Scene.{Scene, plan_of, moved, before, before_all, only, at_of, Stands, IsAt}
 use Rattle.hum_engine.specs.Scene.{MayTurn, IsActor, IsKind, KeepsOthers, Fed}
 use Rattle.hum_engine.specs.Nets.{NetAt, GoesTo, HasTurned, SinkWent, MayWrite}
@@ -36,11 +38,11 @@ use Rattle.hum_engine.proofs.Appending.{appends_none, appends_trans}
 use Rattle.hum_engine.proofs.Feeding.{link_of, node_of}
 use Rattle.hum_engine.proofs.Showing.{shows_read}
 
-pub source_here : {S R : Type 0} (stage : S → StageMoment → Type 0) (k : ℕ) (web : Web S R) (s : Scene)
-    → IsAt (StandsAs stage) web s → k < s.count → IsKind true k web → is_source (plan_of s) k ≡ true
+pub source_here : {S R : Type 0} (stage : Stage S) (k : ℕ) (web : Web S R) (s : Scene)
+    → IsAt stage web s → k < s.count → IsKind true k web → is_source (plan_of s) k ≡ true
 source_here stage k web s at less kind =
-    let node = node_of (StandsAs stage) k web s less at.stand in
-    source_is (plan_of s) k less (source_bytes stage node.0 (s.rests k) (at_of s.kinds s.links k) (kind node.0 node.1)
+    let node = node_of stage k web s less at.stand in
+    source_is (plan_of s) k less (source_bytes stage.stands node.0 (s.rests k) (at_of s.kinds s.links k) (kind node.0 node.1)
     (at.stand.nodes k node.0 node.1))
 
 -- What a result tells that isn't there.
@@ -48,11 +50,10 @@ source_here stage k web s at less kind =
 pub none_by : {A : Type 0} (o : Option A) → is_none o ≡ true → o ≡ None
 none_by o e = grind (arith, e)
 
-module _ {S R W : Type 0} {stands : Node S R → List ℕ → At → Type 0} {contents : W → Option (List ℕ)} {flushed : W → Bool}
-    {start : Option (List ℕ)} {s : Scene} {net : Net S R W} {now : Now Row}
-    (h : NetAt stands contents flushed start s net now) where
+module _ {S R W : Type 0} {stage : Stage S} {writer : Sink W} {start : Option (List ℕ)} {s : Scene} {net : Net S R W}
+    {now : Now Row} (h : NetAt stage writer start s net now) where
   -- While no failure has ended the run, as the web sees it.
-  pub web_at : now.failure ≡ None → IsAt stands net.web (moved s now.links)
+  pub web_at : now.failure ≡ None → IsAt stage net.web (moved s now.links)
   web_at none = record {
     reached = record {
       ok = h.plan.ok;
@@ -74,7 +75,7 @@ module _ {S R W : Type 0} {stands : Node S R → List ℕ → At → Type 0} {co
     pub unheard_at : (now.links (last (plan_of s))).heard ≡ None
     unheard_at = grind (arith, none)
 
-    pub at_now : IsAt stands net.web (moved s now.links)
+    pub at_now : IsAt stage net.web (moved s now.links)
     at_now = web_at unfailed_at
 
     pub ready_at : (k : ℕ) {b : Bool} → b ≡ ready (plan_of s) s.size now.links k → b ≡ is_ready (plan_of s) s.size now k
@@ -89,27 +90,26 @@ module _ {S R W : Type 0} {stands : Node S R → List ℕ → At → Type 0} {co
     ready_now = (and_parts _ _ r).1
 
     -- the sink
-    pub may_write : s.count ≤ k → MayWrite stands net.web (moved s now.links)
+    pub may_write : s.count ≤ k → MayWrite stage net.web (moved s now.links)
     may_write past = record {
       at = at_now ready_result;
       some = sym (ready_sink (plan_of s) s.size k now.links past) ∙ ready_now;
     }
 
 -- The same with all arguments.
-module _ {S R W : Type 0} (stands : Node S R → List ℕ → At → Type 0)
-    (contents : W → Option (List ℕ)) (flushed : W → Bool) (start : Option (List ℕ)) (s : Scene)
-    (net : Net S R W) (now : Now Row) (k : ℕ) (h : NetAt stands contents flushed start s net now) where
-  pub is_at : is_ready (plan_of s) s.size now k ≡ true → IsAt stands net.web (moved s now.links)
+module _ {S R W : Type 0} (stage : Stage S) (writer : Sink W) (start : Option (List ℕ)) (s : Scene) (net : Net S R W)
+    (now : Now Row) (k : ℕ) (h : NetAt stage writer start s net now) where
+  pub is_at : is_ready (plan_of s) s.size now k ≡ true → IsAt stage net.web (moved s now.links)
   is_at r = at_now h (ready_result h k r)
 
   pub unfailed_now : result (plan_of s) now ≡ None → now.failure ≡ None
   unfailed_now none = unfailed_at h none
 
-  pub actor_now : result (plan_of s) now ≡ None → k ≤ s.count → IsActor stands k net.web (moved s now.links)
+  pub actor_now : result (plan_of s) now ≡ None → k ≤ s.count → IsActor stage k net.web (moved s now.links)
   actor_now none within = record { at = at_now h none; within = within }
 
   pub ready_by : (b : Bool) → result (plan_of s) now ≡ None → k ≤ s.count
-      → ((t : Scene) → IsActor stands k net.web t → b ≡ ready (plan_of t) t.size t.links k)
+      → ((t : Scene) → IsActor stage k net.web t → b ≡ ready (plan_of t) t.size t.links k)
       → b ≡ is_ready (plan_of s) s.size now k
   ready_by b none within tells = ready_at h none k (tells (moved s now.links) (actor_now none within))
 
@@ -127,31 +127,30 @@ only_none k i = grind arith
 only_before : (b : Bool) (read rest : List ℕ) → (if b then read else []) ++ rest ≡ (if b then read ++ rest else rest)
 only_before b read rest = grind arith
 
-nothing_more : {S R : Type 0} {stands : Node S R → List ℕ → At → Type 0} (k : ℕ) {web : Web S R} (s : Scene) (m : Moment Row)
-    → Stands stands web (moved (before_all (only k []) s) m) → Stands stands web (moved s m)
-nothing_more {stands = stands} k {web} s m = subst (λ (f : ℕ → List ℕ). Stands stands web (record (moved s m) { rests = f }))
+nothing_more : {S R : Type 0} {stage : Stage S} (k : ℕ) {web : Web S R} (s : Scene) (m : Moment Row)
+    → Stands stage web (moved (before_all (only k []) s) m) → Stands stage web (moved s m)
+nothing_more {stage = stage} k {web} s m = subst (λ (f : ℕ → List ℕ). Stands stage web (record (moved s m) { rests = f }))
     (fun_ext (λ i. ap (λ l. l ++ s.rests i) (only_none k i)))
 
 -- A turn of an actor, once its source has had these bytes.
-module _ {S R W : Type 0} {stands : Node S R → List ℕ → At → Type 0} {contents : W → Option (List ℕ)} {flushed : W → Bool}
-    {start : Option (List ℕ)} (s : Scene) {old : Net S R W} {now : Now Row} (k : ℕ) (read : List ℕ)
-    (h : NetAt stands contents flushed start (before_all (only k read) s) old now)
+module _ {S R W : Type 0} {stage : Stage S} {writer : Sink W} {start : Option (List ℕ)} (s : Scene) {old : Net S R W}
+    {now : Now Row} (k : ℕ) (read : List ℕ) (h : NetAt stage writer start (before_all (only k read) s) old now)
     (r : is_ready (plan_of s) s.size now k ≡ true) (web : Web S R) (sink : W) where
   -- seen as the web sees it
-  may_before : k < s.count → MayTurn stands k old.web (before read k (moved s now.links))
+  may_before : k < s.count → MayTurn stage k old.web (before read k (moved s now.links))
   may_before less =
-      subst (λ (f : ℕ → List ℕ). MayTurn stands k old.web (record (moved s now.links) { rests = f }))
+      subst (λ (f : ℕ → List ℕ). MayTurn stage k old.web (record (moved s now.links) { rests = f }))
       (fun_ext (λ i. only_before (nat_eq i k) read (s.rests i)))
       (record { at = at_now h (ready_result h k r); less = less; ready = ready_now h k r })
 
   -- one turn more
   turned_to : (to : Now Row) (sent : List ℕ) {is_over : Bool}
       → Moves (plan_of s) s.size k now to ⊎ Fails (plan_of s) text_of k now to
-      → (to.failure ≡ None → Stands stands web (moved s to.links)) → Appends (contents old.sink) (contents sink) sent
+      → (to.failure ≡ None → Stands stage web (moved s to.links)) → Appends (writer.contents old.sink) (writer.contents sink) sent
       → written (plan_of s) text_of to ≡ text text_of (now.links (last (plan_of s))).taken ++ sent
-      → ((e : End) → to.failure ≡ None → (to.links (last (plan_of s))).heard ≡ Some e → flushed sink ≡ true)
+      → ((e : End) → to.failure ≡ None → (to.links (last (plan_of s))).heard ≡ Some e → writer.flushed sink ≡ true)
       → is_over ≡ is_some (result (plan_of s) to)
-      → GoesTo stands contents flushed start s k now
+      → GoesTo stage writer start s k now
       (record old { web = web; sink = sink; turns = old.turns + 1; failure = to.failure }) is_over
   turned_to to sent turns going appends sum over tells =
       let was : List ℕ = text text_of (now.links (last (plan_of s))).taken in
@@ -171,9 +170,9 @@ module _ {S R W : Type 0} {stands : Node S R → List ℕ → At → Type 0} {co
           takers = h.takers;
           going = going;
           failure = refl;
-          written = subst (Appends start (contents sink))
+          written = subst (Appends start (writer.contents sink))
               (ap (λ p. (was ++ p) ++ sent) part ∙ ap (λ l. l ++ sent) (append-nil was) ∙ sym sum)
-              (appends_trans start (contents old.sink) (contents sink) (was ++ now.part) sent h.written appends);
+              (appends_trans start (writer.contents old.sink) (writer.contents sink) (was ++ now.part) sent h.written appends);
           is_flushed = over;
         };
         tells = tells;
@@ -181,12 +180,12 @@ module _ {S R W : Type 0} {stands : Node S R → List ℕ → At → Type 0} {co
 
   -- which moves
   goes : (to : Moment Row) (sent : List ℕ) {is_over : Bool}
-      → Step (plan_of s) s.size k now.links to → Stands stands web (moved s to)
-      → Appends (contents old.sink) (contents sink) sent
+      → Step (plan_of s) s.size k now.links to → Stands stage web (moved s to)
+      → Appends (writer.contents old.sink) (writer.contents sink) sent
       → text text_of (to (last (plan_of s))).taken ≡ text text_of (now.links (last (plan_of s))).taken ++ sent
-      → ((e : End) → (to (last (plan_of s))).heard ≡ Some e → flushed sink ≡ true)
+      → ((e : End) → (to (last (plan_of s))).heard ≡ Some e → writer.flushed sink ≡ true)
       → is_over ≡ is_some (to (last (plan_of s))).heard
-      → GoesTo stands contents flushed start s k now
+      → GoesTo stage writer start s k now
       (record old { web = web; sink = sink; turns = old.turns + 1; failure = None }) is_over
   goes to sent step stand appends taken over tells = turned_to (record { links = to; part = []; failure = None }) sent
       (inl (record { step = step; part = refl; failure = refl })) (λ e. stand) appends (append-nil _ ∙ taken) (λ e none. over e)
@@ -194,44 +193,39 @@ module _ {S R W : Type 0} {stands : Node S R → List ℕ → At → Type 0} {co
 
   -- or fails
   fails : (by : RunResult) (part : List ℕ) → k ≤ s.count → MayFail (plan_of s) k text_of now.links by part
-      → Appends (contents old.sink) (contents sink) part
-      → GoesTo stands contents flushed start s k now
+      → Appends (writer.contents old.sink) (writer.contents sink) part
+      → GoesTo stage writer start s k now
       (record old { web = web; sink = sink; turns = old.turns + 1; failure = Some by }) true
   fails by part within may appends = turned_to (record { links = now.links; part = part; failure = Some by }) part
       (inr (record { within = within; links = λ i. refl; by = by; failure = refl; may = may }))
       (λ e. absurd (none-some by (sym e))) appends refl (λ e none. absurd (none-some by (sym none))) refl
 
 -- What each source has read, where none but k did.
-module _ {S R : Type 0} (tells : R → Option (List ℕ)) (k : ℕ) (old new : Web S R) (others : KeepsOthers k old new)
-    (read : List ℕ)
-    (here : HasRead (ended_at k old.nodes.items) (ended_at k new.nodes.items) (remaining_at tells k old.nodes.items)
-    (remaining_at tells k new.nodes.items) read) where
-  read_by : (i : ℕ) → HasRead (ended_at i old.nodes.items) (ended_at i new.nodes.items) (remaining_at tells i old.nodes.items)
-      (remaining_at tells i new.nodes.items) (only k read i)
+module _ {S R : Type 0} (reader : Source R) (k : ℕ) (old new : Web S R) (others : KeepsOthers k old new) (read : List ℕ)
+    (here : HasRead (ended_at k old.nodes.items) (ended_at k new.nodes.items) (remaining_at reader k old.nodes.items) (remaining_at reader k new.nodes.items) read) where
+  read_by : (i : ℕ) → HasRead (ended_at i old.nodes.items) (ended_at i new.nodes.items) (remaining_at reader i old.nodes.items)
+      (remaining_at reader i new.nodes.items) (only k read i)
   read_by i = elim (cases_eq i k) [
     | inl is ↦ rw (is, only_at k read) here
     | inr other ↦ rw (others i other, only_else k read i other) (read_none _ _)
   ]
 
 -- What a stage's turn comes to that fails or doesn't.
-abbrev pub ComesTo : {S R : Type 0} → (Node S R → List ℕ → At → Type 0) → (R → Option (List ℕ)) → ℕ → Web S R → Web S R
-    → Option RunResult → Type 0
-ComesTo stands tells k old new None = Fed stands tells k old new
-ComesTo stands tells k old new (Some by) =
-    ((s : Scene) → IsAt stands old s → k < s.count → MayFail (plan_of s) k text_of s.links by [])
-    × HasStayed (ended_at k old.nodes.items) (ended_at k new.nodes.items)
-    (remaining_at tells k old.nodes.items) (remaining_at tells k new.nodes.items)
+abbrev pub ComesTo : {S R : Type 0} → Stage S → Source R → ℕ → Web S R → Web S R → Option RunResult → Type 0
+ComesTo stage reader k old new None = Fed stage reader k old new
+ComesTo stage reader k old new (Some by) =
+    ((s : Scene) → IsAt stage old s → k < s.count → MayFail (plan_of s) k text_of s.links by [])
+    × HasReadNone reader k old.nodes.items new.nodes.items
 
-module _ {S R W : Type 0} {stands : Node S R → List ℕ → At → Type 0} {tells : R → Option (List ℕ)}
-    {contents : W → Option (List ℕ)} {flushed : W → Bool} {k : ℕ} {old : Net S R W} {web : Web S R} where
+module _ {S R W : Type 0} {stage : Stage S} {reader : Source R} {writer : Sink W} {k : ℕ} {old : Net S R W} {web : Web S R} where
   pub stage_turned : (failure : Option RunResult) → (k ≡ length old.web.nodes.items → ⊥) → KeepsOthers k old.web web
-      → ComesTo stands tells k old.web web failure
-      → HasTurned stands tells contents flushed k old (record old { web = web; turns = old.turns + 1; failure = failure })
+      → ComesTo stage reader k old.web web failure
+      → HasTurned stage reader writer k old (record old { web = web; turns = old.turns + 1; failure = failure })
       (is_some failure)
   stage_turned None other others f = record {
     reads = only k f.read;
     others = only_else k f.read;
-    read = read_by tells k old.web web others f.read (rw (f.was, f.is) (read_once _ _ _ _ f.read f.consumes f.at_end f.still));
+    read = read_by reader k old.web web others f.read (rw (f.was, f.is) (read_once _ _ _ _ f.read f.consumes f.at_end f.still));
     turns = λ start s now over h within r.
         let none = ready_result h k r in
         let less : k < s.count = omega (arith, within, (at_now h none).stand.count, other) in
@@ -240,28 +234,28 @@ module _ {S R W : Type 0} {stands : Node S R → List ℕ → At → Type 0} {te
         (may_before s k f.read h r web old.sink less) in
         let quiet : (t.new (last (plan_of s))).heard ≡ None =
         step_heard (plan_of s) h.plan.ok s.size k less now.links t.new t.step ∙ unheard_at h none in
-        goes s k f.read h r web old.sink t.new [] t.step t.stand (appends_none (contents old.sink))
+        goes s k f.read h r web old.sink t.new [] t.step t.stand (appends_none (writer.contents old.sink))
         (ap (text text_of) (step_taken (plan_of s) h.plan.ok s.size k less now.links t.new t.step) ∙ sym (append-nil _))
         (λ e heard. absurd (none-some e (sym quiet ∙ heard))) (sym (ap is_some quiet));
   }
   stage_turned (Some by) other others f = record {
     reads = only k [];
     others = only_else k [];
-    read = read_by tells k old.web web others [] (read_stayed _ _ _ _ f.1);
+    read = read_by reader k old.web web others [] (read_stayed _ _ _ _ f.1);
     turns = λ start s now over h within r.
         let at = at_now h (ready_result h k r) in
         fails s k [] h r web old.sink by [] within
         (f.0 (moved (before_all (only k []) s) now.links) at (omega (arith, within, at.stand.count, other)))
-        (appends_none (contents old.sink));
+        (appends_none (writer.contents old.sink));
   }
 
   -- and the sink's
-  pub sink_turned : {calls : R → ℕ} {failed : R → Bool} {sink : W} {is_over : Bool} (failure : Option RunResult)
+  pub sink_turned : {sink : W} {is_over : Bool} (failure : Option RunResult)
       → k ≡ length old.web.nodes.items
-      → ((s : Scene) → MayWrite stands old.web s
-      → SinkWent stands failure (contents old.sink) (contents sink) (flushed sink) is_over web s)
-      → ((i : ℕ) → ShowsSame tells calls failed old.web.nodes.items web.nodes.items i)
-      → HasTurned stands tells contents flushed k old
+      → ((s : Scene) → MayWrite stage old.web s
+      → SinkWent stage failure (writer.contents old.sink) (writer.contents sink) (writer.flushed sink) is_over web s)
+      → ((i : ℕ) → ShowsSame reader old.web.nodes.items web.nodes.items i)
+      → HasTurned stage reader writer k old
       (record old { web = web; sink = sink; turns = old.turns + 1; failure = failure }) is_over
   sink_turned {sink = sink} None here went shows = record {
     reads = only k [];
@@ -302,17 +296,14 @@ has_told None r e t f = absurd (false≢true (sym e ∙ t))
 has_told (Some x) r e t f = ap Some (sym (f x refl))
 
 -- A net tells by itself whether its run is over, whatever it stands for.
-module _ {S R W : Type 0} (stands : Node S R → List ℕ → At → Type 0)
-    (contents : W → Option (List ℕ)) (flushed : W → Bool) (net : Net S R W)
-    (start other : Option (List ℕ)) (s t : Scene) (now one : Now Row)
-    (h : NetAt stands contents flushed start s net now)
-    (i : NetAt stands contents flushed other t net one) where
+module _ {S R W : Type 0} (stage : Stage S) (writer : Sink W) (net : Net S R W) (start other : Option (List ℕ)) (s t : Scene)
+    (now one : Now Row) (h : NetAt stage writer start s net now) (i : NetAt stage writer other t net one) where
   heard_alike : net.failure ≡ None
       → (now.links (last (plan_of s))).heard ≡ (one.links (last (plan_of t))).heard
   heard_alike none =
       let a = h.going (sym h.failure ∙ none) in
       let b = i.going (sym i.failure ∙ none) in
-      let l = link_of stands (last (plan_of s)) net.web (moved s now.links) (last_less s.count h.plan.ok.some) a in
+      let l = link_of stage (last (plan_of s)) net.web (moved s now.links) (last_less s.count h.plan.ok.some) a in
       let same : last (plan_of s) ≡ last (plan_of t) = ap pred (sym a.count ∙ b.count) in
       sym (a.links (last (plan_of s)) l.0 l.1).heard
       ∙ (b.links (last (plan_of t)) l.0 (ap (slice_get net.web.links.items) (sym same) ∙ l.1)).heard

@@ -5,6 +5,7 @@ use Rattle.std.proofs.lemmas.Bool.{cond-true}
 use Rattle.std.proofs.lemmas.Option.{slice_get_within}
 use Rattle.hum_record.specs.Row.{Row}
 use Rattle.hum_stage.specs.declared.faults.End.{End}
+use Rattle.hum_stage.specs.declared.contract.Stage.{Ghosts as Stage}
 use Rattle.hum_turns.specs.Plan.{end_of}
 use Rattle.hum_turns.specs.Links.{Moment}
 use Rattle.hum_turns.specs.Turns.{State, Gives, Reads, Takes, Ends, state, ready, Step}
@@ -14,8 +15,10 @@ use Rattle.hum_turns.proofs.Near.{step_does, step_reads}
 use Rattle.hum_nodes.specs.Doing.{Doing}
 use Rattle.hum_nodes.specs.Doing as does
 use Rattle.hum_read.specs.Reading.{Polled, Gave, ReadOn, Ended}
-use Rattle.hum_nodes.specs.At.{At, doing_of, output_of, read_to}
+use Rattle.hum_nodes.specs.At.{doing_of, output_of, read_to}
 use Rattle.hum_nodes.specs.Polls.{GoesOn, PollsBy, Polls}
+use Rattle.hum_nodes.specs.Nodes.{StandsAs}
+use Rattle.hum_nodes.specs.declared.node.Node.{Node}
 use Rattle.hum_engine.specs.declared.link.Link as port
 use Rattle.hum_engine.specs.Links.{Goes}
 use Rattle.hum_engine.specs.Traffic.{ended}
@@ -57,37 +60,36 @@ links_by ReadOn links k after = links
 links_by (Ended e) links k after = slice_set links k after
 
 -- An actor has had a turn.
-pub record Turned {N : Type 0} (stands : N → List ℕ → At → Type 0) (s : Scene) (k : ℕ)
-    (nodes : List N) (links : List port.Link) : Type 0 where
+pub record Turned {S R : Type 0} (stage : Stage S) (s : Scene) (k : ℕ)
+    (nodes : List (Node S R)) (links : List port.Link) : Type 0 where
   pub new : Moment Row
   pub step : Step (plan_of s) s.size k s.links new
-  pub at_nodes : NodesStand stands (moved s new) nodes
+  pub at_nodes : NodesStand stage (moved s new) nodes
   pub at_links : LinksStand s.size new links
 
-module _ {N : Type 0} (stands : N → List ℕ → At → Type 0) (s : Scene) (k : ℕ) (nodes : List N)
-    (links : List port.Link) (less : k < s.count) (node : N) (link after : port.Link)
-    (at_link : slice_get links k ≡ Some link) where
+module _ {S R : Type 0} (stage : Stage S) (s : Scene) (k : ℕ) (nodes : List (Node S R)) (links : List port.Link)
+    (less : k < s.count) (node : Node S R) (link after : port.Link) (at_link : slice_get links k ≡ Some link) where
   -- it goes on by what has settled: the link of the source has this record more, or its end
-  moves_on : (p : Polled) (m : Moment Row) → OthersStand stands s k m nodes
+  moves_on : (p : Polled) (m : Moment Row) → OthersStand stage s k m nodes
       → LinksStand s.size m links
-      → GoesOn (at_of s.kinds m k) p (stands node (s.rests k)) → LinkGoes p link after
-      → Did stands s k (state (plan_of s) m k) m (slice_set nodes k node) (links_by p links k after)
+      → GoesOn (at_of s.kinds m k) p (StandsAs stage.stands node (s.rests k)) → LinkGoes p link after
+      → Did stage s k (state (plan_of s) m k) m (slice_set nodes k node) (links_by p links k after)
   moves_on (Gave row) m others hl h l =
       let t = at_of s.kinds m k in
       let n = slice_get_within (output_of t) t.given row h.0 in
       rw (state_gives s m k less (cond-true _ _ _ (lt-ltb _ _ n)))
-      (did_give stands s k m nodes links others hl node after row h.0 h.1 (l s.size (m k) (hl k link at_link)))
+      (did_give stage s k m nodes links others hl node after row h.0 h.1 (l s.size (m k) (hl k link at_link)))
   moves_on ReadOn m others hl h l = absurd h
   moves_on (Ended e) m others hl h l =
       rw (state_at s m k less h.0)
-      (did_end stands s k m nodes links others hl node after e (done_end s m k e h.0) h.1 (l s.size (m k) (hl k link at_link)))
+      (did_end stage s k m nodes links others hl node after e (done_end s m k e h.0) h.1 (l s.size (m k) (hl k link at_link)))
 
-  module _ (others : OthersStand stands s k s.links nodes) (hl : LinksStand s.size s.links links)
+  module _ (others : OthersStand stage s k s.links nodes) (hl : LinksStand s.size s.links links)
       (is_ready : ready (plan_of s) s.size s.links k ≡ true) where
     -- where it doesn't read
     at_once : (p : Polled) → (state (plan_of s) s.links k ≡ Reads → ⊥)
-        → GoesOn (at_of s.kinds s.links k) p (stands node (s.rests k)) → LinkGoes p link after
-        → Turned stands s k (slice_set nodes k node) (links_by p links k after)
+        → GoesOn (at_of s.kinds s.links k) p (StandsAs stage.stands node (s.rests k)) → LinkGoes p link after
+        → Turned stage s k (slice_set nodes k node) (links_by p links k after)
     at_once p other h l =
         let d = moves_on p s.links others hl h l in
         record {
@@ -101,13 +103,13 @@ module _ {N : Type 0} (stands : N → List ℕ → At → Type 0) (s : Scene) (k
     -- where it reads and goes on
     reads_on : (p : Polled) (n : ℕ) → (s.links k).read < n → n ≤ (s.kinds k).stage.bytes
         → doing_of (at_of s.kinds s.links k) ≡ does.Reads
-        → GoesOn (read_to n (at_of s.kinds s.links k)) p (stands node (s.rests k))
+        → GoesOn (read_to n (at_of s.kinds s.links k)) p (StandsAs stage.stands node (s.rests k))
         → LinkGoes p link after
-        → Turned stands s k (slice_set nodes k node) (links_by p links k after)
+        → Turned stage s k (slice_set nodes k node) (links_by p links k after)
     reads_on p n more within e h l =
-        let r = has_read stands s k s.links nodes links others hl n in
+        let r = has_read stage s k s.links nodes links others hl n in
         let d = moves_on p r.mid r.near r.at_links
-        (subst (λ t. GoesOn t p (stands node (s.rests k))) (sym r.at) h) l in
+        (subst (λ t. GoesOn t p (StandsAs stage.stands node (s.rests k))) (sym r.at) h) l in
         record {
           new = d.new;
           step = step_reads (plan_of s) s.size k s.links r.mid d.new (omega (arith, less)) is_ready
@@ -120,10 +122,10 @@ module _ {N : Type 0} (stands : N → List ℕ → At → Type 0) (s : Scene) (k
     -- where it reads and leaves the rest to the next turn
     reads_only : (n : ℕ) → (s.links k).read < n → n < (s.kinds k).stage.bytes
         → doing_of (at_of s.kinds s.links k) ≡ does.Reads
-        → stands node (s.rests k) (read_to n (at_of s.kinds s.links k))
-        → Turned stands s k (slice_set nodes k node) links
+        → StandsAs stage.stands node (s.rests k) (read_to n (at_of s.kinds s.links k))
+        → Turned stage s k (slice_set nodes k node) links
     reads_only n more less_than e h =
-        let r = has_read stands s k s.links nodes links others hl n in
+        let r = has_read stage s k s.links nodes links others hl n in
         record {
           new = r.mid;
           step = record {
@@ -135,17 +137,17 @@ module _ {N : Type 0} (stands : N → List ℕ → At → Type 0) (s : Scene) (k
               does = inl (less_than, λ i. refl);
             });
           };
-          at_nodes = nodes_set stands s r.mid nodes k node r.near (subst (stands node (s.rests k)) (sym r.at) h);
+          at_nodes = nodes_set stage s r.mid nodes k node r.near (subst (StandsAs stage.stands node (s.rests k)) (sym r.at) h);
           at_links = r.at_links;
         }
 
     by_doing : (p : Polled) (d : Doing) → doing_of (at_of s.kinds s.links k) ≡ d
-        → PollsBy d (at_of s.kinds s.links k) p (stands node (s.rests k)) → LinkGoes p link after
-        → Turned stands s k (slice_set nodes k node) (links_by p links k after)
+        → PollsBy d (at_of s.kinds s.links k) p (StandsAs stage.stands node (s.rests k)) → LinkGoes p link after
+        → Turned stage s k (slice_set nodes k node) (links_by p links k after)
     by_doing p does.Reads e h l =
         ⊎_elim
         (λ goes. reads_on p h.upto h.more h.within e goes l)
-        (λ stays. subst (λ q. Turned stands s k (slice_set nodes k node) (links_by q links k after)) (sym stays.0)
+        (λ stays. subst (λ q. Turned stage s k (slice_set nodes k node) (links_by q links k after)) (sym stays.0)
         (reads_only h.upto h.more stays.1 e stays.2))
         h.goes
     by_doing p does.Gives e h l = at_once p (λ r. let w = sym (state_at s s.links k less e) ∙ r in cc) h l
@@ -153,6 +155,6 @@ module _ {N : Type 0} (stands : N → List ℕ → At → Type 0) (s : Scene) (k
     by_doing p (does.Done end) e h l = at_once p (λ r. let w = sym (state_at s s.links k less e) ∙ r in cc) h l
 
     pub polls : (p : Polled)
-        → Polls (at_of s.kinds s.links k) p (stands node (s.rests k)) → LinkGoes p link after
-        → Turned stands s k (slice_set nodes k node) (links_by p links k after)
+        → Polls (at_of s.kinds s.links k) p (StandsAs stage.stands node (s.rests k)) → LinkGoes p link after
+        → Turned stage s k (slice_set nodes k node) (links_by p links k after)
     polls p h l = by_doing p (doing_of (at_of s.kinds s.links k)) refl h l

@@ -8,9 +8,11 @@ use Rattle.std.proofs.Math.Seq.{take-suc-set}
 use Rattle.std.proofs.lemmas.List.{map-append}
 use Rattle.std.proofs.lemmas.Option.{none-some, same_Some}
 use Rattle.std.specs.Io.KnownBytes.{Appends}
+use Rattle.hum_text.specs.declared.calls.Sink.{Ghosts as Sink}
 use Rattle.hum_record.specs.Row.{Row, text_of}
 use Rattle.hum_stage.specs.declared.faults.End.{End}
 use Rattle.hum_stage.specs.declared.faults.End.TheVariants.{Closed, Broken}
+use Rattle.hum_stage.specs.declared.contract.Stage.{Ghosts as Stage}
 use Rattle.hum_turns.specs.declared.result.RunResult.{RunResult}
 use Rattle.hum_turns.specs.declared.result.RunResult.TheVariants as ends
 use Rattle.hum_turns.specs.Plan.{last}
@@ -22,8 +24,6 @@ use Rattle.hum_turns.proofs.Writing.{every_turn, same_now}
 use Rattle.hum_turns.proofs.Picking.{going_on, goes_on, entry}
 use Rattle.hum_turns.proofs.Ending.{every_end}
 use Rattle.hum_turns.proofs.Against.{meaning_fine}
-use Rattle.hum_nodes.specs.At.{At}
-use Rattle.hum_nodes.specs.declared.node.Node.{Node}
 use Rattle.hum_nodes.proofs.Fining.{fine_is}
 use Rattle.hum_engine.specs.declared.net.Net.{Net}
 use Rattle.hum_engine.specs.declared.search.Search.{Search}
@@ -72,20 +72,20 @@ some_at (b ∷ bs) zero h = grind (arith, h)
 some_at (b ∷ bs) (suc k) h = grind (arith, some_at bs k h)
 
 -- The flags of the actors before this one are set.
-pub record Marked {S R W : Type 0} (stands : Node S R → List ℕ → At → Type 0) (contents : W → Option (List ℕ)) (flushed : W → Bool)
+pub record Marked {S R W : Type 0} (stage : Stage S) (writer : Sink W)
     (k : ℕ) (old new : Net S R W) : Type 0 where
   pub same : new ≡ record old { actors = new.actors }
   pub len : length new.actors.items ≡ length old.actors.items
-  pub so_far : AtEach stands contents flushed old (λ start s now.
+  pub so_far : AtEach stage writer old (λ start s now.
       take k new.actors.items ≡ map (is_ready (plan_of s) s.size now) (upto k))
 
-module _ {S R W : Type 0} {stands : Node S R → List ℕ → At → Type 0} {contents : W → Option (List ℕ)} {flushed : W → Bool} where
+module _ {S R W : Type 0} {stage : Stage S} {writer : Sink W} where
   -- With other flags, and other bytes still to come, it stands for the same moment.
   pub restated : {net : Net S R W} {start : Option (List ℕ)} {s : Scene} {now : Now Row}
       (flags : Vec Bool Global) (rests : ℕ → List ℕ) → length flags.items ≡ length net.actors.items
-      → (now.failure ≡ None → Stands stands net.web (moved (record s { rests = rests }) now.links))
-      → NetAt stands contents flushed start s net now
-      → NetAt stands contents flushed start (record s { rests = rests }) (record net { actors = flags }) now
+      → (now.failure ≡ None → Stands stage net.web (moved (record s { rests = rests }) now.links))
+      → NetAt stage writer start s net now
+      → NetAt stage writer start (record s { rests = rests }) (record net { actors = flags }) now
   restated flags rests len going h = record {
     plan = h.plan;
     first = h.first;
@@ -104,19 +104,19 @@ module _ {S R W : Type 0} {stands : Node S R → List ℕ → At → Type 0} {co
   -- The flags of its actors are nothing that a net stands for.
   pub relisted : {old new : Net S R W} {start : Option (List ℕ)} {s : Scene} {now : Now Row}
       → new ≡ record old { actors = new.actors } → length new.actors.items ≡ length old.actors.items
-      → NetAt stands contents flushed start s old now → NetAt stands contents flushed start s new now
+      → NetAt stage writer start s old now → NetAt stage writer start s new now
   relisted {old} {new} {start} {s} {now} same len h =
-      subst (λ n. NetAt stands contents flushed start s n now) (sym same) (restated new.actors s.rests len h.going h)
+      subst (λ n. NetAt stage writer start s n now) (sym same) (restated new.actors s.rests len h.going h)
 
   abbrev pub running_relisted : {old new : Net S R W} → new ≡ record old { actors = new.actors }
       → length new.actors.items ≡ length old.actors.items
-      → IsRunning stands contents flushed old → IsRunning stands contents flushed new
+      → IsRunning stage writer old → IsRunning stage writer new
   running_relisted same len r = record { start = r.start; scene = r.scene; now = r.now; at = relisted same len r.at }
 
   pub marked_more : {k : ℕ} {old new : Net S R W} {b : Bool} {list : Vec Bool Global}
-      → Marked stands contents flushed k old new → k < length old.actors.items
-      → AtEach stands contents flushed new (λ start s now. k ≤ s.count → b ≡ is_ready (plan_of s) s.size now k)
-      → list.items ≡ slice_set new.actors.items k b → Marked stands contents flushed (k + 1) old (record new { actors = list })
+      → Marked stage writer k old new → k < length old.actors.items
+      → AtEach stage writer new (λ start s now. k ≤ s.count → b ≡ is_ready (plan_of s) s.size now k)
+      → list.items ≡ slice_set new.actors.items k b → Marked stage writer (k + 1) old (record new { actors = list })
   marked_more {k} {old} {new} {b} {list} m less tells is =
       record {
         same = ap (λ (n : Net S R W). record n { actors = list }) m.same;
@@ -130,7 +130,7 @@ module _ {S R W : Type 0} {stands : Node S R → List ℕ → At → Type 0} {co
       }
 
   -- It stands for a moment, as where nothing more is to come.
-  pub first_running : {net : Net S R W} → IsNet stands contents flushed net → IsRunning stands contents flushed net
+  pub first_running : {net : Net S R W} → IsNet stage writer net → IsRunning stage writer net
   first_running {net} r = record {
     start = r.start;
     scene = r.scene (λ i. []);
@@ -138,14 +138,14 @@ module _ {S R W : Type 0} {stands : Node S R → List ℕ → At → Type 0} {co
     at = r.at (λ i. []) (no_rests net);
   }
 
-module _ {S R W : Type 0} {stands : Node S R → List ℕ → At → Type 0} {contents : W → Option (List ℕ)} {flushed : W → Bool}
-    {start : Option (List ℕ)} {s : Scene} {net : Net S R W} {now : Now Row} (h : NetAt stands contents flushed start s net now) where
+module _ {S R W : Type 0} {stage : Stage S} {writer : Sink W}
+    {start : Option (List ℕ)} {s : Scene} {net : Net S R W} {now : Now Row} (h : NetAt stage writer start s net now) where
   pub holds_at : HoldsNow (plan_of s) s.size text_of h.turns now
   holds_at = every_turn (plan_of s) s.size text_of h.plan.ok h.plan.some h.turns h.first now h.begin h.walk
 
   -- While the run goes on:
   pub now_unfailed : result (plan_of s) now ≡ None → now.failure ≡ None
-  now_unfailed none = unfailed_now stands contents flushed start s net now 0 h none
+  now_unfailed none = unfailed_now stage writer start s net now 0 h none
 
   pub unfailed_at : result (plan_of s) now ≡ None → net.failure ≡ None
   unfailed_at none = h.failure ∙ now_unfailed none
@@ -177,23 +177,23 @@ module _ {S R W : Type 0} {stands : Node S R → List ℕ → At → Type 0} {co
 
   -- What was written at the end.
 
-  pub partly : WroteFront s start (contents net.sink)
+  pub partly : WroteFront s start (writer.contents net.sink)
   partly =
       let f = holds_at.front (plan_of s) h.plan.ok holds_at.agrees in
       record { part = written (plan_of s) text_of now; front = f; appends = h.written }
 
   wholly : (e : End) → now.failure ≡ None → (now.links (last (plan_of s))).heard ≡ Some e
-      → WroteAll s start (contents net.sink) (flushed net.sink) e
+      → WroteAll s start (writer.contents net.sink) (writer.flushed net.sink) e
   wholly e none heard =
       let w = holds_at.whole e none heard in
       record {
         end = w.end;
-        appends = subst (Appends start (contents net.sink)) w.written h.written;
+        appends = subst (Appends start (writer.contents net.sink)) w.written h.written;
         is_flushed = h.is_flushed e none heard;
       }
 
   outcome : (f : Option RunResult) (o : Option End) → now.failure ≡ f → (now.links (last (plan_of s))).heard ≡ o
-      → IfSome (ended_by f o) (Outcome s start (contents net.sink) (flushed net.sink))
+      → IfSome (ended_by f o) (Outcome s start (writer.contents net.sink) (writer.flushed net.sink))
   outcome (Some ends.Finished) o e h = absurd (holds_at.fails ends.Finished e)
   outcome (Some (ends.Fault f)) o e h = absurd (holds_at.fails (ends.Fault f) e)
   outcome (Some (ends.Read k)) o e h = partly
@@ -204,11 +204,11 @@ module _ {S R W : Type 0} {stands : Node S R → List ℕ → At → Type 0} {co
   outcome None None e h = tt
 
 -- An order has led a net to the end of its run.
-pub runs_to : {S R W O : Type 0} {stands : Node S R → List ℕ → At → Type 0} {contents : W → Option (List ℕ)} {flushed : W → Bool}
+pub runs_to : {S R W O : Type 0} {stage : Stage S} {writer : Sink W}
     {order : Order O} {o p : O} {start : Option (List ℕ)} {s : Scene} {now : Now Row} {net : Net S R W} {by : RunResult}
-    → (d : Leads stands contents flushed order o p start s now net) → result (plan_of s) d.to ≡ Some by
-    → RunsTo stands contents flushed order o p start s now net by
-runs_to {S} {R} {W} {O} {stands} {contents} {flushed} {order} {o} {p} {start} {s} {now} {net} {by} d e =
+    → (d : Leads stage writer order o p start s now net) → result (plan_of s) d.to ≡ Some by
+    → RunsTo stage writer order o p start s now net by
+runs_to {S} {R} {W} {O} {stage} {writer} {order} {o} {p} {start} {s} {now} {net} {by} d e =
     let h = d.at in
     record {
       leads = d;

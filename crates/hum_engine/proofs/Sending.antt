@@ -4,7 +4,9 @@ use Rattle.std.proofs.Common.{Bool, is_some, if◌then◌else◌}
 use Rattle.std.proofs.lemmas.Bool.{and_parts}
 use Rattle.std.proofs.lemmas.Option.{none-some}
 use Rattle.std.specs.Io.KnownBytes.{Appends}
+use Rattle.hum_text.specs.declared.calls.Sink.{Ghosts as Sink}
 use Rattle.hum_record.specs.Row.{Row, text_of}
+use Rattle.hum_stage.specs.declared.contract.Stage.{Ghosts as Stage}
 use Rattle.hum_turns.specs.declared.result.RunResult.{RunResult}
 use Rattle.hum_turns.specs.declared.result.RunResult.TheVariants as ends
 use Rattle.hum_turns.specs.Flow.{Flow}
@@ -13,8 +15,6 @@ use Rattle.hum_turns.specs.Links.{Link, has_some}
 use Rattle.hum_turns.specs.Turns.{Takes}
 use Rattle.hum_turns.specs.Text.{text}
 use Rattle.hum_turns.proofs.Writing.{text_append}
-use Rattle.hum_nodes.specs.At.{At}
-use Rattle.hum_nodes.specs.declared.node.Node.{Node}
 use Rattle.hum_engine.specs.Links.{next_of}
 use Rattle.hum_engine.specs.Readers.{is_read_of, is_write}
 use Rattle.hum_engine.specs.declared.net.Net.{Net}
@@ -34,21 +34,20 @@ unread_so is_over k = grind arith
 pub not_heard : (l : Link Row) → has_some l ≡ true → l.heard ≡ None
 not_heard l some = none_by l.heard (and_parts _ _ some).0
 
-module _ {S R W : Type 0} {contents : W → Option (List ℕ)} {failed : W → Bool} {calls : W → ℕ} {row : Row} {old new : Net S R W}
-    {is_over : Bool} (none : old.failure ≡ None) (h : HasSent contents failed calls row old new is_over) where
+module _ {S R W : Type 0} {writer : Sink W} {row : Row} {old new : Net S R W}
+    {is_over : Bool} (none : old.failure ≡ None) (h : HasSent writer row old new is_over) where
   pub sent_net : new ≡ record old { sink = new.sink; failure = failed_so is_over }
   sent_net = h.net ∙ ap (λ f. record old { sink = new.sink; failure = if is_over then Some ends.Write else f }) none
 
-  pub sent_marked : failed new.sink ≡ (failed old.sink || is_write new.failure)
+  pub sent_marked : writer.failed new.sink ≡ (writer.failed old.sink || is_write new.failure)
   sent_marked = grind (arith, ap (λ (n : Net S R W). n.failure) sent_net, h.marked)
 
 -- The record that comes next was written, or a prefix of it.
-pub sent_record : {S R W : Type 0} {stands : Node S R → List ℕ → At → Type 0} {contents : W → Option (List ℕ)}
-    {failed : W → Bool} {calls : W → ℕ} {row : Row} {old new : Net S R W} (flushed is_over : Bool)
-    → HasSent contents failed calls row old new is_over → {s : Scene} {web : Web S R}
-    → Done stands s.count (Takes (last (plan_of s))) web s
+pub sent_record : {S R W : Type 0} {stage : Stage S} {writer : Sink W} {row : Row} {old new : Net S R W} (flushed is_over : Bool)
+    → HasSent writer row old new is_over → {s : Scene} {web : Web S R}
+    → Done stage s.count (Takes (last (plan_of s))) web s
     → Some row ≡ next_of (s.links (last (plan_of s))).waiting → (s.links (last (plan_of s))).heard ≡ None
-    → SinkWent stands (failed_so is_over) (contents old.sink) (contents new.sink) flushed is_over web s
+    → SinkWent stage (failed_so is_over) (writer.contents old.sink) (writer.contents new.sink) flushed is_over web s
 sent_record {row = row} flushed true h {s} d next none =
     let wrote = h.part refl in (
       record {
@@ -74,10 +73,10 @@ sent_record {row = row} flushed false h {s} d next none =
     }
 
 -- It was flushed at the end.
-pub sent_end : {S R : Type 0} {stands : Node S R → List ℕ → At → Type 0} {web : Web S R} (s : Scene)
-    {old new : Option (List ℕ)} {flushed : Bool} → Done stands s.count (Takes (last (plan_of s))) web s
+pub sent_end : {S R : Type 0} {stage : Stage S} {web : Web S R} (s : Scene)
+    {old new : Option (List ℕ)} {flushed : Bool} → Done stage s.count (Takes (last (plan_of s))) web s
     → None ≡ next_of (s.links (last (plan_of s))).waiting → has_some (s.links (last (plan_of s))) ≡ true
-    → Appends old new [] → flushed ≡ true → Sent stands old new flushed true web s
+    → Appends old new [] → flushed ≡ true → Sent stage old new flushed true web s
 sent_end s d next some appends done =
     let l = s.links (last (plan_of s)) in
     let e = some_mark l l.waiting refl next some in

@@ -5,9 +5,11 @@ use Rattle.std.specs.Prelude.{OnOk, is_some}
 use Rattle.std.proofs.lemmas.Bool.{false≢true, cases_eq}
 use Rattle.std.proofs.Math.Bool.{or-false}
 use Rattle.std.proofs.lemmas.Option.{none-some, slice_get_within}
+use Rattle.hum_text.specs.declared.calls.Source.{Ghosts as Source}
+use Rattle.hum_text.specs.declared.calls.Sink.{Ghosts as Sink}
+use Rattle.hum_stage.specs.declared.contract.Stage.{Ghosts as Stage}
 use Rattle.hum_read.specs.declared.ReadError.{ReadError}
 use Rattle.hum_read.specs.declared.ReadError.TheVariants as error
-use Rattle.hum_stage.specs.Meaning.{Moment as StageMoment}
 use Rattle.hum_turns.specs.declared.result.RunResult.{RunResult}
 use Rattle.hum_turns.specs.declared.result.RunResult.TheVariants as ends
 use Rattle.hum_turns.specs.Failures.{is_ready, result}
@@ -15,11 +17,8 @@ use Rattle.hum_turns.specs.Links.{has_some}
 use Rattle.hum_turns.specs.Plan.{last}
 use Rattle.hum_turns.specs.Turns.{ready}
 use Rattle.hum_turns.proofs.Near.{ready_sink}
-use Rattle.hum_nodes.specs.At.{At}
-use Rattle.hum_nodes.specs.Nodes.{StandsAs}
 use Rattle.hum_nodes.specs.Polls.{is_failed_read}
 use Rattle.hum_nodes.proofs.Standing.{reads_few}
-use Rattle.hum_nodes.specs.declared.node.Node.{Node}
 use Rattle.hum_engine.specs.declared.net.Net.{Net}
 use Rattle.hum_engine.specs.declared.net.Turned.{Turned}
 use Rattle.hum_engine.specs.declared.web.Moved.{Moved}
@@ -35,15 +34,14 @@ use Rattle.hum_engine.proofs.Netting.{stage_turned}
 use Rattle.hum_engine.proofs.Showing.{shows_alike}
 
 -- An actor that may be asked.
-module _ {S R W : Type 0} {stage : S → StageMoment → Type 0} {contents : W → Option (List ℕ)} {flushed : W → Bool}
-    {k : ℕ} {net : Net S R W} (m : MayAsk (StandsAs stage) contents flushed k net) where
-  pub asked_at : IsAt (StandsAs stage) net.web (moved m.running.scene m.running.now.links)
+module _ {S R W : Type 0} {stage : Stage S} {writer : Sink W} {k : ℕ} {net : Net S R W} (m : MayAsk stage writer k net) where
+  pub asked_at : IsAt stage net.web (moved m.running.scene m.running.now.links)
   asked_at = at_now m.running.at m.going
 
-  pub asked_web : Somewhere (IsAt (StandsAs stage) net.web)
+  pub asked_web : Somewhere (IsAt stage net.web)
   asked_web = record { scene = _; holds = asked_at }
 
-  pub asked_stage : k ≢ length net.web.nodes.items → Somewhere (HasActor (StandsAs stage) k net.web)
+  pub asked_stage : k ≢ length net.web.nodes.items → Somewhere (HasActor stage k net.web)
   asked_stage other =
       record { scene = _; holds = record { at = asked_at; less = omega (arith, asked_at.stand.count, m.within, other) } }
 
@@ -60,15 +58,15 @@ module _ {S R W : Type 0} {stage : S → StageMoment → Type 0} {contents : W �
   pub asked_few : net.turns < 9223372036854775808
   asked_few =
       let r = m.running in
-      let few = turns_few (StandsAs stage) contents flushed r.start r.scene net r.now (reads_few stage) r.at
+      let few = turns_few stage writer r.start r.scene net r.now (reads_few stage.stands) r.at
       (unfailed_at r.at m.going) in
       omega (arith, r.at.counted, few)
 
 -- Whether a stage is ready, as its web tells.
-pub stage_ready : {S R W : Type 0} {stands : Node S R → List ℕ → At → Type 0} {contents : W → Option (List ℕ)} {flushed : W → Bool}
+pub stage_ready : {S R W : Type 0} {stage : Stage S} {writer : Sink W}
     {k : ℕ} {net : Net S R W} {b is : Bool} → k ≢ length net.web.nodes.items
-    → ((s : Scene) → HasActor stands k net.web s → b ≡ ready (plan_of s) s.size s.links k) → b ≡ is
-    → AtEach stands contents flushed net (λ start s now. result (plan_of s) now ≡ None → k ≤ s.count
+    → ((s : Scene) → HasActor stage k net.web s → b ≡ ready (plan_of s) s.size s.links k) → b ≡ is
+    → AtEach stage writer net (λ start s now. result (plan_of s) now ≡ None → k ≤ s.count
     → is_ready (plan_of s) s.size now k ≡ is)
 stage_ready {k = k} other tells told start s now h none within =
     let at = at_now h none in
@@ -76,11 +74,11 @@ stage_ready {k = k} other tells told start s now h none within =
     sym (ready_at h none k (sym told ∙ tells (moved s now.links) (record { at = at; less = less })))
 
 -- Whether the sink is, as what it takes from tells.
-pub sink_ready : {S R W : Type 0} {stands : Node S R → List ℕ → At → Type 0} {contents : W → Option (List ℕ)} {flushed : W → Bool}
+pub sink_ready : {S R W : Type 0} {stage : Stage S} {writer : Sink W}
     {k : ℕ} {net : Net S R W} {b is : Bool} → k ≡ length net.web.nodes.items
-    → ((s : Scene) → IsAt stands net.web s → (s.links (last (plan_of s))).heard ≡ None
+    → ((s : Scene) → IsAt stage net.web s → (s.links (last (plan_of s))).heard ≡ None
     → b ≡ has_some (s.links (last (plan_of s)))) → b ≡ is
-    → AtEach stands contents flushed net (λ start s now. result (plan_of s) now ≡ None → is_ready (plan_of s) s.size now k ≡ is)
+    → AtEach stage writer net (λ start s now. result (plan_of s) now ≡ None → is_ready (plan_of s) s.size now k ≡ is)
 sink_ready {k = k} here tells told start s now h none =
     let at = at_now h none in
     sym (ready_at h none k (sym told ∙ tells (moved s now.links) at (unheard_at h none)
@@ -96,10 +94,10 @@ failed_so k (Ok moved) = refl
 failed_so k (Err e) = refl
 
 -- The marks of all readers, where it marks its own or none.
-told_marks : {S R A : Type 0} {remaining : R → Option (List ℕ)} {calls : R → ℕ} {failed : R → Bool} {k : ℕ} {old new : Web S R}
-    (told : Result A ReadError) → AsksOne remaining calls failed k old new told
-    → (i : ℕ) → failed_at failed i new.nodes.items ≡ (failed_at failed i old.nodes.items || is_read_of i (fault_of k told))
-told_marks {A = A} {failed = failed} {k} {old} {new} told a i = ⊎_elim
+told_marks : {S R A : Type 0} {reader : Source R} {k : ℕ} {old new : Web S R}
+    (told : Result A ReadError) → AsksOne reader k old new told
+    → (i : ℕ) → failed_at reader i new.nodes.items ≡ (failed_at reader i old.nodes.items || is_read_of i (fault_of k told))
+told_marks {A = A} {reader = reader} {k} {old} {new} told a i = ⊎_elim
     (λ (is : i ≡ k). rw (is, here told) a.marks)
     (λ (o : i ≢ k). rw (a.others i o, apart told (λ e. o (omega (arith, e))), or-false) refl)
     (cases_eq i k)
@@ -119,12 +117,11 @@ unwritten k (Ok x) = refl
 unwritten k (Err error.Read) = refl
 unwritten k (Err error.Memory) = refl
 
-module _ {S R W A : Type 0} {stage : S → StageMoment → Type 0} {remaining : R → Option (List ℕ)} {calls : R → ℕ} {failed : R → Bool}
-    {contents : W → Option (List ℕ)} {flushed : W → Bool} {k : ℕ} {old : Net S R W} {web : Web S R} where
+module _ {S R W A : Type 0} {stage : Stage S} {reader : Source R} {writer : Sink W} {k : ℕ} {old : Net S R W} {web : Web S R} where
   pub told_turned : (told : Result A ReadError) → (k ≡ length old.web.nodes.items → ⊥)
-      → OnOk told (Fed (StandsAs stage) remaining k old.web web) → (told ≡ Err error.Read → IsKind true k old.web)
-      → AsksOne remaining calls failed k old.web web told
-      → HasTurned (StandsAs stage) remaining contents flushed k old
+      → OnOk told (Fed stage reader k old.web web) → (told ≡ Err error.Read → IsKind true k old.web)
+      → AsksOne reader k old.web web told
+      → HasTurned stage reader writer k old
       (record old { web = web; turns = old.turns + 1; failure = fault_of k told }) (is_some (fault_of k told))
   told_turned (Ok x) other fed kind a = stage_turned None other a.others fed
   told_turned (Err error.Memory) other fed kind a =
@@ -132,53 +129,48 @@ module _ {S R W A : Type 0} {stage : S → StageMoment → Type 0} {remaining : 
   told_turned (Err error.Read) other fed kind a = stage_turned (Some (ends.Read (k + 1))) other a.others
       ((λ s at less. (source_here stage k old.web s at less (kind refl), refl, refl)), a.stays)
 
-pub told_marked : {S R W A : Type 0} {remaining : R → Option (List ℕ)} {calls : R → ℕ} {failed : R → Bool} {broken : W → Bool}
+pub told_marked : {S R W A : Type 0} {reader : Source R} {writer : Sink W}
     {k n : ℕ} {old new : Net S R W} {web : Web S R} {answer told : Result A ReadError} → answer ≡ told
-    → AsksOne remaining calls failed k old.web web answer → new ≡ record old { web = web; turns = n; failure = fault_of k told }
-    → MarksFailures failed broken old new
-told_marked {broken = broken} {k = k} {old = old} {told = told} is a net = rw net (record {
+    → AsksOne reader k old.web web answer → new ≡ record old { web = web; turns = n; failure = fault_of k told }
+    → MarksFailures reader writer old new
+told_marked {k = k} {old = old} {told = told} is a net = rw net (record {
   reads = told_marks told (rw is at a);
   writes = rw (unwritten k told, or-false) refl;
   takers = refl;
 })
 
-module _ {S R W : Type 0} {stage : S → StageMoment → Type 0} {remaining : R → Option (List ℕ)} {calls : R → ℕ} {failed : R → Bool}
-    {contents : W → Option (List ℕ)} {flushed broken : W → Bool} {k : ℕ} {old : Net S R W} {web : Web S R}
+module _ {S R W : Type 0} {stage : Stage S} {reader : Source R} {writer : Sink W} {k : ℕ} {old : Net S R W} {web : Web S R}
     (other : k ≡ length old.web.nodes.items → ⊥) where
-  gone : (told : Result Moved ReadError) → HasTold (StandsAs stage) remaining calls failed k old.web web told
-      → HasGone (StandsAs stage) remaining failed contents flushed broken k old
+  gone : (told : Result Moved ReadError) → HasTold stage reader k old.web web told
+      → HasGone stage reader writer k old
       (record old { web = web; turns = old.turns + 1; failure = fault_of k told }) (turned_by k told)
   gone (Ok moved) h = record {
     turned = told_turned (Ok moved) other h.turned h.read h.asked;
     link = λ s a. inl (h.link s a);
-    reads = told_marks (Ok moved) h.asked;
-    writes = rw or-false refl;
+    marks = told_marked {told = Ok moved} refl h.asked refl;
     turns = refl;
     actors = refl;
-    takers = refl;
     full = h.full;
     room = h.room;
   }
   gone (Err e) h = record {
     turned = told_turned (Err e) other tt h.read h.asked;
     link = λ s a. inr (refl, λ none. none-some _ (sym none));
-    reads = told_marks (Err e) h.asked;
-    writes = rw (unwritten {A = Moved} k (Err e), or-false) refl;
+    marks = told_marked {told = Err e} refl h.asked refl;
     turns = refl;
     actors = refl;
-    takers = refl;
     full = λ full. absurd (false≢true full);
     room = λ taken. absurd (false≢true taken);
   }
 
   -- It is ready and has had its turn, in which it asks for no more than it may.
-  pub settled : {asked : W → ℕ} {told : Result Moved ReadError} {new : Net S R W} {answer : Turned}
-      → MayAsk (StandsAs stage) contents flushed k old
-      → AtEach (StandsAs stage) contents flushed old (λ start s now. result (plan_of s) now ≡ None → k ≤ s.count
+  pub settled : {told : Result Moved ReadError} {new : Net S R W} {answer : Turned}
+      → MayAsk stage writer k old
+      → AtEach stage writer old (λ start s now. result (plan_of s) now ≡ None → k ≤ s.count
       → is_ready (plan_of s) s.size now k ≡ true)
-      → HasTold (StandsAs stage) remaining calls failed k old.web web told → answer ≡ turned_by k told
+      → HasTold stage reader k old.web web told → answer ≡ turned_by k told
       → new ≡ record old { web = web; turns = old.turns + 1; failure = failed_by k told old.failure }
-      → HasWorked (StandsAs stage) remaining calls failed contents flushed broken asked k old new answer
+      → HasWorked stage reader writer k old new answer
   settled {told = told} m ready h turned net =
       let so = ap (failed_by k told) (asked_unfailed m) ∙ failed_so k told in
       rw (turned, net ∙ ap (λ f. record old { web = web; turns = old.turns + 1; failure = f }) so) (record {

@@ -7,6 +7,7 @@ use Rattle.std.proofs.lemmas.Option.{none-some, same_Some, slice_get_within, sli
 use Rattle.std.proofs.lemmas.List.{length-map}
 use Rattle.hum_record.specs.Row.{Row, text_of}
 use Rattle.hum_stage.specs.declared.faults.End.{End}
+use Rattle.hum_stage.specs.declared.contract.Stage.{Ghosts as Stage}
 use Rattle.hum_turns.specs.Flow.{Flow, AllFine, Begins}
 use Rattle.hum_turns.specs.Text.{next_text}
 use Rattle.hum_turns.specs.Plan.{IsPlan, last}
@@ -20,7 +21,9 @@ use Rattle.hum_turns.proofs.Every.{reached}
 use Rattle.hum_nodes.specs.Doing.{Doing}
 use Rattle.hum_nodes.specs.Doing as does
 use Rattle.hum_nodes.specs.Fine.{fine}
-use Rattle.hum_nodes.specs.At.{At, doing_of, change_at, after_change, MayChange, with_record, with_end}
+use Rattle.hum_nodes.specs.At.{doing_of, change_at, after_change, MayChange, with_record, with_end}
+use Rattle.hum_nodes.specs.Nodes.{StandsAs}
+use Rattle.hum_nodes.specs.declared.node.Node.{Node}
 use Rattle.hum_engine.specs.declared.link.Link as port
 use Rattle.hum_engine.specs.Links.{Goes, next_of}
 use Rattle.hum_engine.specs.Writing.{IsFront}
@@ -118,39 +121,37 @@ module _ (s : Scene) (i : ℕ) where
       (ap view taken_becomes.here ∙ v) (s.kinds k).stage.sources place at
       (λ j h. (tree k j k place i less less h at).1)
 
-  module _ {N : Type 0} (stands : N → List ℕ → At → Type 0) (nodes : List N)
-      (links : List port.Link) (hn : NodesStand stands s nodes)
-      (hl : LinksStand s.size s.links links) (count : length nodes ≡ s.count)
-      (link after : port.Link) (at_link : slice_get links i ≡ Some link)
-      (goes : Goes link after (λ l. popped l l.waiting)) where
+  module _ {S R : Type 0} (stage : Stage S) (nodes : List (Node S R)) (links : List port.Link) (hn : NodesStand stage s nodes)
+      (hl : LinksStand s.size s.links links) (count : length nodes ≡ s.count) (link after : port.Link)
+      (at_link : slice_get links i ≡ Some link) (goes : Goes link after (λ l. popped l l.waiting)) where
     links_taken : LinksStand s.size taken (slice_set links i after)
     links_taken =
         links_set s.size left s.links taken links i after hl
         (goes s.size (s.links i) (hl i link at_link)) taken_becomes
 
     -- A stage takes.
-    pub did_take : (k place : ℕ) (node : N) (change : Flow Row → Flow Row) → IsTree s
+    pub did_take : (k place : ℕ) (node : Node S R) (change : Flow Row → Flow Row) → IsTree s
         → k < s.count → i < k → slice_get (s.kinds k).stage.sources place ≡ Some i
         → view left ≡ change (view (s.links i))
-        → stands node (s.rests k) (after_change change place (at_of s.kinds s.links k))
-        → Did stands s k (Takes i) s.links (slice_set nodes k node) (slice_set links i after)
+        → StandsAs stage.stands node (s.rests k) (after_change change place (at_of s.kinds s.links k))
+        → Did stage s k (Takes i) s.links (slice_set nodes k node) (slice_set links i after)
     did_take k place node change tree less lower at v n =
         let here : at_of s.kinds taken k ≡ after_change change place (at_of s.kinds s.links k) =
         rw (ins_taken k place change less tree at v, taken_becomes.elsewhere k (λ e. absurd (omega arith))) in
         record {
           new = taken;
           does = taken_becomes;
-          at_nodes = nodes_set stands s taken nodes k node
+          at_nodes = nodes_set stage s taken nodes k node
               (λ j y o g.
               let low : j < s.count = omega (arith, slice_get_within nodes j y g, count) in
-              subst (stands y (s.rests j)) (sym (at_kept j (λ p h. o (tree j p k place i low less h at).0))) (hn j y g))
-              (subst (stands node (s.rests k)) (sym here) n);
+              subst (StandsAs stage.stands y (s.rests j)) (sym (at_kept j (λ p h. o (tree j p k place i low less h at).0))) (hn j y g))
+              (subst (StandsAs stage.stands node (s.rests k)) (sym here) n);
           at_links = links_taken;
         }
 
     -- The sink takes.
     pub did_sink : IsPlan (plan_of s) → i ≡ last (plan_of s)
-        → Did stands s s.count (Takes i) s.links nodes (slice_set links i after)
+        → Did stage s s.count (Takes i) s.links nodes (slice_set links i after)
     did_sink ok e =
         let top = last_next s.count ok.some in
         record {
@@ -159,7 +160,7 @@ module _ (s : Scene) (i : ℕ) where
           at_nodes = λ j y g.
               let low : j < s.count = omega (arith, slice_get_within nodes j y g, count) in
               let below = λ (p : ℕ). index_all (λ t. t < j) (s.kinds j).stage.sources p i (ok.below j low) in
-              subst (stands y (s.rests j)) (sym (at_kept j (λ p h. omega (arith, low, e, top, below p h)))) (hn j y g);
+              subst (StandsAs stage.stands y (s.rests j)) (sym (at_kept j (λ p h. omega (arith, low, e, top, below p h)))) (hn j y g);
           at_links = links_taken;
         }
 

@@ -4,15 +4,16 @@ use Rattle.std.proofs.Common.{None, Vec, Global, false, refl, sym, ap, subst, ar
 use Rattle.std.specs.Prelude.{is_some, IfSome}
 use Rattle.std.proofs.lemmas.Bool.{cases_Bool, false≢true}
 use Rattle.std.proofs.lemmas.Option.{none-some, same_Some}
+use Rattle.hum_text.specs.declared.calls.Source.{Ghosts as Source}
+use Rattle.hum_text.specs.declared.calls.Sink.{Ghosts as Sink}
 use Rattle.hum_record.specs.Row.{Row}
+use Rattle.hum_stage.specs.declared.contract.Stage.{Ghosts as Stage}
 use Rattle.hum_turns.specs.declared.order.Side.{Side}
 use Rattle.hum_turns.specs.declared.result.RunResult.{RunResult}
 use Rattle.hum_turns.specs.Plan.{last}
 use Rattle.hum_turns.specs.Failures.{Now, ended_by, result}
 use Rattle.hum_turns.specs.Orders.{Order, LeansTo, ready_list}
 use Rattle.hum_turns.proofs.Writing.{still}
-use Rattle.hum_stage.specs.Meaning.{Moment}
-use Rattle.hum_nodes.specs.At.{At}
 use Rattle.hum_nodes.specs.declared.node.Node.{Node}
 use Rattle.hum_nodes.specs.Nodes.{StandsAs, is_source}
 use Rattle.hum_nodes.proofs.Followed.{read_none}
@@ -35,27 +36,27 @@ second_nil : (xs ys : List ℕ) → xs ++ ys ≡ [] → ys ≡ []
 second_nil [] ys h = h
 second_nil (x ∷ xs) ys h = absurd cc
 
-module _ {S R W : Type 0} {stage : S → Moment → Type 0} {contents : W → Option (List ℕ)} {flushed : W → Bool} where
+module _ {S R W : Type 0} {stage : Stage S} {writer : Sink W} where
   -- What is still to come of a node that isn't a source is nothing that it stands for.
   rested : {start : Option (List ℕ)} {s : Scene} {net : Net S R W} {now : Now Row} {rests : ℕ → List ℕ}
       → ((i : ℕ) (n : Node S R) → slice_get net.web.nodes.items i ≡ Some n → is_source n ≡ true → s.rests i ≡ rests i)
-      → NetAt (StandsAs stage) contents flushed start s net now
-      → NetAt (StandsAs stage) contents flushed start (record s { rests = rests }) net now
+      → NetAt stage writer start s net now
+      → NetAt stage writer start (record s { rests = rests }) net now
   rested {start} {s} {net} {now} {rests} same h = restated net.actors rests refl (λ e.
       let st = h.going e in
       record {
         count = st.count;
         as_many = st.as_many;
         nodes = λ i n at. ⊎_elim
-            (λ is. subst (λ r. StandsAs stage n r (at_of s.kinds now.links i)) (same i n at is) (st.nodes i n at))
-            (λ isnt. any_rest stage n isnt (s.rests i) (rests i) (at_of s.kinds now.links i) (st.nodes i n at))
+            (λ is. subst (λ r. StandsAs stage.stands n r (at_of s.kinds now.links i)) (same i n at is) (st.nodes i n at))
+            (λ isnt. any_rest stage.stands n isnt (s.rests i) (rests i) (at_of s.kinds now.links i) (st.nodes i n at))
             (cases_Bool (is_source n));
         links = st.links;
       }) h
 
-  module _ {O : Type 0} {remaining : R → Option (List ℕ)} {order : Order O} {o p : O} {old new : Net S R W} {by : RunResult}
-      (ran : HasRun (StandsAs stage) remaining contents flushed order o p old new by)
-      {rests : ℕ → List ℕ} (tells : Tells remaining old.web.nodes.items rests) where
+  module _ {O : Type 0} {reader : Source R} {order : Order O} {o p : O} {old new : Net S R W} {by : RunResult}
+      (ran : HasRun stage reader writer order o p old new by)
+      {rests : ℕ → List ℕ} (tells : Tells reader old.web.nodes.items rests) where
     -- what is left of the bytes of a source
     Left : ℕ → Option (Node S R) → Type 0
     Left i o = (left : List ℕ)
@@ -81,8 +82,8 @@ module _ {S R W : Type 0} {stage : S → Moment → Type 0} {contents : W → Op
     left_at i = left_by i (slice_get old.web.nodes.items i) refl
 
     run_on : {start : Option (List ℕ)} {s : Scene} {now : Now Row} → s.rests ≡ rests
-        → NetAt (StandsAs stage) contents flushed start s old now
-        → HasRunOn (StandsAs stage) contents flushed order o p start s now new by
+        → NetAt stage writer start s old now
+        → HasRunOn stage writer order o p start s now new by
     unfolding Left
     run_on {start} {s} {now} is h = record {
       left = λ i. (left_at i).0;
@@ -91,29 +92,28 @@ module _ {S R W : Type 0} {stage : S → Moment → Type 0} {contents : W → Op
     }
 
 -- A run goes on. It began with these flags, by which so much was known of who is ready, and has come to this net.
-pub record Ran {S R W O : Type 0} (stands : Node S R → List ℕ → At → Type 0) (remaining : R → Option (List ℕ)) (failed : R → Bool)
-    (contents : W → Option (List ℕ)) (flushed broken : W → Bool) (order : Order O) (o p : O) (look : Option Search)
+pub record Ran {S R W O : Type 0} (stage : Stage S) (reader : Source R)
+    (writer : Sink W) (order : Order O) (o p : O) (look : Option Search)
     (old new : Net S R W) : Type 0 where
   pub before : Option Search
   pub flags : Vec Bool Global
   pub len : length flags.items ≡ length old.actors.items
-  pub going : AtEach stands contents flushed old (λ start s now. result (plan_of s) now ≡ None)
-  pub sees : AtEach stands contents flushed old (λ start s now. Sees before s now (record old { actors = flags }))
+  pub going : AtEach stage writer old (λ start s now. result (plan_of s) now ≡ None)
+  pub sees : AtEach stage writer old (λ start s now. Sees before s now (record old { actors = flags }))
   pub leans : IfSome before (λ by. LeansTo by.side order.pick order.next o)
-  pub advanced : HasAdvanced stands remaining failed contents flushed broken order o p before look
+  pub advanced : HasAdvanced stage reader writer order o p before look
       (record old { actors = flags }) new false
 
-module _ {S R W O : Type 0} {stands : Node S R → List ℕ → At → Type 0} {remaining : R → Option (List ℕ)} {failed : R → Bool}
-    {contents : W → Option (List ℕ)} {flushed broken : W → Bool} {order : Order O} {o : O} {old : Net S R W}
-    (r : IsNet stands contents flushed old) where
+module _ {S R W O : Type 0} {stage : Stage S} {reader : Source R} {writer : Sink W} {order : Order O} {o : O}
+    {old : Net S R W} (r : IsNet stage writer old) where
   pub begun : {look : Option Search} {new : Net S R W} (to : Option Side) {sink : ℕ} {over : Bool}
-      → AtEach stands contents flushed old (λ start s now. over ≡ is_some (result (plan_of s) now)) → over ≡ false
+      → AtEach stage writer old (λ start s now. over ≡ is_some (result (plan_of s) now)) → over ≡ false
       → new ≡ record old { actors = new.actors } → length new.actors.items ≡ length old.actors.items
-      → AtEach stands contents flushed old (λ start s now. new.actors.items ≡ ready_list (plan_of s) s.size now)
+      → AtEach stage writer old (λ start s now. new.actors.items ≡ ready_list (plan_of s) s.size now)
       → IfSome to (λ side. LeansTo side order.pick order.next o) → sink ≡ length new.web.nodes.items → look ≡ beginning to sink
-      → Ran stands remaining failed contents flushed broken order o o look old new
+      → Ran stage reader writer order o o look old new
   begun {look} {new} to {sink} {over} tells on same len list leans count is =
-      let going : AtEach stands contents flushed old (λ start s now. result (plan_of s) now ≡ None) =
+      let going : AtEach stage writer old (λ start s now. result (plan_of s) now ≡ None) =
       λ start s now h. not_over _ (tells start s now h) on in
       let leans_so : IfSome look (λ by. LeansTo by.side order.pick order.next o) =
       rw is (leans_first to sink order.pick order.next o leans) in
@@ -130,9 +130,8 @@ module _ {S R W O : Type 0} {stands : Node S R → List ℕ → At → Type 0} {
         advanced = advanced_none leans_so (unfailed_at first.at (going first.start first.scene first.now first.at)) same;
       }
 
-  module _ {p : O} {look : Option Search} {net : Net S R W}
-      (ran : Ran stands remaining failed contents flushed broken order o p look old net) where
-    may_begin : MayAdvance stands contents flushed order o ran.before (record old { actors = ran.flags })
+  module _ {p : O} {look : Option Search} {net : Net S R W} (ran : Ran stage reader writer order o p look old net) where
+    may_begin : MayAdvance stage writer order o ran.before (record old { actors = ran.flags })
     may_begin = record {
       step = record {
         start = r.start;
@@ -146,17 +145,17 @@ module _ {S R W O : Type 0} {stands : Node S R → List ℕ → At → Type 0} {
       leans = ran.leans;
     }
 
-    pub may_go : MayAdvance stands contents flushed order p look net
+    pub may_go : MayAdvance stage writer order p look net
     may_go = may_then may_begin ran.advanced
 
     -- A step more.
     module _ {q : O} {after : Option Search} {new : Net S R W} {is_over : Bool}
-        (more : HasAdvanced stands remaining failed contents flushed broken order p q look after net new is_over) where
-      all : HasAdvanced stands remaining failed contents flushed broken order o q ran.before after
+        (more : HasAdvanced stage reader writer order p q look after net new is_over) where
+      all : HasAdvanced stage reader writer order o q ran.before after
           (record old { actors = ran.flags }) new is_over
       all = advanced_twice may_begin ran.advanced more
 
-      pub ran_on : is_over ≡ false → Ran stands remaining failed contents flushed broken order o q after old new
+      pub ran_on : is_over ≡ false → Ran stage reader writer order o q after old new
       ran_on on = record {
         before = ran.before;
         flags = ran.flags;
@@ -164,26 +163,25 @@ module _ {S R W O : Type 0} {stands : Node S R → List ℕ → At → Type 0} {
         going = ran.going;
         sees = ran.sees;
         leans = ran.leans;
-        advanced = subst (HasAdvanced stands remaining failed contents flushed broken order o q ran.before after
+        advanced = subst (HasAdvanced stage reader writer order o q ran.before after
             (record old { actors = ran.flags }) new) on all;
       }
 
       -- Its net stands for a moment still,
-      pub runs_on : IsRunning stands contents flushed new
+      pub runs_on : IsRunning stage writer new
       runs_on = running_on may_go.step more.stepped (λ i. []) (no_rests new)
 
       -- and it is over, as told.
       module _ {by : RunResult} (over : is_over ≡ true)
-          (told : AtEach stands contents flushed new (λ start s now. (e : RunResult)
-          → result (plan_of s) now ≡ Some e → by ≡ e)) where
-        ends : AtEach stands contents flushed new (λ start s now. result (plan_of s) now ≡ Some by)
+          (told : AtEach stage writer new (λ start s now. (e : RunResult) → result (plan_of s) now ≡ Some e → by ≡ e)) where
+        ends : AtEach stage writer new (λ start s now. result (plan_of s) now ≡ Some by)
         ends start s now h =
             let l = led_on may_go.step more.stepped (λ i. []) (no_rests new) in
             has_told _ by (l.1.tells
-            ∙ ap is_some (ends_alike stands contents flushed new may_go.step.start start _ s l.0.to now l.0.at h))
+            ∙ ap is_some (ends_alike stage writer new may_go.step.start start _ s l.0.to now l.0.at h))
             over (told start s now h)
 
-        has_run : HasRun stands remaining contents flushed order o q old new by
+        has_run : HasRun stage reader writer order o q old new by
         has_run = record {
           reads = all.stepped.reads;
           read = all.stepped.read;
@@ -194,16 +192,16 @@ module _ {S R W O : Type 0} {stands : Node S R → List ℕ → At → Type 0} {
               runs_to d (ends start s d.to d.at);
         }
 
-module _ {S R W O : Type 0} {stage : S → Moment → Type 0} {remaining : R → Option (List ℕ)} {failed : R → Bool}
-    {contents : W → Option (List ℕ)} {flushed broken : W → Bool} {order : Order O} {o : O} {old : Net S R W} where
+module _ {S R W O : Type 0} {stage : Stage S} {reader : Source R}
+    {writer : Sink W} {order : Order O} {o : O} {old : Net S R W} where
   -- What is said of a run whose end is told.
-  runs_by : {p : O} {new : Net S R W} {by : RunResult} → HasRun (StandsAs stage) remaining contents flushed order o p old new by
-      → IsRunning (StandsAs stage) contents flushed new
-      → AtEach (StandsAs stage) contents flushed new (λ start s now. result (plan_of s) now ≡ Some by)
-      → (old.failure ≡ None → MarksFailures failed broken old new)
-      → AtEach (StandsAs stage) contents flushed old (λ start s now. (e : RunResult) → result (plan_of s) now ≡ Some e
+  runs_by : {p : O} {new : Net S R W} {by : RunResult} → HasRun stage reader writer order o p old new by
+      → IsRunning stage writer new
+      → AtEach stage writer new (λ start s now. result (plan_of s) now ≡ Some by)
+      → (old.failure ≡ None → MarksFailures reader writer old new)
+      → AtEach stage writer old (λ start s now. (e : RunResult) → result (plan_of s) now ≡ Some e
       → (by ≡ e) × (new ≡ old) × (p ≡ o))
-      → RunsBy (StandsAs stage) remaining failed contents flushed broken order o p old new by
+      → RunsBy stage reader writer order o p old new by
   runs_by {p} {new} {by} ran w ends marks again =
       let heard = (w.now.links (last (plan_of w.scene))).heard in
       let is = ap (λ f. ended_by f heard) w.at.failure ∙ ends w.start w.scene w.now w.at in
@@ -216,12 +214,12 @@ module _ {S R W O : Type 0} {stage : S → Moment → Type 0} {remaining : R →
       }
 
   -- It was over already.
-  pub ran_already : {over : Bool} {by : RunResult} → IsNet (StandsAs stage) contents flushed old
-      → AtEach (StandsAs stage) contents flushed old (λ start s now. over ≡ is_some (result (plan_of s) now)) → over ≡ true
-      → AtEach (StandsAs stage) contents flushed old (λ start s now. (e : RunResult) → result (plan_of s) now ≡ Some e → by ≡ e)
-      → RunsBy (StandsAs stage) remaining failed contents flushed broken order o o old old by
+  pub ran_already : {over : Bool} {by : RunResult} → IsNet stage writer old
+      → AtEach stage writer old (λ start s now. over ≡ is_some (result (plan_of s) now)) → over ≡ true
+      → AtEach stage writer old (λ start s now. (e : RunResult) → result (plan_of s) now ≡ Some e → by ≡ e)
+      → RunsBy stage reader writer order o o old old by
   ran_already {over} {by} r tells is told =
-      let ends : AtEach (StandsAs stage) contents flushed old (λ start s now. result (plan_of s) now ≡ Some by) =
+      let ends : AtEach stage writer old (λ start s now. result (plan_of s) now ≡ Some by) =
       λ start s now h. has_told _ by (tells start s now h) is (told start s now h) in
       runs_by (record {
         reads = λ i. [];
@@ -231,13 +229,12 @@ module _ {S R W O : Type 0} {stage : S → Moment → Type 0} {remaining : R →
       })
       (first_running r) ends (λ none. marks_none refl none) (λ start s now h e is. (told start s now h e is, refl, refl))
 
-  module _ {p q : O} {look after : Option Search} {net new : Net S R W} {is_over : Bool}
-      (r : IsNet (StandsAs stage) contents flushed old)
-      (ran : Ran (StandsAs stage) remaining failed contents flushed broken order o p look old net)
-      (more : HasAdvanced (StandsAs stage) remaining failed contents flushed broken order p q look after net new is_over) where
+  module _ {p q : O} {look after : Option Search} {net new : Net S R W} {is_over : Bool} (r : IsNet stage writer old)
+      (ran : Ran stage reader writer order o p look old net)
+      (more : HasAdvanced stage reader writer order p q look after net new is_over) where
     pub ran_out : {by : RunResult} → is_over ≡ true
-        → AtEach (StandsAs stage) contents flushed new (λ start s now. (e : RunResult) → result (plan_of s) now ≡ Some e → by ≡ e)
-        → RunsBy (StandsAs stage) remaining failed contents flushed broken order o q old new by
+        → AtEach stage writer new (λ start s now. (e : RunResult) → result (plan_of s) now ≡ Some e → by ≡ e)
+        → RunsBy stage reader writer order o q old new by
     ran_out over told =
         let marks = (all r ran more).marks in
         runs_by (has_run r ran more over told) (runs_on r ran more) (ends r ran more over told)
@@ -251,7 +248,7 @@ module _ {S R W O : Type 0} {stage : S → Moment → Type 0} {remaining : R →
     fewer_left on closer =
         let m = pick_now (may_go r ran).step in
         let w = m.running in
-        let few = turns_few (StandsAs stage) contents flushed w.start w.scene net w.now (reads_few stage) w.at
+        let few = turns_few stage writer w.start w.scene net w.now (reads_few stage.stands) w.at
         (now_unfailed w.at m.going) in
         elim closer [
           | inl over ↦ absurd (false≢true (sym on ∙ over))

@@ -29,8 +29,7 @@ pub row_next : (ws : List Row) (mark : Option End) → row_of (taken_of ws mark)
 row_next ws mark = grind arith
 
 -- What a link tells of what was taken from it.
-module _ {link : port.Link} {answer : Taken}
-    (tells : Tells link answer (λ size l. taken_of l.waiting l.mark)) where
+module _ {link : port.Link} {answer : Taken} (tells : Tells link answer (λ size l. taken_of l.waiting l.mark)) where
   pub tells_some : Tells link (is_some_of answer) (λ size l. nat_lt 0 (length l.waiting) || is_some l.mark)
   tells_some size l h = grind (arith, nat_tests, tells size l h)
 

@@ -5,18 +5,19 @@ use Rattle.std.specs.Prelude.{OnErr}
 use Rattle.std.proofs.lemmas.Bool.{false≢true}
 use Rattle.std.proofs.lemmas.Bool.Decides.{nat_tests}
 use Rattle.std.proofs.lemmas.Option.{same_Some}
+use Rattle.hum_text.specs.declared.calls.Source.{Ghosts as Source}
+use Rattle.hum_stage.specs.declared.contract.Stage.{Ghosts as Stage}
 use Rattle.hum_turns.specs.Turns.{state, can, ready}
 use Rattle.hum_turns.proofs.States.{reads_bytes}
 use Rattle.hum_turns.proofs.Near.{step_does}
 use Rattle.hum_nodes.specs.Doing.{Doing}
-use Rattle.hum_stage.specs.Meaning.{Moment as StageMoment}
-use Rattle.hum_nodes.specs.At.{At, holds_of}
+use Rattle.hum_nodes.specs.At.{holds_of}
 use Rattle.hum_nodes.specs.declared.node.Node.{Node}
-use Rattle.hum_nodes.specs.Nodes.{is_source, StandsAs, remaining_of, ended_of, calls_of, failed_of}
+use Rattle.hum_nodes.specs.Nodes.{is_source, remaining_of, ended_of, calls_of, failed_of}
 use Rattle.hum_nodes.specs.Polls.{HasStayed, is_failed_read}
 use Rattle.hum_read.specs.declared.ReadError.{ReadError}
 use Rattle.hum_nodes.proofs.Standing.{stage_bytes, nothing_read, no_mark, no_call, no_end, no_rest}
-use Rattle.hum_engine.specs.Readers.{or_none, remaining_at, ended_at}
+use Rattle.hum_engine.specs.Readers.{or_none, remaining_at, ended_at, HasReadNone}
 use Rattle.hum_engine.specs.declared.web.Web.{Web}
 use Rattle.hum_record.specs.Row.{Row}
 use Rattle.hum_turns.specs.Links.{Moment}
@@ -38,57 +39,57 @@ not_ended n e h = false≢true (sym (no_end (λ r. None) (λ r. 0) (λ r. false)
 same_rest : (b : Bool) (r : List ℕ) → (if b then [] ++ r else r) ≡ r
 same_rest b r = grind arith
 
-unfed : {S R : Type 0} {stands : Node S R → List ℕ → At → Type 0} {k : ℕ} {web : Web S R} (s : Scene)
-    → MayTurn stands k web (before [] k s) → MayTurn stands k web s
-unfed {S} {R} {stands} {k} {web} s may =
-    subst (λ (rests : ℕ → List ℕ). MayTurn stands k web (record s { rests = rests }))
+unfed : {S R : Type 0} {stage : Stage S} {k : ℕ} {web : Web S R} (s : Scene)
+    → MayTurn stage k web (before [] k s) → MayTurn stage k web s
+unfed {S} {R} {stage} {k} {web} s may =
+    subst (λ (rests : ℕ → List ℕ). MayTurn stage k web (record s { rests = rests }))
     (λ j i. same_rest (nat_eq i k) (s.rests i) j) may
 
-module _ {S R : Type 0} {stands : Node S R → List ℕ → At → Type 0} {k : ℕ} {web : Web S R} {s : Scene} where
+module _ {S R : Type 0} {stage : Stage S} {k : ℕ} {web : Web S R} {s : Scene} where
   -- a stage of one scene is one of each
-  pub stage_too : {here : Scene} → HasActor stands k web here → IsActor stands k web s → HasActor stands k web s
+  pub stage_too : {here : Scene} → HasActor stage k web here → IsActor stage k web s → HasActor stage k web s
   stage_too h a = record { at = a.at; less = omega (arith, h.less, h.at.stand.count, a.at.stand.count) }
 
-  pub actor_of : MayTurn stands k web s → HasActor stands k web s
+  pub actor_of : MayTurn stage k web s → HasActor stage k web s
   actor_of may = record { at = may.at; less = may.less }
 
-  pub kind_at : {node : Node S R} {b : Bool} → HasActor stands k web s → node ≡ get_or web.nodes.items k node
+  pub kind_at : {node : Node S R} {b : Bool} → HasActor stage k web s → node ≡ get_or web.nodes.items k node
       → is_source node ≡ b → IsKind b k web
   kind_at h e is = one_kind k web (node_at h.less h.at.stand e) is
 
   module _ {doing : Doing} where
     -- whether a stage that isn't a source is ready
-    pub stage_ready : IsAbout stands k doing web s
+    pub stage_ready : IsAbout stage k doing web s
         → ready (plan_of s) s.size s.links k ≡ can s.size s.links k (state (plan_of s) s.links k)
     stage_ready a = grind (arith, nat_tests, a.bytes)
 
     -- and what it may do then
-    pub may_of : IsAbout stands k doing web s → can s.size s.links k (state (plan_of s) s.links k) ≡ true
-        → MayAct stands k doing web s
+    pub may_of : IsAbout stage k doing web s → can s.size s.links k (state (plan_of s) s.links k) ≡ true
+        → MayAct stage k doing web s
     may_of a can = record { at = a.at; less = a.less; bytes = a.bytes; does = a.does; can = can }
 
-    pub actor_by : IsAbout stands k doing web s → HasActor stands k web s
+    pub actor_by : IsAbout stage k doing web s → HasActor stage k web s
     actor_by a = record { at = a.at; less = a.less }
 
-    pub about_of : MayAct stands k doing web s → IsAbout stands k doing web s
+    pub about_of : MayAct stage k doing web s → IsAbout stage k doing web s
     about_of may = record { at = may.at; less = may.less; bytes = may.bytes; does = may.does }
 
-    pub acting : IsAbout stands k doing web s → ready (plan_of s) s.size s.links k ≡ true
-        → MayAct stands k doing web s
+    pub acting : IsAbout stage k doing web s → ready (plan_of s) s.size s.links k ≡ true
+        → MayAct stage k doing web s
     acting a h = may_of a (sym (stage_ready a) ∙ h)
 
-    pub turn_of : IsAbout stands k doing web s → can s.size s.links k (state (plan_of s) s.links k) ≡ true
-        → MayTurn stands k web s
+    pub turn_of : IsAbout stage k doing web s → can s.size s.links k (state (plan_of s) s.links k) ≡ true
+        → MayTurn stage k web s
     turn_of a can = record { at = a.at; less = a.less; ready = stage_ready a ∙ can }
 
 -- A turn of a stage that isn't a source.
-pub stage_fed : {S R : Type 0} {stage : S → StageMoment → Type 0} {tells : R → Option (List ℕ)} {k : ℕ}
-    {old new : Web S R} {here : Scene} → MayTurn (StandsAs stage) k old here → IsKind false k old
-    → ((s : Scene) → MayTurn (StandsAs stage) k old s → Done (StandsAs stage) k (state (plan_of s) s.links k) new s)
-    → Keeps k old new → Fed (StandsAs stage) tells k old new
-stage_fed {S} {R} {stage} {tells} {k} {old} {new} {here} may kind does keep =
-    let node = node_of (StandsAs stage) k old here may.less may.at.stand in
-    let after = node_of (StandsAs stage) k new (moved here (does here may).new) may.less (does here may).stand in
+pub stage_fed : {S R : Type 0} {stage : Stage S} {reader : Source R} {k : ℕ}
+    {old new : Web S R} {here : Scene} → MayTurn stage k old here → IsKind false k old
+    → ((s : Scene) → MayTurn stage k old s → Done stage k (state (plan_of s) s.links k) new s)
+    → Keeps k old new → Fed stage reader k old new
+stage_fed {S} {R} {stage} {reader} {k} {old} {new} {here} may kind does keep =
+    let node = node_of stage k old here may.less may.at.stand in
+    let after = node_of stage k new (moved here (does here may).new) may.less (does here may).stand in
     let was = kind node.0 node.1 in
     record {
       node = node.0;
@@ -97,13 +98,13 @@ stage_fed {S} {R} {stage} {tells} {k} {old} {new} {here} may kind does keep =
       is = after.1;
       others = keep.others;
       read = [];
-      consumes = nothing_read tells (λ r. 0) (λ r. false) node.0 after.0 was;
+      consumes = nothing_read reader.remaining reader.calls reader.failed node.0 after.0 was;
       at_end = λ e. absurd (not_ended after.0 (keep.kind after.0 after.1) e);
       still = λ e. absurd (not_ended node.0 was e);
       turns = λ s last m.
           let u = unfed s m in
           let d = does s u in
-          let none = stage_bytes stage node.0 (s.rests k) _ was (u.at.stand.nodes k node.0 node.1) in
+          let none = stage_bytes stage.stands node.0 (s.rests k) _ was (u.at.stand.nodes k node.0 node.1) in
           record {
             new = d.new;
             step = step_does (plan_of s) s.size k (state (plan_of s) s.links k) s.links d.new
@@ -115,48 +116,50 @@ stage_fed {S} {R} {stage} {tells} {k} {old} {new} {here} may kind does keep =
     }
 
 -- A stage that isn't a source has no reader, and shows none.
-quiet : {S R : Type 0} (tells : R → Option (List ℕ)) (calls : R → ℕ) (failed : R → Bool) (k : ℕ) (web : Web S R)
+quiet : {S R : Type 0} (reader : Source R) (k : ℕ) (web : Web S R)
     → IsKind false k web → (o : Option (Node S R)) → slice_get web.nodes.items k ≡ o
-    → (or_none false (failed_of failed) o ≡ false) × (or_none 0 (calls_of calls) o ≡ 0)
-    × (or_none false ended_of o ≡ false) × (or_none None (remaining_of tells) o ≡ None)
-quiet tells calls failed k web kind None e = (refl, refl, refl, refl)
-quiet tells calls failed k web kind (Some n) e =
-    let is = kind n e in
-    (no_mark tells calls failed n is, no_call tells calls failed n is, no_end tells calls failed n is, no_rest tells calls failed n is)
+    → (or_none false (failed_of reader.failed) o ≡ false) × (or_none 0 (calls_of reader.calls) o ≡ 0)
+    × (or_none false ended_of o ≡ false) × (or_none None (remaining_of reader.remaining) o ≡ None)
+quiet reader k web kind None e = (refl, refl, refl, refl)
+quiet reader k web kind (Some n) e =
+    let is = kind n e in (
+      no_mark reader.remaining reader.calls reader.failed n is,
+      no_call reader.remaining reader.calls reader.failed n is,
+      no_end reader.remaining reader.calls reader.failed n is,
+      no_rest reader.remaining reader.calls reader.failed n is,
+    )
 
 on_err : {A E P : Type 0} (r : Result A E) → P → OnErr r P
 on_err (Ok x) h = tt
 on_err (Err e) h = h
 
-act_stays : {S R : Type 0} (tells : R → Option (List ℕ)) {k : ℕ} {old new : Web S R} → IsKind false k old → Keeps k old new
-    → HasStayed (ended_at k old.nodes.items) (ended_at k new.nodes.items)
-    (remaining_at tells k old.nodes.items) (remaining_at tells k new.nodes.items)
-act_stays tells {k} {old} {new} was keep =
-    let a = quiet tells (λ r. 0) (λ r. false) k old was _ refl in
-    let b = quiet tells (λ r. 0) (λ r. false) k new keep.kind _ refl in
+act_stays : {S R : Type 0} (reader : Source R) {k : ℕ} {old new : Web S R} → IsKind false k old → Keeps k old new
+    → HasReadNone reader k old.nodes.items new.nodes.items
+act_stays reader {k} {old} {new} was keep =
+    let a = quiet reader k old was _ refl in
+    let b = quiet reader k new keep.kind _ refl in
     rw (a.2, b.2, a.3, b.3)
     (record { consumes = tt; at_end = λ e. absurd (false≢true e); still = λ e. absurd (false≢true e) })
 
-module _ {S R : Type 0} {tells : R → Option (List ℕ)} {failed : R → Bool} {k : ℕ} {old new : Web S R}
-    (was : IsKind false k old) (keep : Keeps k old new) where
-  pub asks_none : new.links ≡ old.links → AsksNone tells failed k old new
+module _ {S R : Type 0} {reader : Source R} {k : ℕ} {old new : Web S R} (was : IsKind false k old) (keep : Keeps k old new) where
+  pub asks_none : new.links ≡ old.links → AsksNone reader k old new
   asks_none links = record {
     others = keep.others;
     links = links;
-    marks = (quiet tells (λ r. 0) failed k new keep.kind _ refl).0 ∙ sym (quiet tells (λ r. 0) failed k old was _ refl).0;
-    stays = act_stays tells was keep;
+    marks = (quiet reader k new keep.kind _ refl).0 ∙ sym (quiet reader k old was _ refl).0;
+    stays = act_stays reader was keep;
   }
 
-  pub asks_no_one : {A : Type 0} {calls : R → ℕ} (told : Result A ReadError) → is_failed_read told ≡ false
-      → AsksOne tells calls failed k old new told
-  asks_no_one {A} {calls} told none =
-      let a = quiet tells calls failed k old was _ refl in
-      let b = quiet tells calls failed k new keep.kind _ refl in
+  pub asks_no_one : {A : Type 0} (told : Result A ReadError) → is_failed_read told ≡ false
+      → AsksOne reader k old new told
+  asks_no_one told none =
+      let a = quiet reader k old was _ refl in
+      let b = quiet reader k new keep.kind _ refl in
       record {
         others = keep.others;
         marks = b.0 ∙ ap₂ (λ x y. x || y) (sym a.0) (sym none);
         once = inl (b.1 ∙ sym a.1, b.0 ∙ sym a.0);
-        stays = on_err told (act_stays tells was keep);
+        stays = on_err told (act_stays reader was keep);
       }
 
 -- How many records wait inside a stage.

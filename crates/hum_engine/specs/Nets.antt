@@ -4,7 +4,10 @@ use Rattle.std.specs.Prelude.{Bool, true, false, ◌||◌, if◌then◌else◌, 
 use Rattle.std.specs.Prelude.{Option, Some, None, IfSome, is_some, slice_get, Result, Ok, Err}
 use Rattle.std.specs.Io.KnownBytes.{Appends}
 use Rattle.hum_text.specs.Calls.{counted}
+use Rattle.hum_text.specs.declared.calls.Source.{Ghosts as Source}
+use Rattle.hum_text.specs.declared.calls.Sink.{Ghosts as Sink}
 use Rattle.hum_record.specs.Row.{Row, text_of}
+use Rattle.hum_stage.specs.declared.contract.Stage.{Ghosts as Stage}
 use Rattle.hum_stage.specs.declared.faults.End.{End}
 use Rattle.hum_stage.specs.declared.faults.End.TheVariants.{Closed, Broken}
 use Rattle.hum_turns.specs.declared.result.RunResult.{RunResult}
@@ -14,6 +17,7 @@ use Rattle.hum_turns.specs.Plan.{Plan, KeepsFine, last}
 use Rattle.hum_turns.specs.Meaning.{plan_meaning, first_fault, IsNumbered}
 use Rattle.hum_turns.specs.Orders.{Order, Driven, LeansTo, ready_list, choice}
 use Rattle.hum_turns.specs.declared.order.Side.TheVariants as side
+use Rattle.hum_turns.specs.declared.order.Order.{Ghosts as Orders}
 use Rattle.hum_turns.specs.Links.{Moment, has_room, has_some}
 use Rattle.hum_turns.specs.Turns.{Gives, Takes, state}
 use Rattle.hum_turns.specs.Turns.{is_source as reads_bytes}
@@ -21,9 +25,7 @@ use Rattle.hum_turns.specs.Near.{touched}
 use Rattle.hum_turns.specs.Text.{text}
 use Rattle.hum_turns.specs.Failures.{Now, MayFail, Turn, Walk, IsFirst, IsFailure}
 use Rattle.hum_turns.specs.Failures.{written, is_ready, result, result_of}
-use Rattle.hum_nodes.specs.At.{At}
 use Rattle.hum_nodes.specs.Fine.{fine, IsFine}
-use Rattle.hum_nodes.specs.Polls.{HasRead, AsksAtMostOnce}
 use Rattle.hum_nodes.specs.declared.node.Node.{Node}
 use Rattle.hum_nodes.specs.Nodes.{is_source, remaining_of}
 use Rattle.hum_read.specs.declared.ReadError.{ReadError}
@@ -34,7 +36,7 @@ use Rattle.hum_engine.specs.declared.net.Net.{Net}
 use Rattle.hum_engine.specs.declared.net.Turned.{Turned}
 use Rattle.hum_engine.specs.declared.net.Stepped.{Stepped as Step}
 use Rattle.hum_engine.specs.declared.net.Stepped.TheVariants as steps
-use Rattle.hum_engine.specs.Readers.{ended_at, remaining_at, calls_at, failed_at, is_read_of, is_write, ShowsSame}
+use Rattle.hum_engine.specs.Readers.{ended_at, failed_at, is_read_of, is_write, ShowsSame, HaveRead, AsksOnce}
 use Rattle.hum_engine.specs.Scene.{Scene, plan_of, moved, before_all, Stands, IsAt, IsNetPlan, IsBegun, Done}
 use Rattle.hum_engine.specs.Scene.{IsActor, AreTakers, TakesFrom, IsFull, HasRoom, IsWaiting, IsHanding, HandsOut}
 use Rattle.hum_engine.specs.Scene.{KeepsOthers}
@@ -43,22 +45,22 @@ use Rattle.hum_engine.specs.Writing.{WroteFront as WroteSome}
 use Rattle.hum_engine.specs.Search.{IsNearer, left_to_ask}
 
 -- A record was written. Where that has failed a prefix of it was, and the run is over.
-pub record HasSent {S R W : Type 0} (contents : W → Option (List ℕ)) (failed : W → Bool) (calls : W → ℕ) (row : Row)
-    (old new : Net S R W) (is_over : Bool) : Type 0 where
+pub record HasSent {S R W : Type 0} (writer : Sink W) (row : Row) (old new : Net S R W) (is_over : Bool)
+    : Type 0 where
   pub net : new ≡ record old {
     sink = new.sink;
     failure = if is_over then Some ends.Write else old.failure;
   }
-  pub whole : is_over ≡ false → Appends (contents old.sink) (contents new.sink) (text_of row ++ 10 ∷ [])
-  pub part : is_over ≡ true → WroteSome (contents old.sink) (contents new.sink) (text_of row ++ 10 ∷ [])
-  pub marked : failed new.sink ≡ (failed old.sink || is_over)
-  pub few : calls new.sink ≤ calls old.sink + length (text_of row ++ 10 ∷ [])
+  pub whole : is_over ≡ false → Appends (writer.contents old.sink) (writer.contents new.sink) (text_of row ++ 10 ∷ [])
+  pub part : is_over ≡ true → WroteSome (writer.contents old.sink) (writer.contents new.sink) (text_of row ++ 10 ∷ [])
+  pub marked : writer.failed new.sink ≡ (writer.failed old.sink || is_over)
+  pub few : writer.calls new.sink ≤ writer.calls old.sink + length (text_of row ++ 10 ∷ [])
 
 -- The sink has taken what came next, and has written the text of that; behind the end it was flushed,
 -- and the run is over.
-pub record Sent {S R : Type 0} (stands : Node S R → List ℕ → At → Type 0) (old new : Option (List ℕ))
-    (flushed is_over : Bool) (web : Web S R) (s : Scene) : Type 0 where
-  pub done : Done stands s.count (Takes (last (plan_of s))) web s
+pub record Sent {S R : Type 0} (stage : Stage S) (old new : Option (List ℕ)) (flushed is_over : Bool)
+    (web : Web S R) (s : Scene) : Type 0 where
+  pub done : Done stage s.count (Takes (last (plan_of s))) web s
   pub sent : List ℕ
   pub appends : Appends old new sent
   pub taken : text text_of (done.new (last (plan_of s))).taken
@@ -78,22 +80,20 @@ abbrev pub CallsSink : ℕ → ℕ → List Row → Type 0
 CallsSink old new (row ∷ rows) = new ≤ old + length (text_of row ++ 10 ∷ [])
 CallsSink old new [] = new ≡ counted old
 
-abbrev pub SinkWent : {S R : Type 0} → (Node S R → List ℕ → At → Type 0) → Option RunResult
-    → Option (List ℕ) → Option (List ℕ) → Bool → Bool → Web S R → Scene → Type 0
-SinkWent stands None old new flushed is_over web s = Sent stands old new flushed is_over web s
-SinkWent stands (Some by) old new flushed is_over web s =
+abbrev pub SinkWent : {S R : Type 0} → Stage S → Option RunResult → Option (List ℕ) → Option (List ℕ) → Bool → Bool
+    → Web S R → Scene → Type 0
+SinkWent stage None old new flushed is_over web s = Sent stage old new flushed is_over web s
+SinkWent stage (Some by) old new flushed is_over web s =
     Failed s.count by old new s × (is_over ≡ true)
 
 -- the sink is ready
-pub record MayWrite {S R : Type 0} (stands : Node S R → List ℕ → At → Type 0) (web : Web S R)
-    (s : Scene) : Type 0 where
-  pub at : IsAt stands web s
+pub record MayWrite {S R : Type 0} (stage : Stage S) (web : Web S R) (s : Scene) : Type 0 where
+  pub at : IsAt stage web s
   pub some : has_some (s.links (last (plan_of s))) ≡ true
 
 -- What a net stands for: a moment that turns have led to, written behind what the sink held at
 -- first, and flushed once the end was heard.
-pub record NetAt {S R W : Type 0} (stands : Node S R → List ℕ → At → Type 0)
-    (contents : W → Option (List ℕ)) (flushed : W → Bool) (start : Option (List ℕ)) (s : Scene)
+pub record NetAt {S R W : Type 0} (stage : Stage S) (writer : Sink W) (start : Option (List ℕ)) (s : Scene)
     (net : Net S R W) (now : Now Row) : Type 0 where
   pub plan : IsNetPlan s.count s.kinds s.size
   pub first : Now Row
@@ -103,73 +103,64 @@ pub record NetAt {S R W : Type 0} (stands : Node S R → List ℕ → At → Typ
   pub counted : net.turns ≡ length turns
   pub actors : length net.actors.items ≡ s.count + 1
   pub takers : AreTakers s.count s.kinds net.takers.items
-  pub going : now.failure ≡ None → Stands stands net.web (moved s now.links)
+  pub going : now.failure ≡ None → Stands stage net.web (moved s now.links)
   pub failure : net.failure ≡ now.failure
-  pub written : Appends start (contents net.sink) (written (plan_of s) text_of now)
+  pub written : Appends start (writer.contents net.sink) (written (plan_of s) text_of now)
   pub is_flushed : (e : End) → now.failure ≡ None → (now.links (last (plan_of s))).heard ≡ Some e
-      → flushed net.sink ≡ true
+      → writer.flushed net.sink ≡ true
 
 -- This holds of each moment that a net stands for: of what the sink held at first, the scene and the
 -- moment.
-abbrev pub AtEach : {S R W : Type 0} → (Node S R → List ℕ → At → Type 0) → (W → Option (List ℕ))
-    → (W → Bool) → Net S R W → (Option (List ℕ) → Scene → Now Row → Type 0) → Type 0
-AtEach stands contents flushed net Holds =
+abbrev pub AtEach : {S R W : Type 0} → Stage S → Sink W → Net S R W
+    → (Option (List ℕ) → Scene → Now Row → Type 0) → Type 0
+AtEach stage writer net Holds =
     (start : Option (List ℕ)) (s : Scene) (now : Now Row)
-    → NetAt stands contents flushed start s net now → Holds start s now
+    → NetAt stage writer start s net now → Holds start s now
 
 -- Nothing comes behind the end of a source that was read.
 abbrev pub AreOver : {S R : Type 0} → List (Node S R) → (ℕ → List ℕ) → Type 0
 AreOver nodes rests = (k : ℕ) → ended_at k nodes ≡ true → rests k ≡ []
 
 -- an actor that is ready
-pub record MayGo {S R W : Type 0} (stands : Node S R → List ℕ → At → Type 0)
-    (contents : W → Option (List ℕ)) (flushed : W → Bool) (k : ℕ) (net : Net S R W) : Type 0 where
+pub record MayGo {S R W : Type 0} (stage : Stage S) (writer : Sink W) (k : ℕ) (net : Net S R W) : Type 0 where
   pub start : Option (List ℕ)
   pub scene : Scene
   pub now : Now Row
-  pub at : NetAt stands contents flushed start scene net now
+  pub at : NetAt stage writer start scene net now
   pub within : k ≤ scene.count
   pub ready : is_ready (plan_of scene) scene.size now k ≡ true
 
 -- a turn, what the net stands for after it, and whether the run is over then
-pub record GoesTo {S R W : Type 0} (stands : Node S R → List ℕ → At → Type 0)
-    (contents : W → Option (List ℕ)) (flushed : W → Bool) (start : Option (List ℕ)) (s : Scene)
+pub record GoesTo {S R W : Type 0} (stage : Stage S) (writer : Sink W) (start : Option (List ℕ)) (s : Scene)
     (k : ℕ) (now : Now Row) (net : Net S R W) (is_over : Bool) : Type 0 where
   pub to : Now Row
   pub turn : Turn (plan_of s) s.size text_of k now to
-  pub at : NetAt stands contents flushed start s net to
+  pub at : NetAt stage writer start s net to
   pub tells : is_over ≡ is_some (result (plan_of s) to)
 
 -- The actor has had its turn: a source has read these bytes, no other source any. However they go
 -- on, the plan that the net stood for goes on by one turn of this actor, and is over or isn't.
-pub record HasTurned {S R W : Type 0} (stands : Node S R → List ℕ → At → Type 0)
-    (remaining : R → Option (List ℕ))
-    (contents : W → Option (List ℕ)) (flushed : W → Bool) (k : ℕ) (old new : Net S R W)
-    (is_over : Bool) : Type 0 where
+pub record HasTurned {S R W : Type 0} (stage : Stage S) (reader : Source R) (writer : Sink W) (k : ℕ)
+    (old new : Net S R W) (is_over : Bool) : Type 0 where
   pub reads : ℕ → List ℕ
   pub others : (i : ℕ) → i ≢ k → reads i ≡ []
-  pub read : (i : ℕ)
-      → HasRead (ended_at i old.web.nodes.items) (ended_at i new.web.nodes.items)
-      (remaining_at remaining i old.web.nodes.items) (remaining_at remaining i new.web.nodes.items)
-      (reads i)
+  pub read : HaveRead reader old.web.nodes.items new.web.nodes.items reads
   pub turns : (start : Option (List ℕ)) (s : Scene) (now : Now Row)
       → AreOver new.web.nodes.items s.rests
-      → NetAt stands contents flushed start (before_all reads s) old now → k ≤ s.count
+      → NetAt stage writer start (before_all reads s) old now → k ≤ s.count
       → is_ready (plan_of s) s.size now k ≡ true
-      → GoesTo stands contents flushed start s k now new is_over
+      → GoesTo stage writer start s k now new is_over
 
 -- it stands for some moment
-pub record IsRunning {S R W : Type 0} (stands : Node S R → List ℕ → At → Type 0)
-    (contents : W → Option (List ℕ)) (flushed : W → Bool) (net : Net S R W) : Type 0 where
+pub record IsRunning {S R W : Type 0} (stage : Stage S) (writer : Sink W) (net : Net S R W) : Type 0 where
   pub start : Option (List ℕ)
   pub scene : Scene
   pub now : Now Row
-  pub at : NetAt stands contents flushed start scene net now
+  pub at : NetAt stage writer start scene net now
 
 -- and this is one of its actors
-pub record IsAmong {S R W : Type 0} (stands : Node S R → List ℕ → At → Type 0)
-    (contents : W → Option (List ℕ)) (flushed : W → Bool) (k : ℕ) (net : Net S R W) : Type 0 where
-  pub running : IsRunning stands contents flushed net
+pub record IsAmong {S R W : Type 0} (stage : Stage S) (writer : Sink W) (k : ℕ) (net : Net S R W) : Type 0 where
+  pub running : IsRunning stage writer net
   pub within : k ≤ running.scene.count
 
 -- Stage k reads bytes or gives next, and its link is full: so it stays until a record is taken from that.
@@ -198,32 +189,33 @@ Sees None s now net = net.actors.items ≡ ready_list (plan_of s) s.size now
 Sees (Some look) s now net = IsFront look s now
 
 -- While the run goes on, an actor is picked by that.
-pub record MayPick {S R W : Type 0} (stands : Node S R → List ℕ → At → Type 0)
-    (contents : W → Option (List ℕ)) (flushed : W → Bool) (look : Option Search)
-    (net : Net S R W) : Type 0 where
-  pub running : IsRunning stands contents flushed net
+pub record MayPick {S R W : Type 0} (stage : Stage S) (writer : Sink W) (look : Option Search) (net : Net S R W)
+    : Type 0 where
+  pub running : IsRunning stage writer net
   pub going : result (plan_of running.scene) running.now ≡ None
   pub sees : Sees look running.scene running.now net
 
 -- While the run goes on, this actor may be asked.
-pub record MayAsk {S R W : Type 0} (stands : Node S R → List ℕ → At → Type 0)
-    (contents : W → Option (List ℕ)) (flushed : W → Bool) (k : ℕ) (net : Net S R W) : Type 0 where
-  pub running : IsRunning stands contents flushed net
+pub record MayAsk {S R W : Type 0} (stage : Stage S) (writer : Sink W) (k : ℕ) (net : Net S R W) : Type 0 where
+  pub running : IsRunning stage writer net
   pub going : result (plan_of running.scene) running.now ≡ None
   pub within : k ≤ running.scene.count
 
+-- the order that a type of orders stands for
+abbrev pub order_of : {O : Type 0} → Orders O → Order O
+order_of o = record { pick = o.picks; next = o.after }
+
 -- The actor is the order's choice, and the order has gone on by its pick.
-pub record HasPicked {O : Type 0} (order : Order O) (plan : Plan Row) (size : ℕ) (o p : O)
-    (now : Now Row) (actor : ℕ) : Type 0 where
+pub record HasPicked {O : Type 0} (order : Order O) (plan : Plan Row) (size : ℕ) (o p : O) (now : Now Row)
+    (actor : ℕ) : Type 0 where
   pub choice : actor ≡ choice order plan size o now
   pub next : p ≡ order.next o (ready_list plan size now)
 
 -- The actor that is asked next: where the search stands or, without one, the order's pick.
-pub record IsNext {S R W O : Type 0} (stands : Node S R → List ℕ → At → Type 0)
-    (contents : W → Option (List ℕ)) (flushed : W → Bool) (order : Order O) (o p : O) (look : Option Search)
-    (net : Net S R W) (actor : ℕ) : Type 0 where
+pub record IsNext {S R W O : Type 0} (stage : Stage S) (writer : Sink W) (order : Order O) (o p : O)
+    (look : Option Search) (net : Net S R W) (actor : ℕ) : Type 0 where
   pub from : IfSome look (λ look. (actor ≡ look.from) × (p ≡ o))
-  pub picked : look ≡ None → AtEach stands contents flushed net (λ start s now. result (plan_of s) now ≡ None
+  pub picked : look ≡ None → AtEach stage writer net (λ start s now. result (plan_of s) now ≡ None
       → Sees None s now net → HasPicked order (plan_of s) s.size o p now actor)
 
 -- how stage k ends a run by this
@@ -253,111 +245,95 @@ abbrev pub IsChanged : ℕ → Scene → Option RunResult → ℕ → Type 0
 IsChanged k s failure link =
     (link ≡ touched k (state (plan_of s) s.links k)) ⊎ ((link ≡ k) × (failure ≢ None))
 
--- The actor has had its turn, which tells what it has come to. A failed read or write ends the run
--- exactly where a call has failed, and nothing else of the net has changed.
-pub record HasGone {S R W : Type 0} (stands : Node S R → List ℕ → At → Type 0)
-    (remaining : R → Option (List ℕ)) (failed : R → Bool) (contents : W → Option (List ℕ))
-    (flushed broken : W → Bool) (k : ℕ) (old new : Net S R W) (answer : Turned) : Type 0 where
-  pub turned : HasTurned stands remaining contents flushed k old new answer.is_over
-  pub link : (s : Scene) → IsActor stands k old.web s → IsChanged k s new.failure answer.link
-  pub reads : (i : ℕ) → failed_at failed i new.web.nodes.items
-      ≡ (failed_at failed i old.web.nodes.items || is_read_of i new.failure)
-  pub writes : broken new.sink ≡ (broken old.sink || is_write new.failure)
+-- A failed read or write has ended the run exactly where a call has failed; who takes from whom is as it was.
+pub record MarksFailures {S R W : Type 0} (reader : Source R) (writer : Sink W) (old new : Net S R W)
+    : Type 0 where
+  pub reads : (i : ℕ) → failed_at reader i new.web.nodes.items
+      ≡ (failed_at reader i old.web.nodes.items || is_read_of i new.failure)
+  pub writes : writer.failed new.sink ≡ (writer.failed old.sink || is_write new.failure)
+  pub takers : new.takers ≡ old.takers
+
+-- The actor has had its turn, which tells what it has come to.
+pub record HasGone {S R W : Type 0} (stage : Stage S) (reader : Source R) (writer : Sink W) (k : ℕ)
+    (old new : Net S R W) (answer : Turned) : Type 0 where
+  pub turned : HasTurned stage reader writer k old new answer.is_over
+  pub link : (s : Scene) → IsActor stage k old.web s → IsChanged k s new.failure answer.link
+  pub marks : MarksFailures reader writer old new
   pub turns : new.turns ≡ old.turns + 1
   pub actors : new.actors ≡ old.actors
-  pub takers : new.takers ≡ old.takers
   pub full : answer.is_full ≡ true → IsFull k new.web
   pub room : answer.has_taken ≡ true → (answer.link < k) × HasRoom answer.link new.web
 
 -- Actor k was ready and has had its turn, in which it has changed this link.
-pub record HasMoved {S R W : Type 0} (stands : Node S R → List ℕ → At → Type 0)
-    (remaining : R → Option (List ℕ)) (contents : W → Option (List ℕ)) (flushed : W → Bool)
-    (k link : ℕ) (old new : Net S R W) (is_over : Bool) : Type 0 where
-  pub ready : AtEach stands contents flushed old (λ start s now. result (plan_of s) now ≡ None
+pub record HasMoved {S R W : Type 0} (stage : Stage S) (reader : Source R) (writer : Sink W) (k link : ℕ)
+    (old new : Net S R W) (is_over : Bool) : Type 0 where
+  pub ready : AtEach stage writer old (λ start s now. result (plan_of s) now ≡ None
       → is_ready (plan_of s) s.size now k ≡ true)
-  pub turned : HasTurned stands remaining contents flushed k old new is_over
-  pub changes : (s : Scene) → IsActor stands k old.web s → IsChanged k s new.failure link
+  pub turned : HasTurned stage reader writer k old new is_over
+  pub changes : (s : Scene) → IsActor stage k old.web s → IsChanged k s new.failure link
   pub turns : new.turns ≡ old.turns + 1
 
 -- Stage k has given a record onto its link, and actor t has taken it from there: the net between the two.
-pub record HasHandedOn {S R W : Type 0} (stands : Node S R → List ℕ → At → Type 0)
-    (remaining : R → Option (List ℕ)) (contents : W → Option (List ℕ)) (flushed : W → Bool) (k t : ℕ)
+pub record HasHandedOn {S R W : Type 0} (stage : Stage S) (reader : Source R) (writer : Sink W) (k t : ℕ)
     (old new : Net S R W) (is_over : Bool) : Type 0 where
   pub between : Net S R W
-  pub given : HasMoved stands remaining contents flushed k k old between false
-  pub taken : HasMoved stands remaining contents flushed t k between new is_over
+  pub given : HasMoved stage reader writer k k old between false
+  pub taken : HasMoved stage reader writer t k between new is_over
   pub takers : between.takers ≡ old.takers
   pub waits : IsWaiting k new.web → IsWaiting k between.web
 
--- A failed read or write has ended the run exactly where a call has failed; who takes from whom is as it was.
-pub record MarksFailures {S R W : Type 0} (failed : R → Bool) (broken : W → Bool) (old new : Net S R W)
-    : Type 0 where
-  pub reads : (i : ℕ) → failed_at failed i new.web.nodes.items
-      ≡ (failed_at failed i old.web.nodes.items || is_read_of i new.failure)
-  pub writes : broken new.sink ≡ (broken old.sink || is_write new.failure)
-  pub takers : new.takers ≡ old.takers
-
 -- Stage k has had its turn and has given this record, which is in hand and lies nowhere as yet.
-pub record HasInHand {S R W : Type 0} (stands : Node S R → List ℕ → At → Type 0) (remaining : R → Option (List ℕ))
-    (failed : R → Bool) (k : ℕ) (old new : Net S R W) (row : Row) : Type 0 where
+pub record HasInHand {S R W : Type 0} (stage : Stage S) (reader : Source R) (k : ℕ) (old new : Net S R W)
+    (row : Row) : Type 0 where
   pub net : new ≡ record old { web = new.web; turns = old.turns + 1 }
-  pub out : HandsOut stands remaining k row old.web new.web
+  pub out : HandsOut stage reader k row old.web new.web
   pub others : KeepsOthers k old.web new.web
-  pub marks : failed_at failed k new.web.nodes.items ≡ failed_at failed k old.web.nodes.items
+  pub marks : failed_at reader k new.web.nodes.items ≡ failed_at reader k old.web.nodes.items
 
 -- It has had its turn, and no record has come of it. The run is over where that has failed.
-pub record HasGoneAlone {S R W : Type 0} (stands : Node S R → List ℕ → At → Type 0) (remaining : R → Option (List ℕ))
-    (failed : R → Bool) (contents : W → Option (List ℕ)) (flushed broken : W → Bool) (k : ℕ) (old new : Net S R W)
-    : Type 0 where
-  pub moved : HasMoved stands remaining contents flushed k k old new (is_some new.failure)
-  pub marks : MarksFailures failed broken old new
+pub record HasGoneAlone {S R W : Type 0} (stage : Stage S) (reader : Source R) (writer : Sink W) (k : ℕ)
+    (old new : Net S R W) : Type 0 where
+  pub moved : HasMoved stage reader writer k k old new (is_some new.failure)
+  pub marks : MarksFailures reader writer old new
 
 -- Stage k has handed a record on to actor t, and tells whether the run is over.
-pub record HasHanded {S R W : Type 0} (stands : Node S R → List ℕ → At → Type 0) (remaining : R → Option (List ℕ))
-    (failed : R → Bool) (contents : W → Option (List ℕ)) (flushed broken : W → Bool) (k t : ℕ) (old new : Net S R W)
-    (is_over : Bool) : Type 0 where
-  pub both : HasHandedOn stands remaining contents flushed k t old new is_over
-  pub marks : MarksFailures failed broken old new
+pub record HasHanded {S R W : Type 0} (stage : Stage S) (reader : Source R) (writer : Sink W) (k t : ℕ)
+    (old new : Net S R W) (is_over : Bool) : Type 0 where
+  pub both : HasHandedOn stage reader writer k t old new is_over
+  pub marks : MarksFailures reader writer old new
   pub turns : new.turns ≡ old.turns + 2
 
 -- In a turn of an actor its reader is called once at most, and no other. The sink is asked for no write
 -- but those of the record that it takes, or for one flush at the end; by a stage for nothing.
-pub record AsksLittle {S R W : Type 0} (stands : Node S R → List ℕ → At → Type 0)
-    (remaining : R → Option (List ℕ)) (calls : R → ℕ) (failed : R → Bool)
-    (contents : W → Option (List ℕ)) (flushed : W → Bool) (asked : W → ℕ) (k : ℕ)
+pub record AsksLittle {S R W : Type 0} (stage : Stage S) (reader : Source R) (writer : Sink W) (k : ℕ)
     (old new : Net S R W) : Type 0 where
-  pub once : AsksAtMostOnce (calls_at calls k old.web.nodes.items)
-      (failed_at failed k old.web.nodes.items) (calls_at calls k new.web.nodes.items)
-      (failed_at failed k new.web.nodes.items)
+  pub once : AsksOnce reader k old.web.nodes.items new.web.nodes.items
   pub others : (i : ℕ) → i ≢ k
-      → ShowsSame remaining calls failed old.web.nodes.items new.web.nodes.items i
+      → ShowsSame reader old.web.nodes.items new.web.nodes.items i
   pub sink : (start : Option (List ℕ)) (s : Scene) (now : Now Row)
-      → NetAt stands contents flushed start s old now → is_ready (plan_of s) s.size now k ≡ true
+      → NetAt stage writer start s old now → is_ready (plan_of s) s.size now k ≡ true
       → k ≡ s.count
-      → CallsSink (asked old.sink) (asked new.sink) (now.links (last (plan_of s))).waiting
+      → CallsSink (writer.calls old.sink) (writer.calls new.sink) (now.links (last (plan_of s))).waiting
   pub unasked : k ≢ length old.web.nodes.items → new.sink ≡ old.sink
 
 -- While the run goes on the actor isn't ready, and nothing has changed.
-pub record HasRested {S R W : Type 0} (stands : Node S R → List ℕ → At → Type 0)
-    (contents : W → Option (List ℕ)) (flushed : W → Bool) (k : ℕ) (old new : Net S R W) : Type 0 where
-  pub idle : AtEach stands contents flushed old (λ start s now. result (plan_of s) now ≡ None → k ≤ s.count
+pub record HasRested {S R W : Type 0} (stage : Stage S) (writer : Sink W) (k : ℕ) (old new : Net S R W)
+    : Type 0 where
+  pub idle : AtEach stage writer old (λ start s now. result (plan_of s) now ≡ None → k ≤ s.count
       → is_ready (plan_of s) s.size now k ≡ false)
   pub same : new ≡ old
 
 -- It is ready and has had its turn, in which it asks little.
-pub record HasWorked {S R W : Type 0} (stands : Node S R → List ℕ → At → Type 0)
-    (remaining : R → Option (List ℕ)) (calls : R → ℕ) (failed : R → Bool)
-    (contents : W → Option (List ℕ)) (flushed broken : W → Bool) (asked : W → ℕ) (k : ℕ)
+pub record HasWorked {S R W : Type 0} (stage : Stage S) (reader : Source R) (writer : Sink W) (k : ℕ)
     (old new : Net S R W) (answer : Turned) : Type 0 where
-  pub ready : AtEach stands contents flushed old (λ start s now. result (plan_of s) now ≡ None → k ≤ s.count
+  pub ready : AtEach stage writer old (λ start s now. result (plan_of s) now ≡ None → k ≤ s.count
       → is_ready (plan_of s) s.size now k ≡ true)
-  pub gone : HasGone stands remaining failed contents flushed broken k old new answer
-  pub little : AsksLittle stands remaining calls failed contents flushed asked k old new
+  pub gone : HasGone stage reader writer k old new answer
+  pub little : AsksLittle stage reader writer k old new
 
 -- one of its actors, while no failure has ended the run
-pub record IsGoing {S R W : Type 0} (stands : Node S R → List ℕ → At → Type 0)
-    (contents : W → Option (List ℕ)) (flushed : W → Bool) (k : ℕ) (net : Net S R W) : Type 0 where
-  pub running : IsRunning stands contents flushed net
+pub record IsGoing {S R W : Type 0} (stage : Stage S) (writer : Sink W) (k : ℕ) (net : Net S R W) : Type 0 where
+  pub running : IsRunning stage writer net
   pub going : running.now.failure ≡ None
   pub within : k ≤ running.scene.count
 
@@ -368,8 +344,7 @@ pub record WroteFront (s : Scene) (start held : Option (List ℕ)) : Type 0 wher
   pub appends : Appends start held part
 
 -- The plan's whole text was written, and flushed, and this is how the plan ends.
-pub record WroteAll (s : Scene) (start held : Option (List ℕ)) (flushed : Bool) (e : End)
-    : Type 0 where
+pub record WroteAll (s : Scene) (start held : Option (List ℕ)) (flushed : Bool) (e : End) : Type 0 where
   pub end : (plan_meaning (plan_of s)).end ≡ Some e
   pub appends : Appends start held (text text_of (plan_meaning (plan_of s)).items)
   pub is_flushed : flushed ≡ true
@@ -383,47 +358,41 @@ Outcome s start held flushed ends.Write = WroteFront s start held
 Outcome s start held flushed ends.Memory = WroteFront s start held
 
 -- The order's picks have led a net to a moment.
-pub record Leads {S R W O : Type 0} (stands : Node S R → List ℕ → At → Type 0)
-    (contents : W → Option (List ℕ)) (flushed : W → Bool) (order : Order O) (o p : O)
+pub record Leads {S R W O : Type 0} (stage : Stage S) (writer : Sink W) (order : Order O) (o p : O)
     (start : Option (List ℕ)) (s : Scene) (now : Now Row) (net : Net S R W) : Type 0 where
   pub turns : List ℕ
   pub to : Now Row
   pub driven : Driven order (plan_of s) s.size text_of o now turns to p
-  pub at : NetAt stands contents flushed start s net to
+  pub at : NetAt stage writer start s net to
 
 -- It is known whether the run is over and, while it isn't, who is ready.
-pub record Watches {S R W : Type 0} (look : Option Search) (is_over : Bool) (s : Scene)
-    (now : Now Row) (net : Net S R W) : Type 0 where
+pub record Watches {S R W : Type 0} (look : Option Search) (is_over : Bool) (s : Scene) (now : Now Row)
+    (net : Net S R W) : Type 0 where
   pub tells : is_over ≡ is_some (result (plan_of s) now)
   pub sees : result (plan_of s) now ≡ None → Sees look s now net
 
 -- A step of a run that goes on: the sources have read these bytes. However they go on, the order's
 -- picks have led the net on, and what is known of who is ready holds still.
-pub record HasStepped {S R W O : Type 0} (stands : Node S R → List ℕ → At → Type 0)
-    (remaining : R → Option (List ℕ)) (contents : W → Option (List ℕ))
-    (flushed : W → Bool) (order : Order O) (o p : O) (before after : Option Search)
-    (old new : Net S R W) (is_over : Bool) : Type 0 where
+pub record HasStepped {S R W O : Type 0} (stage : Stage S) (reader : Source R) (writer : Sink W)
+    (order : Order O) (o p : O) (before after : Option Search) (old new : Net S R W) (is_over : Bool)
+    : Type 0 where
   pub reads : ℕ → List ℕ
-  pub read : (i : ℕ)
-      → HasRead (ended_at i old.web.nodes.items) (ended_at i new.web.nodes.items)
-      (remaining_at remaining i old.web.nodes.items) (remaining_at remaining i new.web.nodes.items)
-      (reads i)
+  pub read : HaveRead reader old.web.nodes.items new.web.nodes.items reads
   pub goes : (start : Option (List ℕ)) (s : Scene) (now : Now Row)
       → AreOver new.web.nodes.items s.rests
-      → NetAt stands contents flushed start (before_all reads s) old now
+      → NetAt stage writer start (before_all reads s) old now
       → result (plan_of s) now ≡ None → Sees before s now old
-      → (d : Leads stands contents flushed order o p start s now new)
+      → (d : Leads stage writer order o p start s now new)
       × Watches after is_over s d.to new
 
 -- It has gone on by some turns, and the order leans there still. A failed read or write has ended it exactly where
 -- a call has failed.
-pub record HasAdvanced {S R W O : Type 0} (stands : Node S R → List ℕ → At → Type 0)
-    (remaining : R → Option (List ℕ)) (failed : R → Bool) (contents : W → Option (List ℕ))
-    (flushed broken : W → Bool) (order : Order O) (o p : O) (before after : Option Search)
-    (old new : Net S R W) (is_over : Bool) : Type 0 where
-  pub stepped : HasStepped stands remaining contents flushed order o p before after old new is_over
+pub record HasAdvanced {S R W O : Type 0} (stage : Stage S) (reader : Source R) (writer : Sink W)
+    (order : Order O) (o p : O) (before after : Option Search) (old new : Net S R W) (is_over : Bool)
+    : Type 0 where
+  pub stepped : HasStepped stage reader writer order o p before after old new is_over
   pub leans : IfSome after (λ look. LeansTo look.side order.pick order.next p)
-  pub marks : MarksFailures failed broken old new
+  pub marks : MarksFailures reader writer old new
 
 -- how many actors are still asked at most before one is ready
 abbrev pub still_to_ask : Option Search → ℕ
@@ -439,13 +408,11 @@ IsCloser before after old new is_over =
 
 -- The order's picks have led it to its end. What the plan means is a score, where the last stage too
 -- makes scores of scores; its fault is the lowest-numbered one.
-pub record RunsTo {S R W O : Type 0} (stands : Node S R → List ℕ → At → Type 0)
-    (contents : W → Option (List ℕ)) (flushed : W → Bool) (order : Order O) (o p : O)
-    (start : Option (List ℕ)) (s : Scene) (now : Now Row) (net : Net S R W) (by : RunResult)
-    : Type 0 where
-  pub leads : Leads stands contents flushed order o p start s now net
+pub record RunsTo {S R W O : Type 0} (stage : Stage S) (writer : Sink W) (order : Order O) (o p : O)
+    (start : Option (List ℕ)) (s : Scene) (now : Now Row) (net : Net S R W) (by : RunResult) : Type 0 where
+  pub leads : Leads stage writer order o p start s now net
   pub over : result (plan_of s) leads.to ≡ Some by
-  pub outcome : Outcome s start (contents net.sink) (flushed net.sink) by
+  pub outcome : Outcome s start (writer.contents net.sink) (writer.flushed net.sink) by
   pub valid : KeepsFine fine (s.kinds (last (plan_of s))).stage
       → IsFine 4294967295 (plan_meaning (plan_of s))
   pub whose : IsNumbered (plan_of s) → IsFailure by
@@ -453,100 +420,88 @@ pub record RunsTo {S R W O : Type 0} (stands : Node S R → List ℕ → At → 
 
 -- The sources have read these bytes. However they go on, the plan that the net stood for goes on by
 -- the turns that the order picks, to the end of its run.
-pub record HasRun {S R W O : Type 0} (stands : Node S R → List ℕ → At → Type 0)
-    (remaining : R → Option (List ℕ)) (contents : W → Option (List ℕ))
-    (flushed : W → Bool) (order : Order O) (o p : O) (old new : Net S R W) (by : RunResult)
-    : Type 0 where
+pub record HasRun {S R W O : Type 0} (stage : Stage S) (reader : Source R) (writer : Sink W) (order : Order O)
+    (o p : O) (old new : Net S R W) (by : RunResult) : Type 0 where
   pub reads : ℕ → List ℕ
-  pub read : (i : ℕ)
-      → HasRead (ended_at i old.web.nodes.items) (ended_at i new.web.nodes.items)
-      (remaining_at remaining i old.web.nodes.items) (remaining_at remaining i new.web.nodes.items)
-      (reads i)
+  pub read : HaveRead reader old.web.nodes.items new.web.nodes.items reads
   pub runs : (start : Option (List ℕ)) (s : Scene) (now : Now Row)
       → AreOver new.web.nodes.items s.rests
-      → NetAt stands contents flushed start (before_all reads s) old now
-      → RunsTo stands contents flushed order o p start s now new by
+      → NetAt stage writer start (before_all reads s) old now
+      → RunsTo stage writer order o p start s now new by
 
 -- However the bytes go on that are still to come, the net stands for a moment of a plan.
-pub record IsNet {S R W : Type 0} (stands : Node S R → List ℕ → At → Type 0)
-    (contents : W → Option (List ℕ)) (flushed : W → Bool) (net : Net S R W) : Type 0 where
+pub record IsNet {S R W : Type 0} (stage : Stage S) (writer : Sink W) (net : Net S R W) : Type 0 where
   pub start : Option (List ℕ)
   pub scene : (ℕ → List ℕ) → Scene
   pub now : (ℕ → List ℕ) → Now Row
   pub rests : (rests : ℕ → List ℕ) → (scene rests).rests ≡ rests
   pub at : (rests : ℕ → List ℕ) → AreOver net.web.nodes.items rests
-      → NetAt stands contents flushed start (scene rests) net (now rests)
+      → NetAt stage writer start (scene rests) net (now rests)
 
 -- However they go on behind what was read, the run goes on too, and so much is known of who is ready.
-pub record MayStep {S R W : Type 0} (stands : Node S R → List ℕ → At → Type 0)
-    (contents : W → Option (List ℕ)) (flushed : W → Bool) (look : Option Search)
-    (net : Net S R W) : Type 0 where
+pub record MayStep {S R W : Type 0} (stage : Stage S) (writer : Sink W) (look : Option Search) (net : Net S R W)
+    : Type 0 where
   pub start : Option (List ℕ)
   pub scene : (rests : ℕ → List ℕ) → AreOver net.web.nodes.items rests → Scene
   pub now : (rests : ℕ → List ℕ) → AreOver net.web.nodes.items rests → Now Row
   pub rests : (rests : ℕ → List ℕ) (over : AreOver net.web.nodes.items rests)
       → (scene rests over).rests ≡ rests
   pub at : (rests : ℕ → List ℕ) (over : AreOver net.web.nodes.items rests)
-      → NetAt stands contents flushed start (scene rests over) net (now rests over)
+      → NetAt stage writer start (scene rests over) net (now rests over)
   pub going : (rests : ℕ → List ℕ) (over : AreOver net.web.nodes.items rests)
       → result (plan_of (scene rests over)) (now rests over) ≡ None
   pub sees : (rests : ℕ → List ℕ) (over : AreOver net.web.nodes.items rests)
       → Sees look (scene rests over) (now rests over) net
 
 -- A run goes on, by an order that leans to the side that the search looks from.
-pub record MayAdvance {S R W O : Type 0} (stands : Node S R → List ℕ → At → Type 0)
-    (contents : W → Option (List ℕ)) (flushed : W → Bool) (order : Order O) (o : O) (look : Option Search)
-    (net : Net S R W) : Type 0 where
-  pub step : MayStep stands contents flushed look net
+pub record MayAdvance {S R W O : Type 0} (stage : Stage S) (writer : Sink W) (order : Order O) (o : O)
+    (look : Option Search) (net : Net S R W) : Type 0 where
+  pub step : MayStep stage writer look net
   pub leans : IfSome look (λ look. LeansTo look.side order.pick order.next o)
 
 -- The run goes on however the bytes do, and this stage may hand a record on.
-pub record MayHand {S R W : Type 0} (stands : Node S R → List ℕ → At → Type 0)
-    (contents : W → Option (List ℕ)) (flushed : W → Bool) (k : ℕ) (net : Net S R W) : Type 0 where
+pub record MayHand {S R W : Type 0} (stage : Stage S) (writer : Sink W) (k : ℕ) (net : Net S R W) : Type 0 where
   pub look : Option Search
-  pub step : MayStep stands contents flushed look net
-  pub handing : IsHanding stands k net.web
+  pub step : MayStep stage writer look net
+  pub handing : IsHanding stage k net.web
 
 -- Nodes that were asked nothing yet, of a plan by what is still to come of the bytes.
-pub record AreBegun {S R : Type 0} (stands : Node S R → List ℕ → At → Type 0) (size : ℕ)
-    (nodes : List (Node S R)) (scene : (ℕ → List ℕ) → Scene) : Type 0 where
+pub record AreBegun {S R : Type 0} (stage : Stage S) (size : ℕ) (nodes : List (Node S R))
+    (scene : (ℕ → List ℕ) → Scene) : Type 0 where
   pub rests : (rests : ℕ → List ℕ) → (scene rests).rests ≡ rests
   pub plan : (rests : ℕ → List ℕ)
       → IsNetPlan (scene rests).count (scene rests).kinds (scene rests).size
-  pub begun : (rests : ℕ → List ℕ) → IsBegun stands size nodes (scene rests)
+  pub begun : (rests : ℕ → List ℕ) → IsBegun stage size nodes (scene rests)
 
 -- Each source tells its bytes: these, and none where it has read their end.
-pub record Tells {S R : Type 0} (remaining : R → Option (List ℕ))
-    (nodes : List (Node S R)) (rests : ℕ → List ℕ) : Type 0 where
+pub record Tells {S R : Type 0} (reader : Source R) (nodes : List (Node S R)) (rests : ℕ → List ℕ)
+    : Type 0 where
   pub tells : (i : ℕ) (node : Node S R) → slice_get nodes i ≡ Some node → is_source node ≡ true
-      → remaining_of remaining node ≡ Some (rests i)
+      → remaining_of reader.remaining node ≡ Some (rests i)
   pub over : AreOver nodes rests
 
 -- Of these bytes some are left, and the plan has gone on to its end.
-pub record HasRunOn {S R W O : Type 0} (stands : Node S R → List ℕ → At → Type 0)
-    (contents : W → Option (List ℕ)) (flushed : W → Bool) (order : Order O) (o p : O)
-    (start : Option (List ℕ)) (s : Scene) (now : Now Row) (net : Net S R W) (by : RunResult)
-    : Type 0 where
+pub record HasRunOn {S R W O : Type 0} (stage : Stage S) (writer : Sink W) (order : Order O) (o p : O)
+    (start : Option (List ℕ)) (s : Scene) (now : Now Row) (net : Net S R W) (by : RunResult) : Type 0 where
   pub left : ℕ → List ℕ
-  pub runs : RunsTo stands contents flushed order o p start (record s { rests = left }) now net by
+  pub runs : RunsTo stage writer order o p start (record s { rests = left }) now net by
 
 -- What a run by an order has come to.
-pub record RunsBy {S R W O : Type 0} (stands : Node S R → List ℕ → At → Type 0)
-    (remaining : R → Option (List ℕ)) (failed : R → Bool) (contents : W → Option (List ℕ))
-    (flushed broken : W → Bool) (order : Order O) (o p : O) (old new : Net S R W) (by : RunResult)
+pub record RunsBy {S R W O : Type 0} (stage : Stage S)
+    (reader : Source R) (writer : Sink W) (order : Order O) (o p : O) (old new : Net S R W) (by : RunResult)
     : Type 0 where
   -- Whatever bytes the sources have, and however they go on: the turns are those that the order picks,
   -- and what was written is what the plan means.
-  pub ran : HasRun stands remaining contents flushed order o p old new by
+  pub ran : HasRun stage reader writer order o p old new by
   -- Where the sources tell their bytes, it is what the plan means over these.
   pub whole : (start : Option (List ℕ)) (s : Scene) (now : Now Row)
-      → Tells remaining old.web.nodes.items s.rests → NetAt stands contents flushed start s old now
-      → HasRunOn stands contents flushed order o p start s now new by
+      → Tells reader old.web.nodes.items s.rests → NetAt stage writer start s old now
+      → HasRunOn stage writer order o p start s now new by
   -- It ends by a failed read or write exactly where a call has failed in it.
-  pub reads : old.failure ≡ None → (i : ℕ) → failed_at failed i new.web.nodes.items
-      ≡ (failed_at failed i old.web.nodes.items || is_read_of i (Some by))
+  pub reads : old.failure ≡ None → (i : ℕ) → failed_at reader i new.web.nodes.items
+      ≡ (failed_at reader i old.web.nodes.items || is_read_of i (Some by))
   pub writes : old.failure ≡ None
-      → broken new.sink ≡ (broken old.sink || is_write (Some by))
+      → writer.failed new.sink ≡ (writer.failed old.sink || is_write (Some by))
   -- A run that is over answers its result again.
-  pub again : AtEach stands contents flushed old (λ start s now. (e : RunResult)
+  pub again : AtEach stage writer old (λ start s now. (e : RunResult)
       → result (plan_of s) now ≡ Some e → (by ≡ e) × (new ≡ old) × (p ≡ o))

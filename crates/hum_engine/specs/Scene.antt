@@ -20,7 +20,9 @@ use Rattle.hum_nodes.specs.Doing as does
 use Rattle.hum_nodes.specs.declared.node.Readiness.{Readiness}
 use Rattle.hum_nodes.specs.declared.node.Readiness.TheVariants as kinds
 use Rattle.hum_nodes.specs.declared.node.Node.{Node}
-use Rattle.hum_nodes.specs.Nodes.{is_source, remaining_of, ended_of}
+use Rattle.hum_nodes.specs.Nodes.{StandsAs, is_source, remaining_of, ended_of}
+use Rattle.hum_text.specs.declared.calls.Source.{Ghosts as Source}
+use Rattle.hum_stage.specs.declared.contract.Stage.{Ghosts as Stage}
 use Rattle.hum_engine.specs.declared.link.Link.{Link}
 use Rattle.hum_engine.specs.Links.{IsLink, IsIdle, loaded, room}
 use Rattle.hum_engine.specs.declared.web.Web.{Web}
@@ -97,54 +99,50 @@ at_of kinds m k = record {
   given = length (given (m k));
 }
 
-abbrev pub NodesStand : {N : Type 0} → (N → List ℕ → At → Type 0) → Scene → List N → Type 0
-NodesStand {N} stands s nodes =
-    (k : ℕ) (node : N) → slice_get nodes k ≡ Some node
-    → stands node (s.rests k) (at_of s.kinds s.links k)
+abbrev pub NodesStand : {S R : Type 0} → Stage S → Scene → List (Node S R) → Type 0
+NodesStand {S} {R} stage s nodes =
+    (k : ℕ) (node : Node S R) → slice_get nodes k ≡ Some node
+    → StandsAs stage.stands node (s.rests k) (at_of s.kinds s.links k)
 
 abbrev pub LinksStand : ℕ → Moment Row → List Link → Type 0
 LinksStand size m links =
     (k : ℕ) (link : Link) → slice_get links k ≡ Some link → IsLink size link (m k)
 
 -- Nodes that were asked nothing yet, and links of this size.
-pub record IsBegun {N : Type 0} (stands : N → List ℕ → At → Type 0) (size : ℕ) (nodes : List N)
-    (s : Scene) : Type 0 where
+pub record IsBegun {S R : Type 0} (stage : Stage S) (size : ℕ) (nodes : List (Node S R)) (s : Scene)
+    : Type 0 where
   pub of_size : s.size ≡ size
   pub count : length nodes ≡ s.count
-  pub stand : (k : ℕ) (node : N) → slice_get nodes k ≡ Some node
-      → stands node (s.rests k) (fresh_at (s.kinds k))
+  pub stand : (k : ℕ) (node : Node S R) → slice_get nodes k ≡ Some node
+      → StandsAs stage.stands node (s.rests k) (fresh_at (s.kinds k))
 
 -- Each node and each link stands for what this moment says of it.
-pub record Stands {S R : Type 0} (stands : Node S R → List ℕ → At → Type 0) (web : Web S R)
-    (s : Scene) : Type 0 where
+pub record Stands {S R : Type 0} (stage : Stage S) (web : Web S R) (s : Scene) : Type 0 where
   pub count : length web.nodes.items ≡ s.count
   pub as_many : length web.links.items ≡ s.count
-  pub nodes : NodesStand stands s web.nodes.items
+  pub nodes : NodesStand stage s web.nodes.items
   pub links : LinksStand s.size s.links web.links.items
 
 -- A moment that was reached.
-pub record IsAt {S R : Type 0} (stands : Node S R → List ℕ → At → Type 0) (web : Web S R)
-    (s : Scene) : Type 0 where
+pub record IsAt {S R : Type 0} (stage : Stage S) (web : Web S R) (s : Scene) : Type 0 where
   pub reached : IsReached s
-  pub stand : Stands stands web s
+  pub stand : Stands stage web s
 
 -- It stands for a moment of a plan that has this stage.
-pub record HasStage {S R : Type 0} (stands : Node S R → List ℕ → At → Type 0) (k : ℕ)
-    (web : Web S R) (s : Scene) : Type 0 where
-  pub stand : Stands stands web s
+pub record HasStage {S R : Type 0} (stage : Stage S) (k : ℕ) (web : Web S R) (s : Scene) : Type 0 where
+  pub stand : Stands stage web s
   pub less : k < s.count
 
 -- Stage k is ready.
-pub record MayTurn {S R : Type 0} (stands : Node S R → List ℕ → At → Type 0) (k : ℕ) (web : Web S R)
-    (s : Scene) : Type 0 where
-  pub at : IsAt stands web s
+pub record MayTurn {S R : Type 0} (stage : Stage S) (k : ℕ) (web : Web S R) (s : Scene) : Type 0 where
+  pub at : IsAt stage web s
   pub less : k < s.count
   pub ready : ready (plan_of s) s.size s.links k ≡ true
 
 -- Stage k, which isn't a source, does this next, and can.
-pub record MayAct {S R : Type 0} (stands : Node S R → List ℕ → At → Type 0) (k : ℕ) (doing : Doing)
-    (web : Web S R) (s : Scene) : Type 0 where
-  pub at : IsAt stands web s
+pub record MayAct {S R : Type 0} (stage : Stage S) (k : ℕ) (doing : Doing) (web : Web S R) (s : Scene)
+    : Type 0 where
+  pub at : IsAt stage web s
   pub less : k < s.count
   pub bytes : (s.kinds k).stage.bytes ≡ 0
   pub does : doing_of (at_of s.kinds s.links k) ≡ doing
@@ -161,18 +159,17 @@ IsKind {S} {R} b k web =
     (node : Node S R) → slice_get web.nodes.items k ≡ Some node → is_source node ≡ b
 
 -- The actor has done this.
-pub record Done {S R : Type 0} (stands : Node S R → List ℕ → At → Type 0) (k : ℕ) (doing : State)
-    (web : Web S R) (s : Scene) : Type 0 where
+pub record Done {S R : Type 0} (stage : Stage S) (k : ℕ) (doing : State) (web : Web S R) (s : Scene)
+    : Type 0 where
   pub new : Moment Row
   pub does : Does (plan_of s) k doing s.links new
-  pub stand : Stands stands web (moved s new)
+  pub stand : Stands stage web (moved s new)
 
 -- The actor has had a turn.
-pub record Stepped {S R : Type 0} (stands : Node S R → List ℕ → At → Type 0) (k : ℕ)
-    (web : Web S R) (s : Scene) : Type 0 where
+pub record Stepped {S R : Type 0} (stage : Stage S) (k : ℕ) (web : Web S R) (s : Scene) : Type 0 where
   pub new : Moment Row
   pub step : Step (plan_of s) s.size k s.links new
-  pub stand : Stands stands web (moved s new)
+  pub stand : Stands stage web (moved s new)
 
 -- Actor r takes from the link of stage t.
 abbrev pub TakesFrom : ℕ → (ℕ → Kind) → ℕ → ℕ → Type 0
@@ -237,13 +234,12 @@ pub record IsCrowded {S R : Type 0} (k : ℕ) (web : Web S R) : Type 0 where
   pub more : 1 < length link.waiting.items
 
 -- Stage k may hand a record on: nothing lies on its link, and it reads bytes or gives next.
-pub record IsHanding {S R : Type 0} (stands : Node S R → List ℕ → At → Type 0) (k : ℕ) (web : Web S R)
-    : Type 0 where
+pub record IsHanding {S R : Type 0} (stage : Stage S) (k : ℕ) (web : Web S R) : Type 0 where
   pub less : k < length web.nodes.items
   pub node : Node S R
   pub is : slice_get web.nodes.items k ≡ Some node
   pub next : (is_source node ≡ true) ⊎ ((is_source node ≡ false)
-      × ((rest : List ℕ) (t : At) → stands node rest t → doing_of t ≡ does.Gives))
+      × ((rest : List ℕ) (t : At) → StandsAs stage.stands node rest t → doing_of t ≡ does.Gives))
   pub idle : HasIdleLink k web
 
 -- Stage k waits: it takes next from the link of a stage before it, on which nothing lies.
@@ -259,25 +255,23 @@ pub record IsWaiting {S R : Type 0} (k : ℕ) (web : Web S R) : Type 0 where
   pub idle : IsIdle link
 
 -- Stage k takes from the link of this stage next, at this place.
-pub record WantsFrom {S R : Type 0} (stands : Node S R → List ℕ → At → Type 0) (k place source : ℕ)
-    (web : Web S R) : Type 0 where
+pub record WantsFrom {S R : Type 0} (stage : Stage S) (k place source : ℕ) (web : Web S R) : Type 0 where
   pub node : Node S R
   pub is : slice_get web.nodes.items k ≡ Some node
   pub kind : is_source node ≡ false
-  pub wants : (rest : List ℕ) (t : At) → stands node rest t → doing_of t ≡ does.Wants place
-  pub from : (rest : List ℕ) (t : At) → stands node rest t → slice_index (sources_of t) place ≡ source
+  pub wants : (rest : List ℕ) (t : At) → StandsAs stage.stands node rest t → doing_of t ≡ does.Wants place
+  pub from : (rest : List ℕ) (t : At) → StandsAs stage.stands node rest t → slice_index (sources_of t) place ≡ source
 
 -- Stage k takes this record next, which would be alone on the link that it takes from.
-pub record IsOffered {S R : Type 0} (stands : Node S R → List ℕ → At → Type 0) (k : ℕ) (row : Row)
-    (web : Web S R) : Type 0 where
+pub record IsOffered {S R : Type 0} (stage : Stage S) (k : ℕ) (row : Row) (web : Web S R) : Type 0 where
   pub place : ℕ
   pub source : ℕ
   pub link : Link
   pub its : slice_get web.links.items source ≡ Some link
   pub empty : link.waiting.items ≡ []
-  pub wants : WantsFrom stands k place source web
+  pub wants : WantsFrom stage k place source web
   pub scene : Scene
-  pub at : IsAt stands (laid source row link web) scene
+  pub at : IsAt stage (laid source row link web) scene
   pub less : k < scene.count
 
 -- Only the node of stage k may have changed.
@@ -291,66 +285,61 @@ pub record Keeps {S R : Type 0} (k : ℕ) (old new : Web S R) : Type 0 where
   pub kind : IsKind false k new
 
 -- An actor: a stage or the sink.
-pub record IsActor {S R : Type 0} (stands : Node S R → List ℕ → At → Type 0) (k : ℕ) (web : Web S R)
-    (s : Scene) : Type 0 where
-  pub at : IsAt stands web s
+pub record IsActor {S R : Type 0} (stage : Stage S) (k : ℕ) (web : Web S R) (s : Scene) : Type 0 where
+  pub at : IsAt stage web s
   pub within : k ≤ s.count
 
 -- An actor that is a stage.
-pub record HasActor {S R : Type 0} (stands : Node S R → List ℕ → At → Type 0) (k : ℕ) (web : Web S R)
-    (s : Scene) : Type 0 where
-  pub at : IsAt stands web s
+pub record HasActor {S R : Type 0} (stage : Stage S) (k : ℕ) (web : Web S R) (s : Scene) : Type 0 where
+  pub at : IsAt stage web s
   pub less : k < s.count
 
 -- Stage k, which isn't a source, is about to do this.
-pub record IsAbout {S R : Type 0} (stands : Node S R → List ℕ → At → Type 0) (k : ℕ) (doing : Doing)
-    (web : Web S R) (s : Scene) : Type 0 where
-  pub at : IsAt stands web s
+pub record IsAbout {S R : Type 0} (stage : Stage S) (k : ℕ) (doing : Doing) (web : Web S R) (s : Scene)
+    : Type 0 where
+  pub at : IsAt stage web s
   pub less : k < s.count
   pub bytes : (s.kinds k).stage.bytes ≡ 0
   pub does : doing_of (at_of s.kinds s.links k) ≡ doing
 
 -- the same without its end
-pub record IsAboutKind {S R : Type 0} (stands : Node S R → List ℕ → At → Type 0) (k : ℕ)
-    (kind : Readiness) (web : Web S R) (s : Scene) : Type 0 where
-  pub at : IsAt stands web s
+pub record IsAboutKind {S R : Type 0} (stage : Stage S) (k : ℕ) (kind : Readiness) (web : Web S R) (s : Scene)
+    : Type 0 where
+  pub at : IsAt stage web s
   pub less : k < s.count
   pub bytes : (s.kinds k).stage.bytes ≡ 0
   pub does : readiness_of (doing_of (at_of s.kinds s.links k)) ≡ kind
 
 -- This is what stage k does next, which isn't a source.
-abbrev pub IsDoing : {S R : Type 0} → (Node S R → List ℕ → At → Type 0) → ℕ → Web S R → Readiness
-    → Type 0
-IsDoing stands k web kind =
+abbrev pub IsDoing : {S R : Type 0} → Stage S → ℕ → Web S R → Readiness → Type 0
+IsDoing stage k web kind =
     IsKind false k web
-    × ((s : Scene) → IsAt stands web s → k < s.count → IsAboutKind stands k kind web s)
+    × ((s : Scene) → IsAt stage web s → k < s.count → IsAboutKind stage k kind web s)
 
 -- Stage k has read these bytes, and the turn is what follows from them however they go on. A stage
 -- that isn't a source reads none.
-pub record Fed {S R : Type 0} (stands : Node S R → List ℕ → At → Type 0)
-    (remaining : R → Option (List ℕ)) (k : ℕ) (old new : Web S R) : Type 0 where
+pub record Fed {S R : Type 0} (stage : Stage S) (reader : Source R) (k : ℕ) (old new : Web S R) : Type 0 where
   pub node : Node S R
   pub was : slice_get old.nodes.items k ≡ Some node
   pub after : Node S R
   pub is : slice_get new.nodes.items k ≡ Some after
   pub others : KeepsOthers k old new
   pub read : List ℕ
-  pub consumes : Consumes (remaining_of remaining node) (remaining_of remaining after) read
+  pub consumes : Consumes (remaining_of reader.remaining node) (remaining_of reader.remaining after) read
   pub at_end : ended_of after ≡ true
-      → (ended_of node ≡ true) ⊎ IsAtEnd (remaining_of remaining after)
+      → (ended_of node ≡ true) ⊎ IsAtEnd (remaining_of reader.remaining after)
   pub still : ended_of node ≡ true → (read ≡ []) × (ended_of after ≡ true)
   pub turns : (s : Scene) → (ended_of after ≡ true → s.rests k ≡ [])
-      → MayTurn stands k old (before read k s) → Stepped stands k new s
+      → MayTurn stage k old (before read k s) → Stepped stage k new s
 
 -- Stage k has had its turn and has given this record, but that the record doesn't lie on its link.
-pub record HandsOut {S R : Type 0} (stands : Node S R → List ℕ → At → Type 0) (remaining : R → Option (List ℕ))
-    (k : ℕ) (row : Row) (old new : Web S R) : Type 0 where
+pub record HandsOut {S R : Type 0} (stage : Stage S) (reader : Source R) (k : ℕ) (row : Row) (old new : Web S R)
+    : Type 0 where
   pub links : new.links ≡ old.links
-  pub fed : (link : Link) → slice_get new.links.items k ≡ Some link → Fed stands remaining k old (laid k row link new)
+  pub fed : (link : Link) → slice_get new.links.items k ≡ Some link → Fed stage reader k old (laid k row link new)
 
 -- Stage k has had its turn, in which it has taken this record from a link on which it would have been alone.
-abbrev pub HasAccepted : {S R : Type 0} → (Node S R → List ℕ → At → Type 0) → (R → Option (List ℕ)) → ℕ
-    → Row → Web S R → Web S R → Type 0
-HasAccepted stands remaining k row old new =
+abbrev pub HasAccepted : {S R : Type 0} → Stage S → Source R → ℕ → Row → Web S R → Web S R → Type 0
+HasAccepted stage reader k row old new =
     (source place : ℕ) (link : Link) → slice_get old.links.items source ≡ Some link → link.waiting.items ≡ []
-    → WantsFrom stands k place source old → Fed stands remaining k (laid source row link old) new
+    → WantsFrom stage k place source old → Fed stage reader k (laid source row link old) new

@@ -10,7 +10,6 @@ ghost use Rattle.hum_turns.specs.Failures.{Now, IsFirst, is_ready, result as end
 ghost use Rattle.hum_turns.specs.Orders.{ready_list};
 ghost use Rattle.hum_turns.specs.Counts.{turns_of, most, most_in_all};
 ghost use Rattle.hum_turns.specs.Holds.{SomeReady};
-ghost use Rattle.hum_nodes.specs.Nodes.{StandsAs};
 ghost use Rattle.hum_engine.specs.Readers.{ShowsSame, is_read_of, is_write};
 ghost use Rattle.hum_engine.specs.Scene.{Scene, plan_of, Somewhere, IsAt, IsNetPlan, IsBegun};
 ghost use Rattle.hum_engine.specs.Scene.{held_of, HoldsFew, HasRoom, IsOffered, HasAccepted};
@@ -22,7 +21,7 @@ ghost use Rattle.hum_engine.specs.Nets.{HasSent, MayWrite, CallsSink, SinkWent, 
 ghost use Rattle.hum_engine.specs.Nets.{NetAt, AtEach, AreBegun, IsNet, RunsBy, WroteFront};
 ghost use Rattle.hum_engine.specs.Nets.{MayPick, IsNext, MayAsk, HasRested, HasWorked};
 ghost use Rattle.hum_engine.specs.Nets.{HasGone, AsksLittle, fault_by, turned_by, failed_by, is_over};
-ghost use Rattle.hum_engine.specs.Nets.{MayAdvance, HasAdvanced, IsCloser};
+ghost use Rattle.hum_engine.specs.Nets.{MayAdvance, HasAdvanced, IsCloser, order_of};
 ghost use Rattle.hum_engine.specs.Nets.{MayHand, HasInHand, HasGoneAlone, HasHanded};
 
 use crate::link::Taken;
@@ -80,23 +79,20 @@ impl<S: Stage + Drop, R: Source + Drop, W: Sink> Net<S, R, W> {
     #[inline(always)]
     fn sink_turn(&mut self) -> Option<bool>
         requires none { self.old.failure ≡ None }
-        requires may { Somewhere (IsAt (StandsAs S.stands) self.old.web) }
-        ensures ready { (s : Scene) → IsAt (StandsAs S.stands) self.old.web s
-            → (s.links (last (plan_of s))).heard ≡ None
+        requires may { Somewhere (IsAt S.Stage self.old.web) }
+        ensures ready { (s : Scene) → IsAt S.Stage self.old.web s → (s.links (last (plan_of s))).heard ≡ None
             → is_some result ≡ has_some (s.links (last (plan_of s))) }
-        ensures went { IfSome result (λ is_over. (s : Scene) → MayWrite (StandsAs S.stands) self.old.web s
-            → SinkWent (StandsAs S.stands) self.new.failure (W.contents self.old.sink)
-            (W.contents self.new.sink) (W.flushed self.new.sink) is_over self.new.web s) }
-        ensures asked { IfSome result (λ is_over. (s : Scene) → MayWrite (StandsAs S.stands) self.old.web s
-            → CallsSink (W.calls self.old.sink) (W.calls self.new.sink)
-            (s.links (last (plan_of s))).waiting) }
+        ensures went { IfSome result (λ is_over. (s : Scene) → MayWrite S.Stage self.old.web s
+            → SinkWent S.Stage self.new.failure (W.contents self.old.sink) (W.contents self.new.sink)
+            (W.flushed self.new.sink) is_over self.new.web s) }
+        ensures asked { IfSome result (λ is_over. (s : Scene) → MayWrite S.Stage self.old.web s
+            → CallsSink (W.calls self.old.sink) (W.calls self.new.sink) (s.links (last (plan_of s))).waiting) }
         ensures marked { IfSome result (λ is_over. W.failed self.new.sink
             ≡ (W.failed self.old.sink || is_write self.new.failure)) }
         ensures unread { (k : ℕ) → is_read_of k self.new.failure ≡ false }
         ensures room { result ≡ Some false
             → HasRoom (length self.old.web.links.items - 1) self.new.web }
-        ensures shows { (k : ℕ) → ShowsSame R.remaining R.calls R.failed
-            self.old.web.nodes.items self.new.web.nodes.items k }
+        ensures shows { (k : ℕ) → ShowsSame R.Source self.old.web.nodes.items self.new.web.nodes.items k }
         ensures turns { self.new.turns ≡ self.old.turns }
         ensures actors { self.new.actors ≡ self.old.actors }
         ensures takers { self.new.takers ≡ self.old.takers }
@@ -116,7 +112,7 @@ impl<S: Stage + Drop, R: Source + Drop, W: Sink> Net<S, R, W> {
     // Writes a record, and tells whether the run is over.
     #[inline(always)]
     fn send(&mut self, row: Record) -> bool
-        ensures { HasSent W.contents W.failed W.calls row self.old self.new result }
+        ensures { HasSent W.Sink row self.old self.new result }
     {
         match write_record(&mut self.sink, &row) {
             Ok(()) => {
@@ -199,12 +195,10 @@ impl<S: Stage + Drop, R: Source + Drop, W: Sink> Net<S, R, W> {
     ) -> Result<Net<S, R, W>, W>
         requires few { length nodes.items < 256 }
         ensures ok { IfOk result (λ net. (s : Scene) (now : Now Row) → IsFirst now
-            → IsNetPlan s.count s.kinds s.size
-            → IsBegun (StandsAs S.stands) size nodes.items s
-            → NetAt (StandsAs S.stands) W.contents W.flushed (W.contents sink) s net now) }
+            → IsNetPlan s.count s.kinds s.size → IsBegun S.Stage size nodes.items s
+            → NetAt S.Stage W.Sink (W.contents sink) s net now) }
         ensures runs { IfOk result (λ net. (scene : (ℕ → List ℕ) → Scene)
-            → AreBegun (StandsAs S.stands) size nodes.items scene
-            → IsNet (StandsAs S.stands) W.contents W.flushed net) }
+            → AreBegun S.Stage size nodes.items scene → IsNet S.Stage W.Sink net) }
         ensures nodes { IfOk result (λ net. net.web.nodes ≡ nodes) }
         ensures sink { IfOk result (λ net. net.sink ≡ sink) }
         ensures failure { IfOk result (λ net. net.failure ≡ None) }
@@ -231,10 +225,10 @@ impl<S: Stage + Drop, R: Source + Drop, W: Sink> Net<S, R, W> {
 
     // Sets the flag of each actor: whether it is ready.
     fn mark(&mut self)
-        requires { IsRunning (StandsAs S.stands) W.contents W.flushed self.old }
+        requires { IsRunning S.Stage W.Sink self.old }
         ensures same { self.new ≡ record self.old { actors = self.new.actors } }
         ensures len { length self.new.actors.items ≡ length self.old.actors.items }
-        ensures list { AtEach (StandsAs S.stands) W.contents W.flushed self.old
+        ensures list { AtEach S.Stage W.Sink self.old
             (λ start s now. self.new.actors.items ≡ ready_list (plan_of s) s.size now) }
     {
         for k in 0..self.actors.len() {
@@ -246,12 +240,12 @@ impl<S: Stage + Drop, R: Source + Drop, W: Sink> Net<S, R, W> {
     // Sets the flag of an actor. While the run goes on it says whether that one is ready.
     #[inline(always)]
     fn ask(&mut self, k: usize)
-        requires { IsGoing (StandsAs S.stands) W.contents W.flushed k self.old }
+        requires { IsGoing S.Stage W.Sink k self.old }
         ensures same { self.new ≡ record self.old { actors = self.new.actors } }
         ensures len { length self.new.actors.items ≡ length self.old.actors.items }
-        ensures list { AtEach (StandsAs S.stands) W.contents W.flushed self.old
-            (λ start s now. ended (plan_of s) now ≡ None → k ≤ s.count → self.new.actors.items
-            ≡ slice_set self.old.actors.items k (is_ready (plan_of s) s.size now k)) }
+        ensures list { AtEach S.Stage W.Sink self.old
+            (λ start s now. ended (plan_of s) now ≡ None → k ≤ s.count
+            → self.new.actors.items ≡ slice_set self.old.actors.items k (is_ready (plan_of s) s.size now k)) }
     {
         let is = self.web.ready(k);
         self.actors[k] = is;
@@ -259,15 +253,15 @@ impl<S: Stage + Drop, R: Source + Drop, W: Sink> Net<S, R, W> {
 
     // Sets the flags of the two ends of a link.
     fn ask_both(&mut self, link: usize, taker: usize)
-        requires link { IsGoing (StandsAs S.stands) W.contents W.flushed link self.old }
-        requires taker { IsGoing (StandsAs S.stands) W.contents W.flushed taker self.old }
+        requires link { IsGoing S.Stage W.Sink link self.old }
+        requires taker { IsGoing S.Stage W.Sink taker self.old }
         ensures same { self.new ≡ record self.old { actors = self.new.actors } }
         ensures len { length self.new.actors.items ≡ length self.old.actors.items }
-        ensures list { AtEach (StandsAs S.stands) W.contents W.flushed self.old
+        ensures list { AtEach S.Stage W.Sink self.old
             (λ start s now. ended (plan_of s) now ≡ None → link ≤ s.count → taker ≤ s.count
             → self.new.actors.items ≡ slice_set
-            (slice_set self.old.actors.items link (is_ready (plan_of s) s.size now link))
-            taker (is_ready (plan_of s) s.size now taker)) }
+            (slice_set self.old.actors.items link (is_ready (plan_of s) s.size now link)) taker
+            (is_ready (plan_of s) s.size now taker)) }
     {
         self.ask(link);
         self.ask(taker);
@@ -276,8 +270,8 @@ impl<S: Stage + Drop, R: Source + Drop, W: Sink> Net<S, R, W> {
     // How a run ended that is over.
     #[inline(never)]
     fn told(&self) -> RunResult
-        requires { IsRunning (StandsAs S.stands) W.contents W.flushed self.now }
-        ensures { AtEach (StandsAs S.stands) W.contents W.flushed self.now
+        requires { IsRunning S.Stage W.Sink self.now }
+        ensures { AtEach S.Stage W.Sink self.now
             (λ start s now. (by : RunResult) → ended (plan_of s) now ≡ Some by → result ≡ by) }
     {
         match self.result() {
@@ -289,9 +283,8 @@ impl<S: Stage + Drop, R: Source + Drop, W: Sink> Net<S, R, W> {
     // The actor that is asked next: where a search stands, or else the order's pick by the flags.
     #[inline(always)]
     fn next<O: Order>(&self, order: &mut O, search: &Option<Search>) -> usize
-        requires { MayPick (StandsAs S.stands) W.contents W.flushed search.now self.now }
-        ensures { IsNext (StandsAs S.stands) W.contents W.flushed (record { pick = O.picks; next = O.after })
-            order.old order.new search.now self.now result }
+        requires { MayPick S.Stage W.Sink search.now self.now }
+        ensures { IsNext S.Stage W.Sink (order_of O.Order) order.old order.new search.now self.now result }
     {
         if let Some(search) = search {
             return search.from();
@@ -324,11 +317,9 @@ impl<S: Stage + Drop, R: Source + Drop, W: Sink> Net<S, R, W> {
     // Asks the actor that is next and, if it is ready, gives it its turn.
     #[inline(always)]
     fn step<O: Order>(&mut self, order: &mut O, search: &mut Option<Search>) -> Stepped
-        requires may { MayAdvance (StandsAs S.stands) W.contents W.flushed
-            (record { pick = O.picks; next = O.after }) order.old search.old self.old }
-        ensures advanced { HasAdvanced (StandsAs S.stands) R.remaining R.failed W.contents W.flushed W.failed
-            (record { pick = O.picks; next = O.after }) order.old order.new search.old search.new
-            self.old self.new (is_over result) }
+        requires may { MayAdvance S.Stage W.Sink (order_of O.Order) order.old search.old self.old }
+        ensures advanced { HasAdvanced S.Stage R.Source W.Sink (order_of O.Order) order.old order.new search.old
+            search.new self.old self.new (is_over result) }
         ensures closer { IsCloser search.old search.new self.old self.new (is_over result) }
         ensures room { result ≡ steps.Room → IfSome search.new
             (λ search. (is_left search.side ≡ true) × HasRoom search.from self.new.web) }
@@ -377,11 +368,11 @@ impl<S: Stage + Drop, R: Source + Drop, W: Sink> Net<S, R, W> {
     #[inline(always)]
     fn accept(&mut self, k: usize, row: Record) -> bool
         requires none { self.old.failure ≡ None }
-        requires offered { IsOffered (StandsAs S.stands) k row self.old.web }
+        requires offered { IsOffered S.Stage k row self.old.web }
         ensures ok { result ≡ false → (self.new ≡ record self.old { web = self.new.web })
-            × HasAccepted (StandsAs S.stands) R.remaining k row self.old.web self.new.web }
+            × HasAccepted S.Stage R.Source k row self.old.web self.new.web }
         ensures err { result ≡ true → self.new ≡ record self.old { web = self.new.web; failure = Some ends.Memory } }
-        ensures asked { AsksNone R.remaining R.failed k self.old.web self.new.web }
+        ensures asked { AsksNone R.Source k self.old.web self.new.web }
     {
         match self.web.accept(k, row) {
             Ok(()) => false,
@@ -396,10 +387,9 @@ impl<S: Stage + Drop, R: Source + Drop, W: Sink> Net<S, R, W> {
     // link.
     #[inline(always)]
     fn fetch(&mut self, k: usize) -> Option<Record>
-        requires { MayHand (StandsAs S.stands) W.contents W.flushed k self.old }
-        ensures fetched { MatchOption result
-            (HasGoneAlone (StandsAs S.stands) R.remaining R.failed W.contents W.flushed W.failed k self.old self.new)
-            (HasInHand (StandsAs S.stands) R.remaining R.failed k self.old self.new) }
+        requires { MayHand S.Stage W.Sink k self.old }
+        ensures fetched { MatchOption result (HasGoneAlone S.Stage R.Source W.Sink k self.old self.new)
+            (HasInHand S.Stage R.Source k self.old self.new) }
         ensures turns { self.new.turns ≡ self.old.turns + 1 }
     {
         self.turns += 1;
@@ -416,12 +406,10 @@ impl<S: Stage + Drop, R: Source + Drop, W: Sink> Net<S, R, W> {
     // there was no record.
     #[inline(always)]
     fn hand_to_stage(&mut self, k: usize, taker: usize) -> Option<bool>
-        requires may { MayHand (StandsAs S.stands) W.contents W.flushed k self.old }
-        requires wants { (place : ℕ) × WantsFrom (StandsAs S.stands) taker place k self.old.web }
-        ensures { MatchOption result
-            (HasGoneAlone (StandsAs S.stands) R.remaining R.failed W.contents W.flushed W.failed k self.old self.new)
-            (HasHanded (StandsAs S.stands) R.remaining R.failed W.contents W.flushed W.failed k taker
-            self.old self.new) }
+        requires may { MayHand S.Stage W.Sink k self.old }
+        requires wants { (place : ℕ) × WantsFrom S.Stage taker place k self.old.web }
+        ensures { MatchOption result (HasGoneAlone S.Stage R.Source W.Sink k self.old self.new)
+            (HasHanded S.Stage R.Source W.Sink k taker self.old self.new) }
     {
         let row = self.fetch(k)?;
         self.turns += 1;
@@ -431,15 +419,12 @@ impl<S: Stage + Drop, R: Source + Drop, W: Sink> Net<S, R, W> {
     // The same where it is the sink that takes the record. It isn't ready then.
     #[inline(always)]
     fn hand_to_sink(&mut self, k: usize) -> Option<bool>
-        requires may { MayHand (StandsAs S.stands) W.contents W.flushed k self.old }
+        requires may { MayHand S.Stage W.Sink k self.old }
         requires last { k + 1 ≡ length self.old.web.nodes.items }
-        ensures handed { MatchOption result
-            (HasGoneAlone (StandsAs S.stands) R.remaining R.failed W.contents W.flushed W.failed k self.old self.new)
-            (HasHanded (StandsAs S.stands) R.remaining R.failed W.contents W.flushed W.failed k (k + 1)
-            self.old self.new) }
-        ensures idle { IfSome result (λ is_over. AtEach (StandsAs S.stands) W.contents W.flushed self.new
-            (λ start s now. ended (plan_of s) now ≡ None
-            → is_ready (plan_of s) s.size now (k + 1) ≡ false)) }
+        ensures handed { MatchOption result (HasGoneAlone S.Stage R.Source W.Sink k self.old self.new)
+            (HasHanded S.Stage R.Source W.Sink k (k + 1) self.old self.new) }
+        ensures idle { IfSome result (λ is_over. AtEach S.Stage W.Sink self.new
+            (λ start s now. ended (plan_of s) now ≡ None → is_ready (plan_of s) s.size now (k + 1) ≡ false)) }
     {
         let row = self.fetch(k)?;
         self.turns += 1;
@@ -448,7 +433,7 @@ impl<S: Stage + Drop, R: Source + Drop, W: Sink> Net<S, R, W> {
 
     // Whether a stage waits, while the run goes on.
     fn waits(&self, k: usize, is_over: bool) -> bool
-        requires { is_over ≡ false → Somewhere (HasActor (StandsAs S.stands) k self.now.web) }
+        requires { is_over ≡ false → Somewhere (HasActor S.Stage k self.now.web) }
         ensures { result ≡ true → IsWaiting k self.now.web }
     {
         !is_over && self.web.waits(k)
@@ -458,11 +443,10 @@ impl<S: Stage + Drop, R: Source + Drop, W: Sink> Net<S, R, W> {
     // for a record: they were to be asked next in any case. Tells whether the run is over, or nothing has moved.
     #[inline(always)]
     fn hand_on<O: Order>(&mut self, order: &O, search: &mut Option<Search>) -> Option<bool>
-        requires may { MayAdvance (StandsAs S.stands) W.contents W.flushed
-            (record { pick = O.picks; next = O.after }) order.now search.old self.old }
-        ensures advanced { IfSome result (HasAdvanced (StandsAs S.stands) R.remaining R.failed W.contents
-            W.flushed W.failed (record { pick = O.picks; next = O.after }) order.now order.now
-            search.old search.new self.old self.new) }
+        requires may { MayAdvance S.Stage W.Sink (order_of O.Order) order.now search.old self.old }
+        ensures advanced { IfSome result
+            (HasAdvanced S.Stage R.Source W.Sink (order_of O.Order) order.now order.now search.old search.new
+            self.old self.new) }
         ensures turns { IfSome result (λ is_over. self.old.turns < self.new.turns) }
         ensures same { result ≡ None → (self.new ≡ self.old) × (search.new ≡ search.old) }
     {
@@ -510,13 +494,11 @@ impl<S: Stage + Drop, R: Source + Drop, W: Sink> Net<S, R, W> {
     // asked next. Tells whether the run is over.
     #[inline(always)]
     fn go_on<O: Order>(&mut self, order: &O, search: &mut Option<Search>) -> bool
-        requires may { MayAdvance (StandsAs S.stands) W.contents W.flushed
-            (record { pick = O.picks; next = O.after }) order.now search.old self.old }
+        requires may { MayAdvance S.Stage W.Sink (order_of O.Order) order.now search.old self.old }
         requires room { IfSome search.old
             (λ search. (is_left search.side ≡ true) × HasRoom search.from self.old.web) }
-        ensures advanced { HasAdvanced (StandsAs S.stands) R.remaining R.failed W.contents W.flushed W.failed
-            (record { pick = O.picks; next = O.after }) order.now order.now search.old search.new
-            self.old self.new result }
+        ensures advanced { HasAdvanced S.Stage R.Source W.Sink (order_of O.Order) order.now order.now search.old
+            search.new self.old self.new result }
         ensures turns { self.old.turns ≤ self.new.turns }
     {
         let Some(look) = search else {
@@ -535,11 +517,9 @@ impl<S: Stage + Drop, R: Source + Drop, W: Sink> Net<S, R, W> {
     // whose link room has come. Tells whether the run is over.
     #[inline(always)]
     fn advance<O: Order>(&mut self, order: &mut O, search: &mut Option<Search>) -> bool
-        requires { MayAdvance (StandsAs S.stands) W.contents W.flushed
-            (record { pick = O.picks; next = O.after }) order.old search.old self.old }
-        ensures advanced { HasAdvanced (StandsAs S.stands) R.remaining R.failed W.contents W.flushed W.failed
-            (record { pick = O.picks; next = O.after }) order.old order.new search.old search.new
-            self.old self.new result }
+        requires { MayAdvance S.Stage W.Sink (order_of O.Order) order.old search.old self.old }
+        ensures advanced { HasAdvanced S.Stage R.Source W.Sink (order_of O.Order) order.old order.new search.old
+            search.new self.old self.new result }
         ensures closer { IsCloser search.old search.new self.old self.new result }
     {
         match self.hand_on(order, search) {
@@ -556,10 +536,8 @@ impl<S: Stage + Drop, R: Source + Drop, W: Sink> Net<S, R, W> {
     // All that a stage's turn calls stands in this loop, and the loop in no caller's.
     #[inline(never)]
     pub fn run<O: Order>(&mut self, order: &mut O) -> RunResult
-        requires { IsNet (StandsAs S.stands) W.contents W.flushed self.old }
-        ensures { RunsBy (StandsAs S.stands) R.remaining R.failed W.contents
-            W.flushed W.failed (record { pick = O.picks; next = O.after }) order.old order.new
-            self.old self.new result }
+        requires { IsNet S.Stage W.Sink self.old }
+        ensures { RunsBy S.Stage R.Source W.Sink (order_of O.Order) order.old order.new self.old self.new result }
     {
         if self.over() {
             return self.told();
@@ -576,10 +554,9 @@ impl<S: Stage + Drop, R: Source + Drop, W: Sink> Net<S, R, W> {
     // A turn of this actor, if it is ready.
     #[inline(always)]
     fn turn_if_ready(&mut self, k: usize) -> Option<Turned>
-        requires { MayAsk (StandsAs S.stands) W.contents W.flushed k self.old }
-        ensures { MatchOption result (HasRested (StandsAs S.stands) W.contents W.flushed k self.old self.new)
-            (HasWorked (StandsAs S.stands) R.remaining R.calls R.failed
-            W.contents W.flushed W.failed W.calls k self.old self.new) }
+        requires { MayAsk S.Stage W.Sink k self.old }
+        ensures { MatchOption result (HasRested S.Stage W.Sink k self.old self.new)
+            (HasWorked S.Stage R.Source W.Sink k self.old self.new) }
     {
         if k == self.web.count() {
             let link = self.web.last();
@@ -599,11 +576,10 @@ impl<S: Stage + Drop, R: Source + Drop, W: Sink> Net<S, R, W> {
     // A function of its own, so that each kind of turn goes its own way behind it.
     #[inline(always)]
     fn stage_turn(&mut self, k: usize) -> Option<Turned>
-        requires ask { MayAsk (StandsAs S.stands) W.contents W.flushed k self.old }
+        requires ask { MayAsk S.Stage W.Sink k self.old }
         requires stage { k ≢ length self.old.web.nodes.items }
-        ensures { MatchOption result (HasRested (StandsAs S.stands) W.contents W.flushed k self.old self.new)
-            (HasWorked (StandsAs S.stands) R.remaining R.calls R.failed
-            W.contents W.flushed W.failed W.calls k self.old self.new) }
+        ensures { MatchOption result (HasRested S.Stage W.Sink k self.old self.new)
+            (HasWorked S.Stage R.Source W.Sink k self.old self.new) }
     {
         let told = self.web.turn(k)?;
         Some(self.settle(k, told))
@@ -612,10 +588,9 @@ impl<S: Stage + Drop, R: Source + Drop, W: Sink> Net<S, R, W> {
     // The turn of a stage whose link has room, if it gives or reads at once.
     #[inline(always)]
     fn refill(&mut self, k: usize) -> Option<Turned>
-        requires ask { MayAsk (StandsAs S.stands) W.contents W.flushed k self.old }
+        requires ask { MayAsk S.Stage W.Sink k self.old }
         requires room { HasRoom k self.old.web }
-        ensures worked { IfSome result (HasWorked (StandsAs S.stands) R.remaining R.calls R.failed
-            W.contents W.flushed W.failed W.calls k self.old self.new) }
+        ensures worked { IfSome result (HasWorked S.Stage R.Source W.Sink k self.old self.new) }
         ensures own { IfSome result (λ turned. turned.link ≡ k) }
         ensures same { result ≡ None → self.new ≡ self.old }
     {
@@ -625,11 +600,9 @@ impl<S: Stage + Drop, R: Source + Drop, W: Sink> Net<S, R, W> {
 
     /// One turn of an actor that is ready: a stage by its number, from 0, or the sink by the number of stages.
     pub fn turn(&mut self, k: usize) -> Turned
-        requires { MayGo (StandsAs S.stands) W.contents W.flushed k self.old }
-        ensures gone { HasGone (StandsAs S.stands) R.remaining R.failed
-            W.contents W.flushed W.failed k self.old self.new result }
-        ensures little { AsksLittle (StandsAs S.stands) R.remaining R.calls R.failed
-            W.contents W.flushed W.calls k self.old self.new }
+        requires { MayGo S.Stage W.Sink k self.old }
+        ensures gone { HasGone S.Stage R.Source W.Sink k self.old self.new result }
+        ensures little { AsksLittle S.Stage R.Source W.Sink k self.old self.new }
     {
         match self.turn_if_ready(k) {
             Some(turned) => turned,
@@ -639,9 +612,8 @@ impl<S: Stage + Drop, R: Source + Drop, W: Sink> Net<S, R, W> {
 
     /// How the run ended, once it has.
     pub fn result(&self) -> Option<RunResult>
-        requires { IsRunning (StandsAs S.stands) W.contents W.flushed self.now }
-        ensures { AtEach (StandsAs S.stands) W.contents W.flushed self.now
-            (λ start s now. result ≡ ended (plan_of s) now) }
+        requires { IsRunning S.Stage W.Sink self.now }
+        ensures { AtEach S.Stage W.Sink self.now (λ start s now. result ≡ ended (plan_of s) now) }
     {
         if let Some(failure) = self.failure {
             return Some(failure);
@@ -654,8 +626,8 @@ impl<S: Stage + Drop, R: Source + Drop, W: Sink> Net<S, R, W> {
 
     /// Whether an actor is ready: a stage, or the sink by the number of stages. Once the run has ended none is.
     pub fn ready(&self, k: usize) -> bool
-        requires { IsAmong (StandsAs S.stands) W.contents W.flushed k self.now }
-        ensures { AtEach (StandsAs S.stands) W.contents W.flushed self.now
+        requires { IsAmong S.Stage W.Sink k self.now }
+        ensures { AtEach S.Stage W.Sink self.now
             (λ start s now. k ≤ s.count → result ≡ is_ready (plan_of s) s.size now k) }
     {
         match self.result() {
@@ -668,8 +640,7 @@ impl<S: Stage + Drop, R: Source + Drop, W: Sink> Net<S, R, W> {
     /// the bytes go on that are still to come.
     pub fn into_writer(self) -> W
         ensures sink { result ≡ self.sink }
-        ensures front { AtEach (StandsAs S.stands) W.contents W.flushed self
-            (λ start s now. WroteFront s start (W.contents result)) }
+        ensures front { AtEach S.Stage W.Sink self (λ start s now. WroteFront s start (W.contents result)) }
     {
         let Net {
             web: _web,
@@ -686,15 +657,14 @@ impl<S: Stage + Drop, R: Source + Drop, W: Sink> Net<S, R, W> {
     pub fn turns(&self) -> u64
         ensures count { result ≡ self.now.turns }
         ensures turns { (start : Option (List ℕ)) (s : Scene) (now : Now Row)
-            → (at : NetAt (StandsAs S.stands) W.contents W.flushed start s self.now now)
-            → result ≡ length at.turns }
-        ensures most { AtEach (StandsAs S.stands) W.contents W.flushed self.now
+            → (at : NetAt S.Stage W.Sink start s self.now now) → result ≡ length at.turns }
+        ensures most { AtEach S.Stage W.Sink self.now
             (λ start s now. now.failure ≡ None → result ≤ most_in_all (plan_of s) now.links) }
 
         // Each actor has had no more of them than what it moved allows.
         ensures each { (start : Option (List ℕ)) (s : Scene) (now : Now Row)
-            → (at : NetAt (StandsAs S.stands) W.contents W.flushed start s self.now now)
-            → now.failure ≡ None → (k : ℕ) → turns_of k at.turns ≤ most (plan_of s) now.links k }
+            → (at : NetAt S.Stage W.Sink start s self.now now) → now.failure ≡ None → (k : ℕ)
+            → turns_of k at.turns ≤ most (plan_of s) now.links k }
     {
         self.turns
     }
@@ -702,8 +672,7 @@ impl<S: Stage + Drop, R: Source + Drop, W: Sink> Net<S, R, W> {
     /// The stages and the sink.
     pub fn actors(&self) -> usize
         ensures count { result ≡ length self.now.actors.items }
-        ensures stages { AtEach (StandsAs S.stands) W.contents W.flushed self.now
-            (λ start s now. result ≡ s.count + 1) }
+        ensures stages { AtEach S.Stage W.Sink self.now (λ start s now. result ≡ s.count + 1) }
     {
         self.actors.len()
     }
@@ -711,7 +680,7 @@ impl<S: Stage + Drop, R: Source + Drop, W: Sink> Net<S, R, W> {
     /// How many records lie on the link of an actor: those that it gave, less those taken. The sink has
     /// no link.
     pub fn linked(&self, k: usize) -> usize
-        ensures { AtEach (StandsAs S.stands) W.contents W.flushed self.now
+        ensures { AtEach S.Stage W.Sink self.now
             (λ start s now. now.failure ≡ None → k < s.count
             → (result ≡ linked (now.links k)) × (result ≤ s.size)) }
     {
@@ -720,12 +689,12 @@ impl<S: Stage + Drop, R: Source + Drop, W: Sink> Net<S, R, W> {
 
     /// How many records wait inside an actor: none in a source or the sink.
     pub fn held(&self, k: usize) -> usize
-        ensures held { AtEach (StandsAs S.stands) W.contents W.flushed self.now
+        ensures held { AtEach S.Stage W.Sink self.now
             (λ start s now. now.failure ≡ None → k ≤ s.count → result ≡ held_of s now.links k) }
 
         // In a stage of one input at most one more than the greatest lag of its records, in assemble
         // at most one of each source.
-        ensures few { AtEach (StandsAs S.stands) W.contents W.flushed self.now
+        ensures few { AtEach S.Stage W.Sink self.now
             (λ start s now. now.failure ≡ None → HoldsFew s now.links k result) }
     {
         self.web.held(k)
@@ -734,11 +703,10 @@ impl<S: Stage + Drop, R: Source + Drop, W: Sink> Net<S, R, W> {
     /// Whether the run has ended. Until then some actor is ready.
     #[inline(always)]
     pub fn over(&self) -> bool
-        requires { IsRunning (StandsAs S.stands) W.contents W.flushed self.now }
-        ensures progress { AtEach (StandsAs S.stands) W.contents W.flushed self.now
+        requires { IsRunning S.Stage W.Sink self.now }
+        ensures progress { AtEach S.Stage W.Sink self.now
             (λ start s now. ended (plan_of s) now ≡ None → SomeReady (plan_of s) s.size now.links) }
-        ensures over { AtEach (StandsAs S.stands) W.contents W.flushed self.now
-            (λ start s now. result ≡ is_some (ended (plan_of s) now)) }
+        ensures over { AtEach S.Stage W.Sink self.now (λ start s now. result ≡ is_some (ended (plan_of s) now)) }
     {
         self.result().is_some()
     }

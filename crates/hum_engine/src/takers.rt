@@ -1,6 +1,5 @@
 //! Who takes from each link.
 ghost use Rattle.std.specs.Prelude.{ℕ, IfOk};
-ghost use Rattle.hum_nodes.specs.Nodes.{StandsAs};
 ghost use Rattle.hum_engine.specs.Scene.{Scene, IsNetPlan, IsBegun, AreTakers};
 
 use hum_nodes::Node;
@@ -18,8 +17,7 @@ pub fn takers_of<S: Stage + Drop, R: Source + Drop>(
     nodes: &Vec<Node<S, R>>,
 ) -> Result<Vec<usize>, AllocError>
     ensures { IfOk result (λ takers. (size : ℕ) (s : Scene) → IsNetPlan s.count s.kinds s.size
-        → IsBegun (StandsAs S.stands) size nodes.now.items s
-        → AreTakers s.count s.kinds takers.items) }
+        → IsBegun S.Stage size nodes.now.items s → AreTakers s.count s.kinds takers.items) }
 {
     let count = nodes.len();
     let mut takers = vec![in alloc; count; count]?;

@@ -6,7 +6,6 @@ ghost use Rattle.hum_turns.specs.Turns.{Gives, Takes, Ends, state, can, ready};
 ghost use Rattle.hum_turns.specs.Plan.{last};
 ghost use Rattle.hum_turns.specs.Near.{touched};
 ghost use Rattle.hum_turns.specs.Links.{linked, IsOpening};
-ghost use Rattle.hum_nodes.specs.Nodes.{StandsAs};
 ghost use Rattle.hum_nodes.specs.At.{HoldsOneEach};
 ghost use Rattle.hum_nodes.specs.Doing as does;
 ghost use Rattle.hum_nodes.specs.declared.node.Readiness.TheVariants as kinds;
@@ -79,9 +78,8 @@ impl<S: Stage + Drop, R: Source + Drop> Web<S, R> {
     /// # Errors
     /// Out of memory.
     pub fn new(alloc: Global, nodes: Vec<Node<S, R>>, size: usize) -> Result<Web<S, R>, AllocError>
-        ensures stands { IfOk result (λ web. (s : Scene) → IsOpening s.links
-            → IsBegun (StandsAs S.stands) size nodes.items s
-            → Stands (StandsAs S.stands) web s) }
+        ensures stands { IfOk result (λ web. (s : Scene) → IsOpening s.links → IsBegun S.Stage size nodes.items s
+            → Stands S.Stage web s) }
         ensures nodes { IfOk result (λ web. web.nodes ≡ nodes) }
     {
         let mut links = Vec::new(alloc);
@@ -119,9 +117,9 @@ impl<S: Stage + Drop, R: Source + Drop> Web<S, R> {
     /// A failed read, and running out of memory.
     #[inline(always)]
     pub fn fetch(&mut self, k: usize) -> Result<Option<Record>, ReadError>
-        requires at { Somewhere (IsAt (StandsAs S.stands) self.old) }
-        requires may { IsHanding (StandsAs S.stands) k self.old }
-        ensures { HasFetched (StandsAs S.stands) R.remaining R.calls R.failed k self.old self.new result }
+        requires at { Somewhere (IsAt S.Stage self.old) }
+        requires may { IsHanding S.Stage k self.old }
+        ensures { HasFetched S.Stage R.Source k self.old self.new result }
     {
         if self.nodes[k].gives_ahead() {
             return Ok(Some(self.nodes[k].take_ahead()));
@@ -135,9 +133,9 @@ impl<S: Stage + Drop, R: Source + Drop> Web<S, R> {
     // The same of a source.
     #[inline(always)]
     fn read_next(&mut self, k: usize) -> Result<Option<Record>, ReadError>
-        requires turn { Somewhere (MayTurn (StandsAs S.stands) k self.old) }
+        requires turn { Somewhere (MayTurn S.Stage k self.old) }
         requires source { IsKind true k self.old }
-        ensures { HasFetched (StandsAs S.stands) R.remaining R.calls R.failed k self.old self.new result }
+        ensures { HasFetched S.Stage R.Source k self.old self.new result }
     {
         match self.nodes[k].next(&mut self.pool) {
             Some(row) => Ok(Some(row)),
@@ -155,10 +153,10 @@ impl<S: Stage + Drop, R: Source + Drop> Web<S, R> {
     // The same of another stage.
     #[inline(always)]
     fn make_next(&mut self, k: usize) -> Result<Option<Record>, ReadError>
-        requires at { Somewhere (IsAt (StandsAs S.stands) self.old) }
-        requires may { IsHanding (StandsAs S.stands) k self.old }
+        requires at { Somewhere (IsAt S.Stage self.old) }
+        requires may { IsHanding S.Stage k self.old }
         requires stage { IsKind false k self.old }
-        ensures { HasFetched (StandsAs S.stands) R.remaining R.calls R.failed k self.old self.new result }
+        ensures { HasFetched S.Stage R.Source k self.old self.new result }
     {
         match self.nodes[k].take(&mut self.pool) {
             Ok(given) => Ok(given),
@@ -180,9 +178,9 @@ impl<S: Stage + Drop, R: Source + Drop> Web<S, R> {
     // each record takes 3 % more.
     #[inline(always)]
     fn poll(&mut self, k: usize) -> Result<Moved, ReadError>
-        requires turn { Somewhere (MayTurn (StandsAs S.stands) k self.old) }
+        requires turn { Somewhere (MayTurn S.Stage k self.old) }
         requires source { IsKind true k self.old }
-        ensures told { HasTold (StandsAs S.stands) R.remaining R.calls R.failed k self.old self.new result }
+        ensures told { HasTold S.Stage R.Source k self.old self.new result }
         ensures own { IfOk result (λ moved. (moved.link ≡ k) × (moved.has_taken ≡ false)) }
     {
         match self.nodes[k].next(&mut self.pool) {
@@ -210,10 +208,10 @@ impl<S: Stage + Drop, R: Source + Drop> Web<S, R> {
     /// What the sink takes: the next record of the last stage, or its end, if there is anything.
     #[inline(always)]
     pub fn take_out(&mut self) -> Taken
-        requires { Somewhere (IsAt (StandsAs S.stands) self.old) }
-        ensures done { is_some_of result ≡ true → (s : Scene) → IsAt (StandsAs S.stands) self.old s
-            → Done (StandsAs S.stands) s.count (Takes (last (plan_of s))) self.new s }
-        ensures taken { (s : Scene) → IsAt (StandsAs S.stands) self.old s
+        requires { Somewhere (IsAt S.Stage self.old) }
+        ensures done { is_some_of result ≡ true → (s : Scene) → IsAt S.Stage self.old s
+            → Done S.Stage s.count (Takes (last (plan_of s))) self.new s }
+        ensures taken { (s : Scene) → IsAt S.Stage self.old s
             → result ≡ taken_of (s.links (last (plan_of s))).waiting (s.links (last (plan_of s))).mark }
         ensures room { (row : Row) → result ≡ taken.Record row
             → HasRoom (length self.old.links.items - 1) self.new }
@@ -236,11 +234,10 @@ impl<S: Stage + Drop, R: Source + Drop> Web<S, R> {
     // A stage gives a record onto its link.
     #[inline(always)]
     fn give(&mut self, k: usize) -> Result<(), AllocError>
-        requires may { Somewhere (MayAct (StandsAs S.stands) k does.Gives self.old) }
+        requires may { Somewhere (MayAct S.Stage k does.Gives self.old) }
         requires stage { IsKind false k self.old }
-        ensures given { OnOk result ((s : Scene)
-            → MayAct (StandsAs S.stands) k does.Gives self.old s
-            → Done (StandsAs S.stands) k Gives self.new s) }
+        ensures given { OnOk result ((s : Scene) → MayAct S.Stage k does.Gives self.old s
+            → Done S.Stage k Gives self.new s) }
         ensures nodes { Keeps k self.old self.new }
     {
         if let Some(row) = self.nodes[k].take(&mut self.pool)? {
@@ -251,10 +248,9 @@ impl<S: Stage + Drop, R: Source + Drop> Web<S, R> {
 
     // A stage sets its end.
     fn finish(&mut self, k: usize, end: End)
-        requires { Somewhere (MayAct (StandsAs S.stands) k (does.Done end) self.old) }
-        ensures ended { (s : Scene)
-            → MayAct (StandsAs S.stands) k (does.Done end) self.old s
-            → Done (StandsAs S.stands) k Ends self.new s }
+        requires { Somewhere (MayAct S.Stage k (does.Done end) self.old) }
+        ensures ended { (s : Scene) → MayAct S.Stage k (does.Done end) self.old s
+            → Done S.Stage k Ends self.new s }
         ensures nodes { self.new.nodes ≡ self.old.nodes }
     {
         self.links[k].end(end);
@@ -264,12 +260,11 @@ impl<S: Stage + Drop, R: Source + Drop> Web<S, R> {
     // passes.
     #[inline(never)]
     fn close(&mut self, k: usize)
-        requires turn { Somewhere (MayTurn (StandsAs S.stands) k self.old) }
-        requires done { IsDoing (StandsAs S.stands) k self.old kinds.Done }
-        ensures done { (s : Scene) → MayTurn (StandsAs S.stands) k self.old s
-            → Done (StandsAs S.stands) k (state (plan_of s) s.links k) self.new s }
-        ensures link { (s : Scene) → IsActor (StandsAs S.stands) k self.old s
-            → k ≡ touched k (state (plan_of s) s.links k) }
+        requires turn { Somewhere (MayTurn S.Stage k self.old) }
+        requires done { IsDoing S.Stage k self.old kinds.Done }
+        ensures done { (s : Scene) → MayTurn S.Stage k self.old s
+            → Done S.Stage k (state (plan_of s) s.links k) self.new s }
+        ensures link { (s : Scene) → IsActor S.Stage k self.old s → k ≡ touched k (state (plan_of s) s.links k) }
         ensures nodes { Keeps k self.old self.new }
     {
         if let Some(end) = self.nodes[k].end() {
@@ -280,12 +275,11 @@ impl<S: Stage + Drop, R: Source + Drop> Web<S, R> {
     // A stage takes from the link of the source that it wants from, if there is anything.
     #[inline(always)]
     fn pass(&mut self, k: usize) -> Option<Result<Moved, ReadError>>
-        requires about { (place : ℕ) × Somewhere (IsAbout (StandsAs S.stands) k (does.Wants place) self.old) }
+        requires about { (place : ℕ) × Somewhere (IsAbout S.Stage k (does.Wants place) self.old) }
         requires stage { IsKind false k self.old }
-        ensures ready { (s : Scene) → HasActor (StandsAs S.stands) k self.old s
+        ensures ready { (s : Scene) → HasActor S.Stage k self.old s
             → is_some result ≡ ready (plan_of s) s.size s.links k }
-        ensures told { IfSome result
-            (HasTold (StandsAs S.stands) R.remaining R.calls R.failed k self.old self.new) }
+        ensures told { IfSome result (HasTold S.Stage R.Source k self.old self.new) }
         ensures same { result ≡ None → self.new ≡ self.old }
     {
         let node = &mut self.nodes[k];
@@ -313,11 +307,10 @@ impl<S: Stage + Drop, R: Source + Drop> Web<S, R> {
     /// A failed read, and running out of memory.
     #[inline(always)]
     pub fn turn(&mut self, k: usize) -> Option<Result<Moved, ReadError>>
-        requires { Somewhere (HasActor (StandsAs S.stands) k self.old) }
-        ensures ready { (s : Scene) → HasActor (StandsAs S.stands) k self.old s
+        requires { Somewhere (HasActor S.Stage k self.old) }
+        ensures ready { (s : Scene) → HasActor S.Stage k self.old s
             → is_some result ≡ ready (plan_of s) s.size s.links k }
-        ensures told { IfSome result
-            (HasTold (StandsAs S.stands) R.remaining R.calls R.failed k self.old self.new) }
+        ensures told { IfSome result (HasTold S.Stage R.Source k self.old self.new) }
         ensures same { result ≡ None → self.new ≡ self.old }
     {
         match self.nodes[k].readiness() {
@@ -350,9 +343,9 @@ impl<S: Stage + Drop, R: Source + Drop> Web<S, R> {
     // Whether a stage that isn't a source can do this.
     #[inline(always)]
     fn can(&self, k: usize, kind: Readiness) -> bool
-        requires about { Somewhere (IsAboutKind (StandsAs S.stands) k kind self.now) }
+        requires about { Somewhere (IsAboutKind S.Stage k kind self.now) }
         requires stage { IsKind false k self.now }
-        ensures { (s : Scene) → IsAboutKind (StandsAs S.stands) k kind self.now s
+        ensures { (s : Scene) → IsAboutKind S.Stage k kind self.now s
             → result ≡ can s.size s.links k (state (plan_of s) s.links k) }
     {
         match kind {
@@ -370,10 +363,9 @@ impl<S: Stage + Drop, R: Source + Drop> Web<S, R> {
     // Whether a source may read.
     #[inline(always)]
     fn may_read(&self, k: usize) -> bool
-        requires stage { Somewhere (HasActor (StandsAs S.stands) k self.now) }
+        requires stage { Somewhere (HasActor S.Stage k self.now) }
         requires source { IsKind true k self.now }
-        ensures { (s : Scene) → HasActor (StandsAs S.stands) k self.now s
-            → result ≡ ready (plan_of s) s.size s.links k }
+        ensures { (s : Scene) → HasActor S.Stage k self.now s → result ≡ ready (plan_of s) s.size s.links k }
     {
         self.links[k].is_unset() && self.links[k].has_room()
     }
@@ -385,12 +377,11 @@ impl<S: Stage + Drop, R: Source + Drop> Web<S, R> {
     /// As [`Web::turn`]'s.
     #[inline(always)]
     pub fn refill(&mut self, k: usize) -> Option<Result<Moved, ReadError>>
-        requires at { Somewhere (IsAt (StandsAs S.stands) self.old) }
+        requires at { Somewhere (IsAt S.Stage self.old) }
         requires room { HasRoom k self.old }
-        ensures ready { is_some result ≡ true → (s : Scene) → IsAt (StandsAs S.stands) self.old s
-            → MayTurn (StandsAs S.stands) k self.old s }
-        ensures told { IfSome result
-            (HasTold (StandsAs S.stands) R.remaining R.calls R.failed k self.old self.new) }
+        ensures ready { is_some result ≡ true → (s : Scene) → IsAt S.Stage self.old s
+            → MayTurn S.Stage k self.old s }
+        ensures told { IfSome result (HasTold S.Stage R.Source k self.old self.new) }
         ensures own { IfSome result (λ told. IfOk told (λ moved. (moved.link ≡ k) × (moved.has_taken ≡ false))) }
         ensures same { result ≡ None → self.new ≡ self.old }
     {
@@ -407,7 +398,7 @@ impl<S: Stage + Drop, R: Source + Drop> Web<S, R> {
 
     /// Whether a stage waits: it takes from another stage next, and nothing lies on the link of that.
     pub fn waits(&self, k: usize) -> bool
-        requires { Somewhere (HasActor (StandsAs S.stands) k self.now) }
+        requires { Somewhere (HasActor S.Stage k self.now) }
         ensures { result ≡ true → IsWaiting k self.now }
     {
         match self.nodes[k].readiness() {
@@ -422,8 +413,8 @@ impl<S: Stage + Drop, R: Source + Drop> Web<S, R> {
     /// Whether a stage may hand a record on: nothing lies on its link, and it reads bytes or gives next.
     #[inline(always)]
     pub fn may_hand(&self, k: usize) -> bool
-        requires { Somewhere (IsAt (StandsAs S.stands) self.now) }
-        ensures { result ≡ true → IsHanding (StandsAs S.stands) k self.now }
+        requires { Somewhere (IsAt S.Stage self.now) }
+        ensures { result ≡ true → IsHanding S.Stage k self.now }
     {
         if k >= self.nodes.len() || !self.is_idle(k) {
             return false;
@@ -458,8 +449,8 @@ impl<S: Stage + Drop, R: Source + Drop> Web<S, R> {
     /// Whether a stage takes from this other one next.
     #[inline(always)]
     pub fn wants_from(&self, k: usize, source: usize) -> bool
-        requires { Somewhere (IsAt (StandsAs S.stands) self.now) }
-        ensures { result ≡ true → (place : ℕ) × WantsFrom (StandsAs S.stands) k place source self.now }
+        requires { Somewhere (IsAt S.Stage self.now) }
+        ensures { result ≡ true → (place : ℕ) × WantsFrom S.Stage k place source self.now }
     {
         if k >= self.nodes.len() {
             return false;
@@ -476,10 +467,9 @@ impl<S: Stage + Drop, R: Source + Drop> Web<S, R> {
     /// Out of memory.
     #[inline(always)]
     pub fn accept(&mut self, k: usize, row: Record) -> Result<(), AllocError>
-        requires { IsOffered (StandsAs S.stands) k row self.old }
-        ensures accepted { OnOk result
-            (HasAccepted (StandsAs S.stands) R.remaining k row self.old self.new) }
-        ensures asked { AsksNone R.remaining R.failed k self.old self.new }
+        requires { IsOffered S.Stage k row self.old }
+        ensures accepted { OnOk result (HasAccepted S.Stage R.Source k row self.old self.new) }
+        ensures asked { AsksNone R.Source k self.old self.new }
     {
         self.nodes[k].put(row, &mut self.pool)?;
         Ok(())
@@ -488,9 +478,8 @@ impl<S: Stage + Drop, R: Source + Drop> Web<S, R> {
     /// Whether an actor is ready.
     #[inline(always)]
     pub fn ready(&self, k: usize) -> bool
-        requires { Somewhere (IsActor (StandsAs S.stands) k self.now) }
-        ensures { (s : Scene) → IsActor (StandsAs S.stands) k self.now s
-            → result ≡ ready (plan_of s) s.size s.links k }
+        requires { Somewhere (IsActor S.Stage k self.now) }
+        ensures { (s : Scene) → IsActor S.Stage k self.now s → result ≡ ready (plan_of s) s.size s.links k }
     {
         if k == self.nodes.len() {
             return self.links[k - 1].has_some();
@@ -505,9 +494,8 @@ impl<S: Stage + Drop, R: Source + Drop> Web<S, R> {
 
     /// The number of the last stage, whose link the sink takes from.
     pub fn last(&self) -> usize
-        requires { Somewhere (IsAt (StandsAs S.stands) self.now) }
-        ensures last { (s : Scene) → IsAt (StandsAs S.stands) self.now s
-            → result ≡ last (plan_of s) }
+        requires { Somewhere (IsAt S.Stage self.now) }
+        ensures last { (s : Scene) → IsAt S.Stage self.now s → result ≡ last (plan_of s) }
         ensures place { result ≡ length self.now.links.items - 1 }
     {
         self.links.len() - 1
@@ -515,7 +503,7 @@ impl<S: Stage + Drop, R: Source + Drop> Web<S, R> {
 
     /// How many records lie on the link of a stage; none where there is no such stage.
     pub fn linked(&self, k: usize) -> usize
-        ensures { (s : Scene) → HasStage (StandsAs S.stands) k self.now s
+        ensures { (s : Scene) → HasStage S.Stage k self.now s
             → (result ≡ linked (s.links k)) × (result ≤ s.size) }
     {
         if k >= self.links.len() {
@@ -526,9 +514,8 @@ impl<S: Stage + Drop, R: Source + Drop> Web<S, R> {
 
     /// How many records wait inside a stage: none in a source, and none where there is no such stage.
     pub fn held(&self, k: usize) -> usize
-        ensures held { (s : Scene) → HasStage (StandsAs S.stands) k self.now s
-            → result ≡ held_of s s.links k }
-        ensures few { (s : Scene) → HasStage (StandsAs S.stands) k self.now s
+        ensures held { (s : Scene) → HasStage S.Stage k self.now s → result ≡ held_of s s.links k }
+        ensures few { (s : Scene) → HasStage S.Stage k self.now s
             → HoldsOneEach (s.kinds k) (length (s.kinds k).stage.sources) result }
         ensures none { length self.now.nodes.items ≤ k → result ≡ 0 }
     {
@@ -544,9 +531,8 @@ impl<S: Stage + Drop, R: Source + Drop> Web<S, R> {
 
     /// The end that the sink has heard.
     pub fn heard(&self) -> Option<End>
-        requires { Somewhere (IsAt (StandsAs S.stands) self.now) }
-        ensures { (s : Scene) → IsAt (StandsAs S.stands) self.now s
-            → result ≡ (s.links (last (plan_of s))).heard }
+        requires { Somewhere (IsAt S.Stage self.now) }
+        ensures { (s : Scene) → IsAt S.Stage self.now s → result ≡ (s.links (last (plan_of s))).heard }
     {
         let last = self.links.len() - 1;
         self.links[last].heard()

@@ -16,7 +16,7 @@ pub struct WriteFailed;
 /// A write that fails, or that takes no byte. A prefix of the text was written then.
 #[inline(always)]
 fn write_all<W: Sink>(sink: &mut W, text: &[u8]) -> Result<(), WriteFailed>
-    ensures { HasWritten W.contents W.failed W.calls sink.old sink.new text.now result }
+    ensures { HasWritten W.Sink sink.old sink.new text.now result }
 {
     if text.is_empty() {
         return Ok(());
@@ -32,7 +32,7 @@ fn write_all<W: Sink>(sink: &mut W, text: &[u8]) -> Result<(), WriteFailed>
 /// The same where one write may not be enough.
 #[inline(never)]
 fn write_on<W: Sink>(sink: &mut W, text: &[u8]) -> Result<(), WriteFailed>
-    ensures { HasWritten W.contents W.failed W.calls sink.old sink.new text.now result }
+    ensures { HasWritten W.Sink sink.old sink.new text.now result }
 {
     let mut rest = text;
     while !rest.is_empty() {
@@ -51,7 +51,7 @@ fn write_on<W: Sink>(sink: &mut W, text: &[u8]) -> Result<(), WriteFailed>
 /// As [`write_all`]'s.
 #[inline(always)]
 pub fn write_record<W: Sink>(sink: &mut W, row: &Record) -> Result<(), WriteFailed>
-    ensures { HasWritten W.contents W.failed W.calls sink.old sink.new
+    ensures { HasWritten W.Sink sink.old sink.new
         (text_of row.now ++ 10 ∷ []) result }
 {
     write_all(sink, row.text_lf())

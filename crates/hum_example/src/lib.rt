@@ -33,8 +33,7 @@ pub fn make_rounds<R: Source + Drop, W: Sink>(
     rounds: usize,
 ) -> Option<RunResult>
     ensures { (start : Option (List ℕ)) (s : Scene) (now : Now Row)
-        → NetAt (StandsAs ⟦<CommandStage as Stage>⟧.stands) W.contents W.flushed start s net.new now
-        → result ≡ ended (plan_of s) now }
+        → NetAt ⟦<CommandStage as Stage>⟧ W.Sink start s net.new now → result ≡ ended (plan_of s) now }
 {
     for _ in 0..rounds {
         for k in 0..net.actors() {

@@ -47,7 +47,7 @@ impl<R: Source, W: Sink> Model for Net<R, W> {
 
     ghost view = { λ net. net.engine };
 
-    ghost invariant = { λ net. IsNet (StandsAs ⟦<CommandStage as Stage>⟧.stands) W.contents W.flushed
+    ghost invariant = { λ net. IsNet ⟦<CommandStage as Stage>⟧ W.Sink
         net.engine };
 }
 
@@ -70,13 +70,12 @@ impl<R: Source + Drop, W: Sink> Net<R, W> {
 
         // Whatever bytes the readers have, it stands for the plan over them before the first turn.
         ensures opens { IfOk result (λ net. (bytes : ℕ → List ℕ)
-            → NetAt (StandsAs ⟦<CommandStage as Stage>⟧.stands) W.contents W.flushed
-            (W.contents writer) (scene_of bytes bytes plan link) net first_now) }
+            → NetAt ⟦<CommandStage as Stage>⟧ W.Sink (W.contents writer) (scene_of bytes bytes plan link) net
+            first_now) }
 
         // Where the readers tell their bytes, so do its sources.
-        ensures tells { IfOk result (λ net. (bytes : ℕ → List ℕ)
-            → AreTold R.remaining bytes 0 plan readers.items
-            → Tells R.remaining net.web.nodes.items bytes) }
+        ensures tells { IfOk result (λ net. (bytes : ℕ → List ℕ) → AreTold R.remaining bytes 0 plan readers.items
+            → Tells R.Source net.web.nodes.items bytes) }
         ensures sink { IfOk result (λ net. net.sink ≡ writer) }
         ensures failure { IfOk result (λ net. net.failure ≡ None) }
         ensures err { IfErr result (λ back. back ≡ writer) }
@@ -97,11 +96,11 @@ impl<R: Source + Drop, W: Sink> Net<R, W> {
         requires link { 1 ≤ link }
         requires room { link ≤ 4096 }
         ensures opens { IfOk result (λ net. (bytes : ℕ → List ℕ)
-            → NetAt (StandsAs ⟦<CommandStage as Stage>⟧.stands) W.contents W.flushed
-            (W.contents writer) (scene_of bytes bytes (stages_of stages.items) link) net first_now) }
+            → NetAt ⟦<CommandStage as Stage>⟧ W.Sink (W.contents writer)
+            (scene_of bytes bytes (stages_of stages.items) link) net first_now) }
         ensures tells { IfOk result (λ net. (bytes : ℕ → List ℕ)
             → AreTold R.remaining bytes 0 (stages_of stages.items) readers.items
-            → Tells R.remaining net.web.nodes.items bytes) }
+            → Tells R.Source net.web.nodes.items bytes) }
         ensures valid { IfOk result (λ net. AreSoundFrom 0 (stages_of stages.items)) }
         ensures sink { IfOk result (λ net. net.sink ≡ writer) }
         ensures failure { IfOk result (λ net. net.failure ≡ None) }
@@ -117,8 +116,7 @@ impl<R: Source + Drop, W: Sink> Net<R, W> {
     /// How many actors there are: the stages and the sink.
     pub fn actors(&self) -> usize
         ensures count { result ≡ length self.now.actors.items }
-        ensures stages { AtEach (StandsAs ⟦<CommandStage as Stage>⟧.stands) W.contents W.flushed self.now
-            (λ start s now. result ≡ s.count + 1) }
+        ensures stages { AtEach ⟦<CommandStage as Stage>⟧ W.Sink self.now (λ start s now. result ≡ s.count + 1) }
     {
         self.engine.actors()
     }
@@ -126,7 +124,7 @@ impl<R: Source + Drop, W: Sink> Net<R, W> {
     /// Whether an actor is ready: it may have a turn. Once the run has ended none is.
     pub fn ready(&self, k: usize) -> bool
         requires { k < length self.now.actors.items }
-        ensures { AtEach (StandsAs ⟦<CommandStage as Stage>⟧.stands) W.contents W.flushed self.now
+        ensures { AtEach ⟦<CommandStage as Stage>⟧ W.Sink self.now
             (λ start s now. result ≡ is_ready (plan_of s) s.size now k) }
     {
         self.engine.ready(k)
@@ -135,23 +133,21 @@ impl<R: Source + Drop, W: Sink> Net<R, W> {
     /// One turn of an actor that is ready, and whether the run is over then.
     pub fn turn(&mut self, k: usize) -> bool
         requires within { k < length self.old.actors.items }
-        requires ready { IsReadyNow (StandsAs ⟦<CommandStage as Stage>⟧.stands) W.contents W.flushed
-            k self.old }
+        requires ready { IsReadyNow ⟦<CommandStage as Stage>⟧ W.Sink k self.old }
 
         // It is one turn of this actor, whatever comes of the bytes that are still to be read.
-        ensures turned { HasTurned (StandsAs ⟦<CommandStage as Stage>⟧.stands) R.remaining W.contents
-            W.flushed k self.old self.new result }
+        ensures turned { HasTurned ⟦<CommandStage as Stage>⟧ R.Source W.Sink k self.old self.new result }
         ensures turns { self.new.turns ≡ self.old.turns + 1 }
         ensures actors { self.new.actors ≡ self.old.actors }
 
         // A failed read or write ends the run exactly where a call has failed.
-        ensures reads { (i : ℕ) → failed_at R.failed i self.new.web.nodes.items
-            ≡ (failed_at R.failed i self.old.web.nodes.items || is_read_of i self.new.failure) }
+        ensures reads { (i : ℕ) → failed_at R.Source i self.new.web.nodes.items
+            ≡ (failed_at R.Source i self.old.web.nodes.items || is_read_of i self.new.failure) }
         ensures writes { W.failed self.new.sink ≡ (W.failed self.old.sink || is_write self.new.failure) }
 
         // The writer is asked for no write but those of the record that the sink takes, or for one flush
         // at the end.
-        ensures asked { AtEach (StandsAs ⟦<CommandStage as Stage>⟧.stands) W.contents W.flushed self.old
+        ensures asked { AtEach ⟦<CommandStage as Stage>⟧ W.Sink self.old
             (λ start s now. k ≡ s.count → CallsSink (W.calls self.old.sink) (W.calls self.new.sink)
             (now.links (last (plan_of s))).waiting) }
     {
@@ -160,9 +156,9 @@ impl<R: Source + Drop, W: Sink> Net<R, W> {
 
     /// Whether the run is over. Until then some actor is ready.
     pub fn over(&self) -> bool
-        ensures progress { AtEach (StandsAs ⟦<CommandStage as Stage>⟧.stands) W.contents W.flushed self.now
+        ensures progress { AtEach ⟦<CommandStage as Stage>⟧ W.Sink self.now
             (λ start s now. ended (plan_of s) now ≡ None → SomeReady (plan_of s) s.size now.links) }
-        ensures over { AtEach (StandsAs ⟦<CommandStage as Stage>⟧.stands) W.contents W.flushed self.now
+        ensures over { AtEach ⟦<CommandStage as Stage>⟧ W.Sink self.now
             (λ start s now. result ≡ is_some (ended (plan_of s) now)) }
     {
         self.engine.over()
@@ -170,7 +166,7 @@ impl<R: Source + Drop, W: Sink> Net<R, W> {
 
     /// How the run ended, once it has.
     pub fn result(&self) -> Option<RunResult>
-        ensures { AtEach (StandsAs ⟦<CommandStage as Stage>⟧.stands) W.contents W.flushed self.now
+        ensures { AtEach ⟦<CommandStage as Stage>⟧ W.Sink self.now
             (λ start s now. result ≡ ended (plan_of s) now) }
     {
         self.engine.result()
@@ -180,25 +176,25 @@ impl<R: Source + Drop, W: Sink> Net<R, W> {
     /// that were moved allow.
     pub fn turns(&self) -> u64
         ensures turns { result ≡ self.now.turns }
-        ensures most { AtEach (StandsAs ⟦<CommandStage as Stage>⟧.stands) W.contents W.flushed self.now
+        ensures most { AtEach ⟦<CommandStage as Stage>⟧ W.Sink self.now
             (λ start s now. now.failure ≡ None → result ≤ most_in_all (plan_of s) now.links) }
 
         // Each actor has had no more of them than what it moved allows.
         ensures each { (start : Option (List ℕ)) (s : Scene) (now : Now Row)
-            → (at : NetAt (StandsAs ⟦<CommandStage as Stage>⟧.stands) W.contents W.flushed start s self.now now)
-            → now.failure ≡ None → (k : ℕ) → turns_of k at.turns ≤ most (plan_of s) now.links k }
+            → (at : NetAt ⟦<CommandStage as Stage>⟧ W.Sink start s self.now now) → now.failure ≡ None → (k : ℕ)
+            → turns_of k at.turns ≤ most (plan_of s) now.links k }
     {
         self.engine.turns()
     }
 
     /// How many records wait inside an actor: none in a source or the sink.
     pub fn held(&self, k: usize) -> usize
-        ensures held { AtEach (StandsAs ⟦<CommandStage as Stage>⟧.stands) W.contents W.flushed self.now
+        ensures held { AtEach ⟦<CommandStage as Stage>⟧ W.Sink self.now
             (λ start s now. now.failure ≡ None → k ≤ s.count → result ≡ held_of s now.links k) }
 
         // In a stage of one input at most one more than the greatest lag of its records, in assemble
         // at most one of each source.
-        ensures few { AtEach (StandsAs ⟦<CommandStage as Stage>⟧.stands) W.contents W.flushed self.now
+        ensures few { AtEach ⟦<CommandStage as Stage>⟧ W.Sink self.now
             (λ start s now. now.failure ≡ None → HoldsFew s now.links k result) }
     {
         self.engine.held(k)
@@ -207,7 +203,7 @@ impl<R: Source + Drop, W: Sink> Net<R, W> {
     /// How many records lie on the link of an actor: those that it gave, less those taken. The sink has
     /// no link.
     pub fn linked(&self, k: usize) -> usize
-        ensures { AtEach (StandsAs ⟦<CommandStage as Stage>⟧.stands) W.contents W.flushed self.now
+        ensures { AtEach ⟦<CommandStage as Stage>⟧ W.Sink self.now
             (λ start s now. now.failure ≡ None → k < s.count
             → (result ≡ linked (now.links k)) × (result ≤ s.size)) }
     {
@@ -218,7 +214,7 @@ impl<R: Source + Drop, W: Sink> Net<R, W> {
     /// the bytes go on that are still to come.
     pub fn into_writer(self) -> W
         ensures sink { result ≡ self.sink }
-        ensures front { AtEach (StandsAs ⟦<CommandStage as Stage>⟧.stands) W.contents W.flushed self
+        ensures front { AtEach ⟦<CommandStage as Stage>⟧ W.Sink self
             (λ start s now. WroteFront s start (W.contents result)) }
     {
         self.engine.into_writer()
@@ -226,9 +222,8 @@ impl<R: Source + Drop, W: Sink> Net<R, W> {
 
     /// Makes the turns that the order picks, to the end of the run.
     pub fn run<O: Order>(&mut self, order: &mut O) -> RunResult
-        ensures { RunsBy (StandsAs ⟦<CommandStage as Stage>⟧.stands) R.remaining R.failed W.contents
-            W.flushed W.failed (record { pick = O.picks; next = O.after }) order.old order.new
-            self.old self.new result }
+        ensures { RunsBy ⟦<CommandStage as Stage>⟧ R.Source W.Sink (record { pick = O.picks; next = O.after })
+            order.old order.new self.old self.new result }
     {
         self.engine.run(order)
     }

@@ -51,7 +51,7 @@ fn plan_node<R: Source + Drop>(
     requires reader { reads_by (options_of stage.options) ≤ length readers.old.items }
     ensures left { length readers.new.items + reads_by (options_of stage.options)
         ≡ length readers.old.items }
-    ensures fits { IfOk result (Fits (StandsAs ⟦<CommandStage as Stage>⟧.stands) k stage) }
+    ensures fits { IfOk result (Fits ⟦<CommandStage as Stage>⟧ k stage) }
     ensures told { IfOk result (λ made. (bytes : ℕ → List ℕ) (stages : List Stage)
         → AreTold R.remaining bytes k (stage_of stage ∷ stages) readers.old.items
         → Tells R.remaining bytes k stage made
@@ -83,8 +83,7 @@ pub(crate) fn plan_nodes<R: Source + Drop>(
 ) -> Result<Vec<Node<CommandStage, R>>, AllocError>
     requires tree { IsTree (stages_of stages.items) }
     requires readers { reads_of (stages_of stages.items) ≡ length readers.items }
-    ensures fits { IfOk result (λ nodes. AllFrom
-        (Fits (StandsAs ⟦<CommandStage as Stage>⟧.stands)) 0 stages.items nodes.items) }
+    ensures fits { IfOk result (λ nodes. AllFrom (Fits ⟦<CommandStage as Stage>⟧) 0 stages.items nodes.items) }
     ensures told { IfOk result (λ nodes. (bytes : ℕ → List ℕ)
         → AreTold R.remaining bytes 0 (stages_of stages.items) readers.items
         → AllFrom (Tells R.remaining bytes) 0 stages.items nodes.items) }

@@ -1,5 +1,4 @@
 use Rattle.std.proofs.Common.{ℕ}
-use Rattle.hum_nodes.specs.Nodes.{StandsAs}
 use Rattle.hum_engine.specs.Scene.{Scene, IsNetPlan, IsBegun}
 use Rattle.hum_engine.proofs.Noting.{AreNoted}
 use Rattle.hum_engine.proofs.takers.takers_of.Given as goal
@@ -7,4 +6,4 @@ use Rattle.hum_engine.proofs.takers.takers_of.Given as goal
 abbrev pub invariant-loop-k : goal.invariant-loop-k
 invariant-loop-k g l =
     (size : ℕ) (s : Scene) → IsNetPlan s.count s.kinds s.size
-    → IsBegun (StandsAs g.S.Stage.stands) size l.nodes.items s → AreNoted l.k s l.takers.items
+    → IsBegun g.S.Stage size l.nodes.items s → AreNoted l.k s l.takers.items

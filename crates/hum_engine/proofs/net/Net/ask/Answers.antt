@@ -1,5 +1,4 @@
 use Rattle.std.proofs.Common.{ap, slice_set}
-use Rattle.hum_nodes.specs.Nodes.{StandsAs}
 use Rattle.hum_engine.specs.Scene.{moved}
 use Rattle.hum_engine.proofs.Netting.{web_at, ready_by}
 use Rattle.hum_engine.proofs.net.Net.ask.Goals as goal
@@ -14,5 +13,5 @@ ready-is-requires g c =
 
 pub returns-clause-list : goal.returns-clause-list
 returns-clause-list g c start s now h none within = ap (slice_set c.args.self.now.actors.items c.args.k)
-    (ready_by (StandsAs g.S.Stage.stands) g.W.Sink.contents g.W.Sink.flushed start s c.args.self.now now c.args.k h
+    (ready_by g.S.Stage g.W.Sink start s c.args.self.now now c.args.k h
     c.ready-is.result none within c.ready-is.ensures)

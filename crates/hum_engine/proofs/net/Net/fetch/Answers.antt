@@ -12,8 +12,7 @@ pub fail-requires : goal.fail-requires
 fail-requires g c = hand_number c.requires
 
 pub returns-in-Ok-clause-fetched : goal.returns-in-Ok-clause-fetched
-returns-in-Ok-clause-fetched g c = fetched_by g.W.Sink.failed c.requires c.fetch.ensures c.in-Ok.given c.in-Ok.is
+returns-in-Ok-clause-fetched g c = fetched_by c.requires c.fetch.ensures c.in-Ok.given c.in-Ok.is
 
 pub returns-in-Err-clause-fetched : goal.returns-in-Err-clause-fetched
-returns-in-Err-clause-fetched g c =
-    gone_alone g.W.Sink.failed c.requires (rw c.in-Err.is at c.fetch.ensures) tt c.fail.ensures
+returns-in-Err-clause-fetched g c = gone_alone c.requires (rw c.in-Err.is at c.fetch.ensures) tt c.fail.ensures

@@ -1,12 +1,10 @@
 use Rattle.std.proofs.Common.{◌+◌, ◌-◌, ◌*◌}
-use Rattle.hum_nodes.specs.Nodes.{StandsAs}
 use Rattle.hum_engine.specs.Nets.{still_to_ask}
 use Rattle.hum_engine.proofs.Telling.{Ran}
 use Rattle.hum_engine.proofs.net.Net.run.Given as goal
 
 abbrev pub invariant-turns : goal.invariant-turns
-invariant-turns g l = Ran (StandsAs g.S.Stage.stands) g.R.Source.remaining g.R.Source.failed g.W.Sink.contents
-    g.W.Sink.flushed g.W.Sink.failed (record { pick = g.O.Order.picks; next = g.O.Order.after })
+invariant-turns g l = Ran g.S.Stage g.R.Source g.W.Sink (record { pick = g.O.Order.picks; next = g.O.Order.after })
     l.fn.order l.order l.search l.fn.self l.self
 
 abbrev pub decreases-turns : goal.decreases-turns

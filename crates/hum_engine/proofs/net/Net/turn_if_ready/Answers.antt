@@ -37,11 +37,9 @@ returns-then-k-count g c =
       gone = record {
         turned = rw (e.turns, e.actors, e.takers) (sink_turned c.sink_turn.new.self.failure here o.went e.shows);
         link = λ s h. inl (sink_touches s c.args.k c.last-link.result (here ∙ h.at.stand.count) (c.last-link.ensures.last s h.at));
-        reads = λ i. rw (e.unread i, or-false) (e.shows i).mark;
-        writes = o.marked;
+        marks = record { reads = λ i. rw (e.unread i, or-false) (e.shows i).mark; writes = o.marked; takers = e.takers };
         turns = ap (λ n. n + 1) e.turns;
         actors = e.actors;
-        takers = e.takers;
         full = λ full. absurd (false≢true full);
         room = λ taken. let st = (asked_at c.requires).stand in (
           omega (arith, c.last-link.ensures.place, st.as_many, here, st.count, c.requires.running.at.plan.ok.some),

@@ -1,10 +1,12 @@
 use Rattle.std.proofs.Common.{ℕ, ◌∙◌, ◌≡◌, List, Option, Some, refl, sym, get_or, subst}
 use Rattle.std.proofs.lemmas.Option.{same_Some}
 use Rattle.hum_stage.specs.declared.faults.End.{End}
+use Rattle.hum_stage.specs.declared.contract.Stage.{Ghosts as Stage}
 use Rattle.hum_nodes.specs.At.{At, doing_of}
 use Rattle.hum_nodes.specs.Doing as does
 use Rattle.hum_nodes.specs.declared.node.Node.{Node}
 use Rattle.hum_nodes.specs.declared.node.Readiness.TheVariants as kinds
+use Rattle.hum_nodes.specs.Nodes.{StandsAs}
 use Rattle.hum_engine.specs.declared.web.Web.{Web}
 use Rattle.hum_engine.specs.Scene.{Scene, HasActor, IsAbout, IsDoing}
 use Rattle.hum_engine.proofs.Doings.{done_about}
@@ -16,15 +18,15 @@ use Rattle.hum_engine.proofs.Stepping.{has_done}
 use Rattle.hum_engine.proofs.web.Web.close.Goals as goal
 
 -- a stage that is done tells this end
-ends : {S R : Type 0} {stands : Node S R → List ℕ → At → Type 0} {k : ℕ} {web : Web S R} {node : Node S R}
-    {answer : Option End} {end : End} {s : Scene} → IsDoing stands k web kinds.Done → HasActor stands k web s
+ends : {S R : Type 0} {stage : Stage S} {k : ℕ} {web : Web S R} {node : Node S R}
+    {answer : Option End} {end : End} {s : Scene} → IsDoing stage k web kinds.Done → HasActor stage k web s
     → node ≡ get_or web.nodes.items k node
-    → ((rest : List ℕ) (t : At) (e : End) → stands node rest t → doing_of t ≡ does.Done e → answer ≡ Some e)
-    → answer ≡ Some end → IsAbout stands k (does.Done end) web s
-ends {S} {R} {stands} {k} {web} {node} {answer} {end} {s} doing h value tells is =
+    → ((rest : List ℕ) (t : At) (e : End) → StandsAs stage.stands node rest t → doing_of t ≡ does.Done e → answer ≡ Some e)
+    → answer ≡ Some end → IsAbout stage k (does.Done end) web s
+ends {S} {R} {stage} {k} {web} {node} {answer} {end} {s} doing h value tells is =
     let d = done_about (doing.1 s h.at h.less) refl in
     let e = tells (s.rests k) _ d.0 (h.at.stand.nodes k node (node_at h.less h.at.stand value)) d.1.does in
-    subst (λ f. IsAbout stands k (does.Done f) web s) (same_Some d.0 end (sym e ∙ is)) d.1
+    subst (λ f. IsAbout stage k (does.Done f) web s) (same_Some d.0 end (sym e ∙ is)) d.1
 
 pub finish-requires : goal.finish-requires
 finish-requires g c =

@@ -10,7 +10,7 @@ returns-then-gives_ahead g c =
     let a = ahead at (room_idle at c.requires.may.idle) c.index_mut.ensures.value c.take_ahead.ensures.gives in
     let kind = c.take_ahead.ensures.kind ∙ a.kind in
     record {
-      turned = gave_out g.R.Source.remaining at c.requires.may.idle a c.take_ahead.new.self c.take_ahead.ensures.taken kind;
+      turned = gave_out g.R.Source at c.requires.may.idle a c.take_ahead.new.self c.take_ahead.ensures.taken kind;
       read = λ isnt. absurd cc;
       asked = asks_no_one (ahead_kind a) (keeps c.take_ahead.new.self kind refl) (Ok (Some c.take_ahead.result)) refl;
     }

@@ -6,7 +6,7 @@ use Rattle.hum_engine.proofs.web.Web.make_next.Goals as goal
 
 pub returns-in-Ok : goal.returns-in-Ok
 returns-in-Ok g c = record {
-  turned = gave_out g.R.Source.remaining c.requires.at.holds c.requires.may.idle
+  turned = gave_out g.R.Source c.requires.at.holds c.requires.may.idle
       (handing_at c.requires.may c.requires.stage c.requires.at.holds c.index_mut.ensures.value) c.take.new.self
       c.in-Ok.ensures.taken c.take.ensures.kind;
   read = λ isnt. absurd cc;

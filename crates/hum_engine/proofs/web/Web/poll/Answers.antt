@@ -1,6 +1,5 @@
 use Rattle.std.proofs.Common.{◌∙◌, Some, refl, ap, ap₂}
 use Rattle.hum_read.specs.Steps.{given_by}
-use Rattle.hum_nodes.specs.Nodes.{StandsAs}
 use Rattle.std.proofs.lemmas.Bool.{false≢true}
 use Rattle.hum_engine.proofs.Feeding.{turn_link, source_room, why_stopped, source_full, told_read}
 use Rattle.hum_engine.proofs.Feeding.{told_failed, link_of}
@@ -32,7 +31,7 @@ returns-in-Some-Ok-clause-told g c =
 
 pub returns-in-None-stopped-clause-told : goal.returns-in-None-stopped-clause-told
 returns-in-None-stopped-clause-told g c =
-    let link = link_of (StandsAs g.S.Stage.stands) c.args.k c.args.self.now _ c.requires.turn.holds.less
+    let link = link_of g.S.Stage c.args.k c.args.self.now _ c.requires.turn.holds.less
     c.requires.turn.holds.at.stand in
     told_read c.requires.turn c.index_mut.ensures.value _ c.next.new.self refl _ c.next.ensures.once c.next.ensures.marks
     c.requires.source link.0 link.1

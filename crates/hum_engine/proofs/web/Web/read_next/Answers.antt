@@ -1,6 +1,5 @@
 use Rattle.std.proofs.Common.{◌∙◌, Some, refl, ap, ap₂}
 use Rattle.hum_read.specs.Steps.{given_by}
-use Rattle.hum_nodes.specs.Nodes.{StandsAs}
 use Rattle.hum_engine.specs.Links.{loaded}
 use Rattle.hum_engine.proofs.Feeding.{turn_link, why_stopped, fed, asked_ok, asked_err, link_of}
 use Rattle.hum_engine.proofs.Handing.{goes_loaded}
@@ -34,7 +33,7 @@ returns-in-Some-Ok g c =
 
 pub returns-in-None-stopped : goal.returns-in-None-stopped
 returns-in-None-stopped g c =
-    let link = link_of (StandsAs g.S.Stage.stands) c.args.k c.args.self.now _ c.requires.turn.holds.less
+    let link = link_of g.S.Stage c.args.k c.args.self.now _ c.requires.turn.holds.less
     c.requires.turn.holds.at.stand in
     let given = ap₂ given_by c.in-None.is (why_stopped c.requires.turn c.index_mut.ensures.value _ c.index.ensures
     c.stopped.ensures ∙ c.in-None-stopped.is) in

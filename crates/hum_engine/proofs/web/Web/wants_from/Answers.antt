@@ -1,6 +1,5 @@
 use Rattle.std.proofs.Common.{arith}
 use Rattle.std.proofs.lemmas.Bool.{eqb-true}
-use Rattle.hum_nodes.specs.Nodes.{StandsAs}
 use Rattle.hum_engine.specs.Scene.{Somewhere, HasActor}
 use Rattle.hum_engine.proofs.Answered.{may_try}
 use Rattle.hum_engine.proofs.Doings.{doing_is}
@@ -10,7 +9,7 @@ use Rattle.hum_engine.proofs.web.Web.wants_from.Goals as goal
 pub returns-in-Wants : goal.returns-in-Wants
 returns-in-Wants g c is =
     let at = c.requires.holds in
-    let h : Somewhere (HasActor (StandsAs g.S.Stage.stands) c.args.k c.args.self.now) = record {
+    let h : Somewhere (HasActor g.S.Stage c.args.k c.args.self.now) = record {
       scene = c.requires.scene;
       holds = record {
         at = at;
