@@ -17,7 +17,6 @@ use Rattle.hum_turns.specs.Plan.{Plan, KeepsFine, last}
 use Rattle.hum_turns.specs.Meaning.{plan_meaning, first_fault, IsNumbered}
 use Rattle.hum_turns.specs.Orders.{Order, Driven, LeansTo, ready_list, choice}
 use Rattle.hum_turns.specs.declared.order.Side.TheVariants as side
-use Rattle.hum_turns.specs.declared.order.Order.{Ghosts as Orders}
 use Rattle.hum_turns.specs.Links.{Moment, has_room, has_some}
 use Rattle.hum_turns.specs.Turns.{Gives, Takes, state}
 use Rattle.hum_turns.specs.Turns.{is_source as reads_bytes}
@@ -200,10 +199,6 @@ pub record MayAsk {S R W : Type 0} (stage : Stage S) (writer : Sink W) (k : ℕ)
   pub running : IsRunning stage writer net
   pub going : result (plan_of running.scene) running.now ≡ None
   pub within : k ≤ running.scene.count
-
--- the order that a type of orders stands for
-abbrev pub order_of : {O : Type 0} → Orders O → Order O
-order_of o = record { pick = o.picks; next = o.after }
 
 -- The actor is the order's choice, and the order has gone on by its pick.
 pub record HasPicked {O : Type 0} (order : Order O) (plan : Plan Row) (size : ℕ) (o p : O) (now : Now Row)

@@ -8,6 +8,7 @@ ghost use Rattle.hum_turns.specs.Plan.{last};
 ghost use Rattle.hum_turns.specs.declared.result.RunResult.TheVariants as ends;
 ghost use Rattle.hum_turns.specs.Failures.{Now, IsFirst, is_ready, result as ended};
 ghost use Rattle.hum_turns.specs.Orders.{ready_list};
+ghost use Rattle.hum_turns.specs.Ordering.{order_of};
 ghost use Rattle.hum_turns.specs.Counts.{turns_of, most, most_in_all};
 ghost use Rattle.hum_turns.specs.Holds.{SomeReady};
 ghost use Rattle.hum_engine.specs.Readers.{ShowsSame, is_read_of, is_write};
@@ -21,7 +22,7 @@ ghost use Rattle.hum_engine.specs.Nets.{HasSent, MayWrite, CallsSink, SinkWent, 
 ghost use Rattle.hum_engine.specs.Nets.{NetAt, AtEach, AreBegun, IsNet, RunsBy, WroteFront};
 ghost use Rattle.hum_engine.specs.Nets.{MayPick, IsNext, MayAsk, HasRested, HasWorked};
 ghost use Rattle.hum_engine.specs.Nets.{HasGone, AsksLittle, fault_by, turned_by, failed_by, is_over};
-ghost use Rattle.hum_engine.specs.Nets.{MayAdvance, HasAdvanced, IsCloser, order_of};
+ghost use Rattle.hum_engine.specs.Nets.{MayAdvance, HasAdvanced, IsCloser};
 ghost use Rattle.hum_engine.specs.Nets.{MayHand, HasInHand, HasGoneAlone, HasHanded};
 
 use crate::link::Taken;

@@ -5,7 +5,6 @@ ghost use Rattle.std.specs.Prelude.{◌≡◌, ◌||◌, ℕ, false, List, Optio
 ghost use Rattle.hum_words.specs.Bundle.{largest, plan_of as plan_of_text, score_of};
 ghost use Rattle.hum_record.specs.Row.{Row};
 ghost use Rattle.hum_turns.specs.Failures.{Now, result as ended};
-ghost use Rattle.hum_nodes.specs.Nodes.{StandsAs};
 ghost use Rattle.hum_engine.specs.Scene.{Scene, plan_of};
 ghost use Rattle.hum_engine.specs.Nets.{NetAt};
 ghost use Rattle.hum_net.specs.Bundles.{ComesOfBundle, is_failed_write, is_read_by};

@@ -9,10 +9,11 @@ use Rattle.hum_record.specs.Row.{Row}
 use Rattle.hum_stage.specs.declared.faults.End.{End}
 use Rattle.hum_turns.specs.declared.result.RunResult.{RunResult}
 use Rattle.hum_turns.specs.declared.result.RunResult.TheVariants as ends
+use Rattle.hum_turns.specs.Orders.{Order}
 use Rattle.hum_turns.specs.Failures.{Now, IsFirst}
-use Rattle.hum_nodes.specs.At.{At, fresh}
+use Rattle.hum_nodes.specs.At.{fresh}
 use Rattle.hum_nodes.specs.declared.node.Node.{Node}
-use Rattle.hum_nodes.specs.Nodes.{is_source, remaining_of, ended_of, failed_of}
+use Rattle.hum_nodes.specs.Nodes.{is_source, remaining_of, ended_of, failed_of, StandsAs}
 use Rattle.hum_nodes.proofs.Standing.{never_failed, no_end}
 use Rattle.hum_engine.specs.Readers.{or_none, failed_at}
 use Rattle.hum_engine.specs.declared.net.Net.{Net}
@@ -29,7 +30,7 @@ use Rattle.hum_net.specs.Parts.{part_by, part_of, parts_of, AreSoundFrom, AllGiv
 use Rattle.hum_net.specs.Nodes.{AllFrom, Fits, Tells}
 use Rattle.hum_engine.proofs.Appending.{appends_none}
 use Rattle.hum_valid.specs.Records.{AreRecords}
-use Rattle.hum_net.specs.Runs.{HasWritten, WroteAll, WroteFront, IsValid}
+use Rattle.hum_net.specs.Runs.{HasWritten, HasEnded, WroteAll, WroteFront, IsValid}
 use Rattle.hum_net.specs.Scenes.{scene_of, first_now}
 use Rattle.hum_turns.proofs.Against.{meaning_fine}
 use Rattle.hum_nodes.proofs.Fining.{fine_is}
@@ -40,6 +41,9 @@ use Rattle.hum_net.proofs.Treeing.{parts_length, part_here, stage_there, is_tree
 use Rattle.hum_net.proofs.Valid.{plan_records, valid as is_valid}
 use Rattle.hum_net.proofs.Planning.{is_net_plan}
 use Rattle.hum_net.proofs.Building.{all_length}
+use Rattle.hum_stage.specs.declared.contract.Stage.{Ghosts as Commands}
+use Rattle.hum_text.specs.declared.calls.Source.{Ghosts as Source}
+use Rattle.hum_text.specs.declared.calls.Sink.{Ghosts as Sink}
 
 pub is_first : IsFirst first_now
 is_first = record { links = λ k. refl; part = refl; failure = refl }
@@ -109,41 +113,41 @@ part_there : (bytes : ℕ → List ℕ) (stages : List PlanStage) (i : ℕ) (sta
 part_there bytes stages i stage e =
     part_here bytes (stages_of stages) i (stage_of stage) (stage_there stages i stage e)
 
-pub begun : {N : Type 0} {stands : N → List ℕ → At → Type 0} (bytes rests : ℕ → List ℕ) (stages : List PlanStage)
-    (nodes : List N) (size : ℕ) → AllFrom (Fits stands) 0 stages nodes → AreSame rests bytes stages
-    → IsBegun stands size nodes (scene_of bytes rests (stages_of stages) size)
-begun {N} {stands} bytes rests stages nodes size h same = record {
+pub begun : {S R : Type 0} {commands : Commands S} (bytes rests : ℕ → List ℕ) (stages : List PlanStage)
+    (nodes : List (Node S R)) (size : ℕ) → AllFrom (Fits commands) 0 stages nodes → AreSame rests bytes stages
+    → IsBegun commands size nodes (scene_of bytes rests (stages_of stages) size)
+begun {commands = commands} bytes rests stages nodes size h same = record {
   of_size = refl;
-  count = all_length (Fits stands) 0 stages nodes h
+  count = all_length (Fits commands) 0 stages nodes h
       ∙ sym (parts_length 0 bytes (stages_of stages) ∙ length-map stages stage_of);
   stand = λ k node e.
-      let p = pair_at (Fits stands) stages nodes h k node e in
+      let p = pair_at (Fits commands) stages nodes h k node e in
       let part : part_of k (rests k) (stage_of p.0) ≡ part_at (parts_of bytes (stages_of stages)) k =
       same_part k p.0.sources.items (rests k) (bytes k) p.0.options (same k p.0 p.1)
       ∙ sym (part_there bytes stages k p.0 p.1) in
-      subst (λ (x : Part). stands node (rests k) (fresh (kind_of (k + 1) x))) part (p.2.0 (rests k));
+      subst (λ (x : Part). StandsAs commands.stands node (rests k) (fresh (kind_of (k + 1) x))) part (p.2.0 (rests k));
 }
 
-pub sound_from : {N : Type 0} (stands : N → List ℕ → At → Type 0) (k : ℕ) (stages : List PlanStage) (nodes : List N)
-    → AllFrom (Fits stands) k stages nodes → AreSoundFrom k (stages_of stages)
-sound_from stands k [] [] h = tt
-sound_from stands k [] (n ∷ nodes) h = absurd h
-sound_from stands k (stage ∷ stages) [] h = absurd h
-sound_from stands k (stage ∷ stages) (n ∷ nodes) h = (h.0.1, sound_from stands (suc k) stages nodes h.1)
+pub sound_from : {S R : Type 0} (commands : Commands S) (k : ℕ) (stages : List PlanStage) (nodes : List (Node S R))
+    → AllFrom (Fits commands) k stages nodes → AreSoundFrom k (stages_of stages)
+sound_from commands k [] [] h = tt
+sound_from commands k [] (n ∷ nodes) h = absurd h
+sound_from commands k (stage ∷ stages) [] h = absurd h
+sound_from commands k (stage ∷ stages) (n ∷ nodes) h = (h.0.1, sound_from commands (suc k) stages nodes h.1)
 
 -- What the sources tell.
 
-pub all_tell : {S R : Type 0} (remaining : R → Option (List ℕ)) (bytes : ℕ → List ℕ)
-    (stages : List PlanStage) (nodes : List (Node S R)) → AllFrom (Tells remaining bytes) 0 stages nodes
-    → net.Tells remaining nodes bytes
-all_tell {S} {R} remaining bytes stages nodes h = record {
+pub all_tell : {S R : Type 0} (reader : Source R) (bytes : ℕ → List ℕ)
+    (stages : List PlanStage) (nodes : List (Node S R)) → AllFrom (Tells reader.remaining bytes) 0 stages nodes
+    → net.Tells reader nodes bytes
+all_tell {S} {R} reader bytes stages nodes h = record {
   tells = λ i node e is. (at i node e is).0;
   over = λ i e. by i (slice_get nodes i) refl e;
 }
   where
     at : (i : ℕ) (node : Node S R) → slice_get nodes i ≡ Some node → is_source node ≡ true
-        → (remaining_of remaining node ≡ Some (bytes i)) × (ended_of node ≡ false)
-    at i node e is = (pair_at (Tells remaining bytes) stages nodes h i node e).2 is
+        → (remaining_of reader.remaining node ≡ Some (bytes i)) × (ended_of node ≡ false)
+    at i node e is = (pair_at (Tells reader.remaining bytes) stages nodes h i node e).2 is
 
     by : (i : ℕ) (o : Option (Node S R)) → slice_get nodes i ≡ o → or_none false ended_of o ≡ true
         → bytes i ≡ []
@@ -155,15 +159,32 @@ all_tell {S} {R} remaining bytes stages nodes h = record {
 
 -- The net that is made.
 
-pub all_begun : {S R : Type 0} {stands : Node S R → List ℕ → At → Type 0} (stages : List PlanStage)
+pub all_begun : {S R : Type 0} {commands : Commands S} (stages : List PlanStage)
     (nodes : List (Node S R)) (size : ℕ) → plan.IsTree (stages_of stages) → 0 < size
-    → AllFrom (Fits stands) 0 stages nodes
-    → AreBegun stands size nodes (λ rests. scene_of rests rests (stages_of stages) size)
-all_begun {S} {R} {stands} stages nodes size tree some fits = record {
+    → AllFrom (Fits commands) 0 stages nodes
+    → AreBegun commands size nodes (λ rests. scene_of rests rests (stages_of stages) size)
+all_begun {commands = commands} stages nodes size tree some fits = record {
   rests = λ rests. refl;
-  plan = λ rests. is_net_plan rests (stages_of stages) size tree (sound_from stands 0 stages nodes fits) some;
+  plan = λ rests. is_net_plan rests (stages_of stages) size tree (sound_from commands 0 stages nodes fits) some;
   begun = λ rests. begun rests rests stages nodes size fits
       (λ i stage e. same_self stage.options (rests i));
+}
+
+-- How its run has ended.
+pub ended_so : {S R W O : Type 0} {commands : Commands S} {writer : Sink W} {order : Order O} {o p : O}
+    {start : Option (List ℕ)} {bytes rests : ℕ → List ℕ} {stages : List plan.Stage} {link : ℕ} {made : Net S R W}
+    {by : RunResult} → net.RunsTo commands writer order o p start (scene_of bytes rests stages link) first_now made by
+    → HasEnded order bytes stages link by o p start (writer.contents made.sink)
+ended_so run = record {
+  picked = record {
+    turns = run.leads.turns;
+    first = first_now;
+    last = run.leads.to;
+    is_first = is_first;
+    driven = run.leads.driven;
+    over = run.over;
+  };
+  wrote = run.leads.at.written;
 }
 
 -- What its run has written.
@@ -246,17 +267,16 @@ few_nodes Holds stages nodes tree fits =
     let bound : length stages ≤ 64 = rw (length-map stages stage_of) at tree.bound in
     omega (arith, count, bound)
 
--- the net that is made stands for the plan's beginning
-pub net_at : {S R W : Type 0} {stands : Node S R → List ℕ → At → Type 0} {contents : W → Option (List ℕ)}
-    {flushed : W → Bool} (bytes : ℕ → List ℕ) (stages : List PlanStage) (nodes : List (Node S R)) (size : ℕ)
+-- the net that is made commands for the plan's beginning
+pub net_at : {S R W : Type 0} {commands : Commands S} {writer : Sink W} (bytes : ℕ → List ℕ) (stages : List PlanStage) (nodes : List (Node S R)) (size : ℕ)
     (start : Option (List ℕ)) (made : Net S R W)
     → ((s : Scene) (now : Now Row) → IsFirst now → IsNetPlan s.count s.kinds s.size
-    → IsBegun stands size nodes s → net.NetAt stands contents flushed start s made now)
-    → plan.IsTree (stages_of stages) → 0 < size → AllFrom (Fits stands) 0 stages nodes
-    → net.NetAt stands contents flushed start (scene_of bytes bytes (stages_of stages) size) made first_now
+    → IsBegun commands size nodes s → net.NetAt commands writer start s made now)
+    → plan.IsTree (stages_of stages) → 0 < size → AllFrom (Fits commands) 0 stages nodes
+    → net.NetAt commands writer start (scene_of bytes bytes (stages_of stages) size) made first_now
     × AreSoundFrom 0 (stages_of stages)
-net_at {S} {R} {W} {stands} bytes stages nodes size start made ok tree some fits =
-    let sound = sound_from stands 0 stages nodes fits in (
+net_at {commands = commands} bytes stages nodes size start made ok tree some fits =
+    let sound = sound_from commands 0 stages nodes fits in (
       ok (scene_of bytes bytes (stages_of stages) size) first_now is_first
           (is_net_plan bytes (stages_of stages) size tree sound some)
           (begun bytes bytes stages nodes size fits (λ i stage e. same_self stage.options (bytes i))),
@@ -264,15 +284,15 @@ net_at {S} {R} {W} {stands} bytes stages nodes size start made ok tree some fits
     )
 
 -- Where no source can fail, none has failed, and no failed read is told.
-none_failed : {S R : Type 0} (failed : R → Bool) → ((r : R) → failed r ≡ false) → (nodes : List (Node S R)) (k : ℕ)
-    → failed_at failed k nodes ≡ false
-none_failed {S} {R} failed never nodes k = by (slice_get nodes k)
+none_failed : {S R : Type 0} (reader : Source R) → ((r : R) → reader.failed r ≡ false) → (nodes : List (Node S R)) (k : ℕ)
+    → failed_at reader k nodes ≡ false
+none_failed {S} {R} reader never nodes k = by (slice_get nodes k)
   where
-    by : (o : Option (Node S R)) → or_none false (failed_of failed) o ≡ false
+    by : (o : Option (Node S R)) → or_none false (failed_of reader.failed) o ≡ false
     by None = refl
-    by (Some node) = never_failed failed never node
+    by (Some node) = never_failed reader.failed never node
 
-pub no_read_failed : {S R : Type 0} (failed : R → Bool) → ((r : R) → failed r ≡ false) → (old new : List (Node S R))
-    (k : ℕ) (told : Bool) → failed_at failed k new ≡ (failed_at failed k old || told) → told ≡ false
-no_read_failed failed never old new k told e =
-    ap (λ b. b || told) (sym (none_failed failed never old k)) ∙ sym e ∙ none_failed failed never new k
+pub no_read_failed : {S R : Type 0} (reader : Source R) → ((r : R) → reader.failed r ≡ false) → (old new : List (Node S R))
+    (k : ℕ) (told : Bool) → failed_at reader k new ≡ (failed_at reader k old || told) → told ≡ false
+no_read_failed reader never old new k told e =
+    ap (λ b. b || told) (sym (none_failed reader never old k)) ∙ sym e ∙ none_failed reader never new k

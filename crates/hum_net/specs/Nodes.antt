@@ -1,8 +1,9 @@
 -- The stages of a plan as nodes of a net.
 use Rattle.std.specs.Prelude.{◌≡◌, ℕ, suc, ◌+◌, ◌≤◌, length, true, false, List, [], ◌∷◌, Option, Some}
-use Rattle.hum_nodes.specs.At.{At, fresh}
+use Rattle.hum_stage.specs.declared.contract.Stage.{Ghosts as Commands}
+use Rattle.hum_nodes.specs.At.{fresh}
 use Rattle.hum_nodes.specs.declared.node.Node.{Node}
-use Rattle.hum_nodes.specs.Nodes.{is_source, remaining_of, ended_of}
+use Rattle.hum_nodes.specs.Nodes.{StandsAs, is_source, remaining_of, ended_of}
 use Rattle.hum_plan.specs.Stages.{Stage, Options, Read, Assemble, Takes}
 use Rattle.hum_plan.specs.declared.stages.PlanStage.{PlanStage}
 use Rattle.hum_plan.specs.Seen.{stage_of, options_of}
@@ -29,10 +30,10 @@ AllFrom Holds k (stage ∷ stages) (node ∷ nodes) =
     Holds k stage node × AllFrom Holds (suc k) stages nodes
 
 -- Whatever bytes it reads, the node of stage k stands for its part, of which nothing has come yet.
-abbrev pub Fits : {N : Type 0} → (N → List ℕ → At → Type 0) → ℕ → PlanStage → N → Type 0
-Fits stands k stage node =
+abbrev pub Fits : {S R : Type 0} → Commands S → ℕ → PlanStage → Node S R → Type 0
+Fits commands k stage node =
     ((bytes : List ℕ)
-    → stands node bytes (fresh (kind_of (k + 1) (part_of k bytes (stage_of stage)))))
+    → StandsAs commands.stands node bytes (fresh (kind_of (k + 1) (part_of k bytes (stage_of stage)))))
     × IsSoundBy (k + 1) (options_of stage.options)
 
 -- A source tells these bytes, the end of which it hasn't read.

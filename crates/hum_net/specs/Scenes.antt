@@ -1,11 +1,11 @@
 -- What the net of a plan stands for.
-use Rattle.std.specs.Prelude.{◌≡◌, ℕ, Bool, true, List, [], length, Option, None}
+use Rattle.std.specs.Prelude.{◌≡◌, ℕ, true, List, [], length, Option, None}
+use Rattle.hum_text.specs.declared.calls.Sink.{Ghosts as Sink}
 use Rattle.hum_record.specs.Row.{Row}
+use Rattle.hum_stage.specs.declared.contract.Stage.{Ghosts as Commands}
 use Rattle.hum_turns.specs.Links.{fresh}
 use Rattle.hum_turns.specs.Failures.{Now, is_ready}
 use Rattle.hum_nodes.specs.Trees.{kind_at}
-use Rattle.hum_nodes.specs.At.{At}
-use Rattle.hum_nodes.specs.declared.node.Node.{Node}
 use Rattle.hum_engine.specs.declared.net.Net.{Net}
 use Rattle.hum_engine.specs.Scene.{Scene, plan_of}
 use Rattle.hum_engine.specs.Nets.{NetAt}
@@ -28,8 +28,7 @@ abbrev pub first_now : Now Row
 first_now = record { links = λ k. fresh; part = []; failure = None }
 
 -- Whatever moment a net stands for, this actor is ready at it.
-abbrev pub IsReadyNow : {S R W : Type 0} → (Node S R → List ℕ → At → Type 0)
-    → (W → Option (List ℕ)) → (W → Bool) → ℕ → Net S R W → Type 0
-IsReadyNow stands contents flushed k net =
+abbrev pub IsReadyNow : {S R W : Type 0} → Commands S → Sink W → ℕ → Net S R W → Type 0
+IsReadyNow commands writer k net =
     (start : Option (List ℕ)) (s : Scene) (now : Now Row)
-    → NetAt stands contents flushed start s net now → is_ready (plan_of s) s.size now k ≡ true
+    → NetAt commands writer start s net now → is_ready (plan_of s) s.size now k ≡ true

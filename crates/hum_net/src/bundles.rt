@@ -4,6 +4,7 @@ ghost use Rattle.std.specs.Prelude.{IfOk, OnOk, IfErr, None, Some};
 ghost use Rattle.hum_plan.specs.Stages.{IsTree, Read};
 ghost use Rattle.hum_plan.specs.Seen.{stages_of, options_of};
 ghost use Rattle.hum_plan.specs.Grammar.{IsPlanOf};
+ghost use Rattle.hum_turns.specs.Ordering.{order_of};
 ghost use Rattle.hum_words.specs.Bundle.{largest, plan_of, score_of};
 ghost use Rattle.hum_net.specs.Nodes.{AreTold, reads_of};
 ghost use Rattle.hum_net.specs.Bundles.{ComesOfBundle, LacksNow, IsRefusal, is_refused};
@@ -161,11 +162,11 @@ pub fn run_bundle<O: Order, W: Sink + Drop>(
 
     // The turns are those that the order picked, to the run's end, and it is left as its picks leave
     // it; where there is no turn it is not asked.
-    ensures picked { Picks (record { pick = O.picks; next = O.after }) (plan_of bundle.now)
+    ensures picked { Picks (order_of O.Order) (plan_of bundle.now)
         (λ name. score_of name bundle.now) link order.old order.new result.0 }
 
     // What was written is what the run had written at its last moment, after a failure too.
-    ensures ended { Ends (record { pick = O.picks; next = O.after }) (plan_of bundle.now)
+    ensures ended { Ends (order_of O.Order) (plan_of bundle.now)
         (λ name. score_of name bundle.now) link order.old order.new (W.contents writer)
         (W.contents result.1) result.0 }
 

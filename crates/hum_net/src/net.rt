@@ -3,10 +3,10 @@ ghost use Rattle.std.specs.Prelude.{◌≡◌, ◌≤◌, ◌<◌, ◌+◌, ◌|
 ghost use Rattle.std.specs.Prelude.{IfOk, IfErr, is_some};
 ghost use Rattle.hum_record.specs.Row.{Row};
 ghost use Rattle.hum_turns.specs.Failures.{Now, is_ready, result as ended};
+ghost use Rattle.hum_turns.specs.Ordering.{order_of};
 ghost use Rattle.hum_turns.specs.Links.{linked};
 ghost use Rattle.hum_turns.specs.Counts.{turns_of, most, most_in_all};
 ghost use Rattle.hum_turns.specs.Holds.{SomeReady};
-ghost use Rattle.hum_nodes.specs.Nodes.{StandsAs};
 ghost use Rattle.hum_plan.specs.Stages.{IsTree, reads_of as read_stages};
 ghost use Rattle.hum_plan.specs.Seen.{stages_of};
 ghost use Rattle.hum_engine.specs.Scene.{Scene, plan_of, held_of, HoldsFew};
@@ -38,7 +38,6 @@ pub struct Net<R: Source, W: Sink> {
 }
 
 impl<R: Source, W: Sink> Model for Net<R, W> {
-    ghost use Rattle.hum_nodes.specs.Nodes.{StandsAs};
     ghost use Rattle.hum_commands.specs.declared.stages.CommandStage.{CommandStage};
     ghost use Rattle.hum_engine.specs.declared.net.Net.{Net as Engine};
     ghost use Rattle.hum_engine.specs.Nets.{IsNet};
@@ -47,8 +46,7 @@ impl<R: Source, W: Sink> Model for Net<R, W> {
 
     ghost view = { λ net. net.engine };
 
-    ghost invariant = { λ net. IsNet ⟦<CommandStage as Stage>⟧ W.Sink
-        net.engine };
+    ghost invariant = { λ net. IsNet ⟦<CommandStage as Stage>⟧ W.Sink net.engine };
 }
 
 impl<R: Source + Drop, W: Sink> Net<R, W> {
@@ -222,8 +220,8 @@ impl<R: Source + Drop, W: Sink> Net<R, W> {
 
     /// Makes the turns that the order picks, to the end of the run.
     pub fn run<O: Order>(&mut self, order: &mut O) -> RunResult
-        ensures { RunsBy ⟦<CommandStage as Stage>⟧ R.Source W.Sink (record { pick = O.picks; next = O.after })
-            order.old order.new self.old self.new result }
+        ensures { RunsBy ⟦<CommandStage as Stage>⟧ R.Source W.Sink (order_of O.Order) order.old order.new self.old
+            self.new result }
     {
         self.engine.run(order)
     }

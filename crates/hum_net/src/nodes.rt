@@ -1,6 +1,5 @@
 //! The stages of a plan as nodes of a net.
 ghost use Rattle.std.specs.Prelude.{◌≡◌, ◌≤◌, ◌<◌, ◌+◌, ℕ, pred, List, ◌∷◌, map, length, IfOk};
-ghost use Rattle.hum_nodes.specs.Nodes.{StandsAs};
 ghost use Rattle.hum_plan.specs.Stages.{Stage, IsTree};
 ghost use Rattle.hum_plan.specs.Seen.{options_of, stage_of, stages_of};
 ghost use Rattle.hum_net.specs.Parts.{first_of};

@@ -2,6 +2,7 @@
 ghost use Rattle.std.specs.Prelude.{◌≡◌, ◌≤◌, ◌||◌, ◌⊎◌, ℕ, false, List, Some, length};
 ghost use Rattle.hum_plan.specs.Stages.{IsTree};
 ghost use Rattle.hum_plan.specs.Seen.{stages_of, options_of};
+ghost use Rattle.hum_turns.specs.Ordering.{order_of};
 ghost use Rattle.hum_engine.specs.Readers.{is_write, is_read_of};
 ghost use Rattle.hum_net.specs.Nodes.{AreTold, reads_of};
 ghost use Rattle.hum_net.specs.Parts.{KeepsRecordsBy, AllKeepRecords};
@@ -60,16 +61,16 @@ pub fn run_stages<R: Source + Drop, O: Order, W: Sink + Drop>(
     // The turns are those that the order picked, to the run's end, and it is left as its picks leave
     // it; where memory is wanting before the first, it is not asked.
     ensures picked { (bytes : ℕ → List ℕ) → AreTold R.remaining bytes 0 (stages_of stages.items) readers.items
-        → HasPicked (record { pick = O.picks; next = O.after }) bytes (stages_of stages.items) link
+        → HasPicked (order_of O.Order) bytes (stages_of stages.items) link
         result.0 order.old order.new ⊎ IsUnasked result.0 order.old order.new }
 
     // So they are whether the readers tell their bytes or not, and however these go on; and what was
     // written is what the run had written at its last moment, after a failure too.
-    ensures driven { HasDriven (record { pick = O.picks; next = O.after }) (stages_of stages.items) link
+    ensures driven { HasDriven (order_of O.Order) (stages_of stages.items) link
         result.0 order.old order.new (W.contents sink) (W.contents result.1)
         ⊎ IsUnasked result.0 order.old order.new }
     ensures ended { (bytes : ℕ → List ℕ) → AreTold R.remaining bytes 0 (stages_of stages.items) readers.items
-        → HasEnded (record { pick = O.picks; next = O.after }) bytes (stages_of stages.items) link
+        → HasEnded (order_of O.Order) bytes (stages_of stages.items) link
         result.0 order.old order.new (W.contents sink) (W.contents result.1)
         ⊎ IsUnasked result.0 order.old order.new }
 

@@ -8,6 +8,7 @@ pub mod Holds
 pub mod Text
 pub mod Failures
 pub mod Orders
+pub mod Ordering
 pub mod Ends
 pub mod Near
 pub mod Marking

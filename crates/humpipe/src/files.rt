@@ -1,5 +1,6 @@
 //! Runs of plans whose scores are files.
 ghost use Rattle.std.specs.Prelude.{◌≡◌, ◌≤◌, ◌||◌, true, length, IfOk, IfErr};
+ghost use Rattle.hum_turns.specs.Ordering.{order_of};
 ghost use Rattle.hum_plan.specs.Stages.{IsTree, reads_of};
 ghost use Rattle.hum_net.specs.Bundles.{is_refused, is_failed_write};
 ghost use Rattle.humpipe.specs.Files.{IsOneShut, MayCome, Picks};
@@ -48,7 +49,7 @@ pub fn run_files<O: Order, W: Sink + Drop>(
         → (result.1 ≡ writer) × (order.new ≡ order.old) }
 
     // The turns are those that the order picked, over links of this size, to the run's end.
-    ensures picked { Picks (record { pick = O.picks; next = O.after }) plan.now link order.old order.new
+    ensures picked { Picks (order_of O.Order) plan.now link order.old order.new
         result.0 }
 
     // A failed write or flush is told exactly where one set the writer's mark.

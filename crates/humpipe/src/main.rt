@@ -5,6 +5,7 @@
 #![tactic(auto)]
 
 ghost use Rattle.std.specs.Prelude.{◌≡◌, ◌≤◌, IfOk};
+ghost use Rattle.hum_turns.specs.Ordering.{order_of};
 ghost use Rattle.humpipe.specs.Drives.{Drives};
 
 mod ending;
@@ -43,7 +44,7 @@ fn run_input<O: Order>(rt: &HostRuntime, link: u16, order: &mut O) -> io::Result
     requires room { link ≤ 4096 }
 
     // The turns are those that the order picked, over links of this size.
-    ensures picked { IfOk result (Drives (record { pick = O.picks; next = O.after }) link
+    ensures picked { IfOk result (Drives (order_of O.Order) link
         order.old order.new) }
 {
     let bundle = match read_up_to(rt.alloc(), rt.reader(), LARGEST_BUNDLE as u64) {
@@ -60,7 +61,7 @@ fn run_plan<O: Order>(rt: &HostRuntime, plan: &str, link: u16, order: &mut O) ->
     requires room { link ≤ 4096 }
 
     // The turns are those that the order picked, over links of this size.
-    ensures picked { IfOk result (Drives (record { pick = O.picks; next = O.after }) link
+    ensures picked { IfOk result (Drives (order_of O.Order) link
         order.old order.new) }
 {
     let plan = match fs::open(rt, plan) {
@@ -92,7 +93,7 @@ fn run_choice<O: Order>(rt: &HostRuntime, choice: Choice<'_>, order: &mut O) -> 
     requires room { choice.link ≤ 4096 }
 
     // The turns are those that the order picked, over links of this size.
-    ensures picked { IfOk result (Drives (record { pick = O.picks; next = O.after }) choice.entry.link
+    ensures picked { IfOk result (Drives (order_of O.Order) choice.entry.link
         order.old order.new) }
 {
     match choice.file {

@@ -1,7 +1,7 @@
 use Rattle.std.proofs.Common.{◌≡◌, ◌||◌, ◌++◌, ℕ, List, true, false, refl, inl, inr}
 use Rattle.hum_engine.specs.Readers.{ended_at}
 use Rattle.hum_net.specs.Scenes.{scene_of, first_now}
-use Rattle.hum_net.proofs.Going.{is_first, has_written, means_valid, nothing_written, lawful_tree, no_read_failed}
+use Rattle.hum_net.proofs.Going.{ended_so, has_written, means_valid, nothing_written, lawful_tree, no_read_failed}
 use Rattle.hum_plan.specs.Seen.{stages_of}
 use Rattle.hum_net.proofs.running.run_stages.Goals as goal
 
@@ -20,14 +20,7 @@ returns-in-Ok-clause-picked g c bytes told =
     let stages = stages_of c.args.stages.items in
     let ran = c.run-result.ensures.whole _ (scene_of bytes bytes stages c.args.link) first_now
     (c.in-Ok.ensures.tells bytes told) (c.in-Ok.ensures.opens bytes) in
-    inl (record {
-      turns = ran.runs.leads.turns;
-      first = first_now;
-      last = ran.runs.leads.to;
-      is_first = is_first;
-      driven = ran.runs.leads.driven;
-      over = ran.runs.over;
-    })
+    inl (ended_so {writer = g.W.Sink} {bytes = bytes} {rests = ran.left} {stages = stages} ran.runs).picked
 
 pub returns-in-Err-clause-wrote : goal.returns-in-Err-clause-wrote
 returns-in-Err-clause-wrote g c = λ bytes told. rw c.in-Err.ensures.err (nothing_written _ _ _ (g.W.Sink.flushed c.args.sink))
@@ -53,18 +46,7 @@ returns-in-Ok-clause-ended g c bytes told =
     let stages = stages_of c.args.stages.items in
     let ran = c.run-result.ensures.whole _ (scene_of bytes bytes stages c.args.link) first_now
     (c.in-Ok.ensures.tells bytes told) (c.in-Ok.ensures.opens bytes) in
-    rw c.into_writer.ensures.sink
-    (inl (record {
-      picked = record {
-        turns = ran.runs.leads.turns;
-        first = first_now;
-        last = ran.runs.leads.to;
-        is_first = is_first;
-        driven = ran.runs.leads.driven;
-        over = ran.runs.over;
-      };
-      wrote = ran.runs.leads.at.written;
-    }))
+    rw c.into_writer.ensures.sink (inl (ended_so {bytes = bytes} {rests = ran.left} {stages = stages} ran.runs))
 
 pub returns-in-Ok-clause-driven : goal.returns-in-Ok-clause-driven
 returns-in-Ok-clause-driven g c =
@@ -76,18 +58,8 @@ returns-in-Ok-clause-driven g c =
       over = λ k. ended_at k c.run-result.new.self.web.nodes.items;
       ends = λ rests over.
           let bytes : ℕ → List ℕ = λ k. ran.reads k ++ rests k in
-          let to = ran.runs _ (scene_of bytes rests stages c.args.link) first_now over (c.in-Ok.ensures.opens bytes) in
-          record {
-            picked = record {
-              turns = to.leads.turns;
-              first = first_now;
-              last = to.leads.to;
-              is_first = is_first;
-              driven = to.leads.driven;
-              over = to.over;
-            };
-            wrote = to.leads.at.written;
-          };
+          ended_so {bytes = bytes} {rests = rests} {stages = stages}
+          (ran.runs _ (scene_of bytes rests stages c.args.link) first_now over (c.in-Ok.ensures.opens bytes));
     }))
 
 pub returns-in-Err-clause-ended : goal.returns-in-Err-clause-ended

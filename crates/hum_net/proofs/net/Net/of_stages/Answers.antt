@@ -1,6 +1,5 @@
 use Rattle.std.proofs.Common.{◌<◌, arith}
 use Rattle.hum_commands.specs.contracts.stages.CommandStageStage.TheImpl as command
-use Rattle.hum_nodes.specs.Nodes.{StandsAs}
 use Rattle.hum_plan.specs.Seen.{stages_of}
 use Rattle.hum_net.specs.Scenes.{scene_of}
 use Rattle.hum_net.proofs.Going.{all_begun, all_tell, few_nodes, net_at, sound_from}
@@ -24,8 +23,8 @@ returns-clause-opens g c bytes =
 
 pub returns-clause-tells : goal.returns-clause-tells
 returns-clause-tells g c bytes told = rw c.in_ok-engine.ensures.nodes
-    (all_tell g.R.Source.remaining bytes c.args.stages.items c.in-Ok.nodes.items (c.in-Ok.ensures.told bytes told))
+    (all_tell g.R.Source bytes c.args.stages.items c.in-Ok.nodes.items (c.in-Ok.ensures.told bytes told))
 
 pub returns-clause-valid : goal.returns-clause-valid
 returns-clause-valid g c =
-    sound_from (StandsAs command.ghosts.stands) 0 c.args.stages.items c.in-Ok.nodes.items c.in-Ok.ensures.fits
+    sound_from command.ghosts 0 c.args.stages.items c.in-Ok.nodes.items c.in-Ok.ensures.fits
