@@ -35,7 +35,7 @@ returns-in-Ok-clause-marked g c =
 
 pub returns-in-Ok-clause-unread : goal.returns-in-Ok-clause-unread
 returns-in-Ok-clause-unread g c = λ never k.
-    no_read_failed _ never _ _ k _ (c.run-result.ensures.reads c.in-Ok.ensures.failure k)
+    no_read_failed g.R.Source never _ _ k _ (c.run-result.ensures.reads c.in-Ok.ensures.failure k)
 
 pub returns-in-Err-clause-marked : goal.returns-in-Err-clause-marked
 returns-in-Err-clause-marked g c =
