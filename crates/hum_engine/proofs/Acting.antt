@@ -84,11 +84,11 @@ pub finished : {S R : Type 0} {stage : Stage S} {k : ℕ} {old new : Web S R} {s
     → slice_get old.links.items k ≡ Some link → Goes link after (ended e) → new.nodes.items ≡ old.nodes.items
     → new.links.items ≡ slice_set old.links.items k after → Done stage k Ends new s
 finished {S} {R} {stage} {k} {old} {new} {s} {e} {link} after may at goes en el =
-    let st = may.at.stand in
-    let node = node_of stage k old s may.less st in
+    let st = may.about.actor.at.stand in
+    let node = node_of stage k old s may.about.actor.less st in
     done_by stage k Ends old new s st _ _ (length-set old.nodes.items k node.0) (length-set old.links.items k after)
     (did_end stage s k s.links old.nodes.items old.links.items (λ i y o g. st.nodes i y g) st.links node.0 after e
-    (done_end s s.links k e may.does) (st.nodes k node.0 node.1) (goes s.size (s.links k) (st.links k link at)))
+    (done_end s s.links k e may.about.does) (st.nodes k node.0 node.1) (goes s.size (s.links k) (st.links k link at)))
     (en ∙ sym (set_same old.nodes.items k node.0 node.1)) el
 
 -- A stage gives.
@@ -107,8 +107,8 @@ keeps {S} {R} {k} {old} {new} node kind e = record {
 module _ {S R : Type 0} {stage : Stage S} {k : ℕ} {old : Web S R} {s : Scene} (may : MayAct stage k does.Gives old s) where
   pub gives_room : {link : port.Link} → link ≡ get_or old.links.items k link → room link ≡ true
   gives_room e =
-      room_same k may.at.stand (link_at may.less may.at.stand e)
-      ∙ sym (ap (can s.size s.links k) (state_gives s s.links k may.less may.does)) ∙ may.can
+      room_same k may.about.actor.at.stand (link_at may.about.actor.less may.about.actor.at.stand e)
+      ∙ sym (ap (can s.size s.links k) (state_gives s s.links k may.about.actor.less may.about.does)) ∙ may.can
 
   module _ {node : Node S R} {o : Option Row} (after : Node S R) (at_node : slice_get old.nodes.items k ≡ Some node)
       (taken : (rest : List ℕ) → HasTaken (StandsAs stage.stands node rest) (StandsAs stage.stands after rest) o) where
@@ -117,7 +117,7 @@ module _ {S R : Type 0} {stage : Stage S} {k : ℕ} {old : Web S R} {s : Scene} 
         → new.nodes.items ≡ slice_set old.nodes.items k after
         → new.links.items ≡ slice_set old.links.items k put → Done stage k Gives new s
     gave {new} {link} {x} put at_link is goes en el =
-        let st = may.at.stand in
+        let st = may.about.actor.at.stand in
         let t = at_of s.kinds s.links k in
         let h = rw is at (taken (s.rests k) t (st.nodes k node at_node)) in
         done_by stage k Gives old new s st _ _ (length-set old.nodes.items k after) (length-set old.links.items k put)
@@ -128,9 +128,9 @@ module _ {S R : Type 0} {stage : Stage S} {k : ℕ} {old : Web S R} {s : Scene} 
     pub gives_some : (x : Row) × (o ≡ Some x)
     gives_some =
         let t = at_of s.kinds s.links k in
-        let more = gives_more (plan_of s) s.links k (state_gives s s.links k may.less may.does) in
+        let more = gives_more (plan_of s) s.links k (state_gives s s.links k may.about.actor.less may.about.does) in
         let next = slice_get-some (output_of t) t.given more in
-        (next.0, (taken (s.rests k) t (may.at.stand.nodes k node at_node)).0 ∙ next.1)
+        (next.0, (taken (s.rests k) t (may.about.actor.at.stand.nodes k node at_node)).0 ∙ next.1)
 
 -- A stage takes from this link, at this place.
 pub record Passing {S R : Type 0} (stage : Stage S) (k place : ℕ) (old : Web S R)
@@ -146,24 +146,24 @@ module _ {S R : Type 0} {stage : Stage S} {k place : ℕ} {old : Web S R} {s : S
   pub passing : MayAct stage k (does.Wants place) old s → i ≡ slice_index (s.kinds k).stage.sources place
       → link ≡ get_or old.links.items i link → Passing stage k place old s i link
   passing may e value =
-      let w = wants_at s k place may.at.reached.ok may.less may.does in
+      let w = wants_at s k place may.about.actor.at.reached.ok may.about.actor.less may.about.does in
       record {
         may = may;
         at = w.is_there ∙ ap Some (sym e);
         index = e;
         lower = rw e w.lower;
-        some = rw e (sym (ap (can s.size s.links k) (state_at s s.links k may.less may.does)) ∙ may.can);
-        at_link = nth old.links.items i link (omega (arith, w.lower, may.at.stand.as_many, may.less, e)) value;
+        some = rw e (sym (ap (can s.size s.links k) (state_at s s.links k may.about.actor.less may.about.does)) ∙ may.can);
+        at_link = nth old.links.items i link (omega (arith, w.lower, may.about.actor.at.stand.as_many, may.about.actor.less, e)) value;
       }
 
   pub link_here : Passing stage k place old s i link → IsLink s.size link (s.links i)
-  link_here w = w.may.at.stand.links i link w.at_link
+  link_here w = w.may.about.actor.at.stand.links i link w.at_link
 
   module _ {change : Flow Row → Flow Row} (w : Passing stage k place old s i link)
       (v : view (left s i) ≡ change (view (s.links i))) where
     pub may_take : MayChange (at_of s.kinds s.links k) change place
     may_take =
-        may_change s k place i change w.may.at.reached w.may.less w.lower w.at w.some v w.may.does
+        may_change s k place i change w.may.about.actor.at.reached w.may.about.actor.less w.lower w.at w.some v w.may.about.does
 
     pub passed : {new : Web S R} {node : Node S R} (after : Node S R) (put : port.Link)
         → slice_get old.nodes.items k ≡ Some node
@@ -174,11 +174,11 @@ module _ {S R : Type 0} {stage : Stage S} {k place : ℕ} {old : Web S R} {s : S
         → new.links.items ≡ slice_set old.links.items i put
         → Done stage k (state (plan_of s) s.links k) new s
     passed {new} {node} after put at_node puts goes en el =
-        let st = w.may.at.stand in
-        has_done (state_at s s.links k w.may.less w.may.does)
+        let st = w.may.about.actor.at.stand in
+        has_done (state_at s s.links k w.may.about.actor.less w.may.about.does)
         (subst (λ j. Done stage k (Takes j) new s) w.index
         (done_by stage k (Takes i) old new s st _ _ (length-set old.nodes.items k after) (length-set old.links.items i put)
         (did_take s i stage old.nodes.items old.links.items st.nodes st.links st.count link put
-        w.at_link goes k place after change w.may.at.reached.tree w.may.less w.lower w.at v
+        w.at_link goes k place after change w.may.about.actor.at.reached.tree w.may.about.actor.less w.lower w.at v
         (puts (s.rests k) (at_of s.kinds s.links k) (st.nodes k node at_node) may_take))
         en el))

@@ -31,7 +31,7 @@ use Rattle.hum_engine.proofs.Moving.{set_here, set_there}
 use Rattle.hum_engine.proofs.Readying.{room_gives, touched_gives, touched_takes, unset_ends}
 use Rattle.hum_engine.proofs.Polling.{state_gives}
 use Rattle.hum_engine.proofs.Stepping.{has_done}
-use Rattle.hum_engine.proofs.Turning.{acting, actor_of, asks_no_one, stage_fed, stage_ready, stage_too, turn_of}
+use Rattle.hum_engine.proofs.Turning.{acting, asks_no_one, stage_fed, stage_ready, stage_too, turn_of}
 
 -- What is asked of a look whether it can do this.
 abbrev pub MayCan : {S R : Type 0} → Stage S → ℕ → Web S R → Readiness → Type 0
@@ -51,7 +51,7 @@ module _ {S R : Type 0} {stage : Stage S} {k : ℕ} {web : Web S R} where
 
   pub may_turn : (h : Somewhere (HasActor stage k web))
       → ready (plan_of h.scene) h.scene.size h.scene.links k ≡ true → Somewhere (MayTurn stage k web)
-  may_turn h is = record { scene = h.scene; holds = record { at = h.holds.at; less = h.holds.less; ready = is } }
+  may_turn h is = record { scene = h.scene; holds = record { actor = h.holds; ready = is } }
 
   module _ {b : Bool} {s : Scene} where
     pub can_ready : {r : Readiness} → IsDoing stage k web r → HasActor stage k web s
@@ -94,10 +94,10 @@ module _ {S R : Type 0} {stage : Stage S} {reader : Source R} {k : ℕ} {old new
       (Ok (record { link = k; is_full = false; has_taken = false }))
   told_given doing keep here given = told_own doing.0 keep here.holds
       (λ u turn.
-      let may = acting (gives_about (doing.1 u turn.at turn.less) refl) turn.ready in
-      has_done (state_gives u u.links k may.less may.does) (given u may))
+      let may = acting (gives_about (doing.1 u turn.actor.at turn.actor.less) refl) turn.ready in
+      has_done (state_gives u u.links k may.about.actor.less may.about.does) (given u may))
       (λ u actor.
-      let h = stage_too (actor_of here.holds) actor in touched_gives (gives_about (doing.1 u h.at h.less) refl))
+      let h = stage_too here.holds.actor actor in touched_gives (gives_about (doing.1 u h.at h.less) refl))
 
   -- one that ran out of memory
   pub told_out : IsKind false k old → Keeps k old new → HasTold stage reader k old new
@@ -126,7 +126,7 @@ told_taken {S} {R} {stage} {k = k} {place} {source = source} {web = web} {new = 
     record {
       turned = stage_fed (turn_of (next_about w h) p.may.can) (next_kind w)
           (λ u turn.
-          let q = takes w value told some (actor_of turn) in
+          let q = takes w value told some turn.actor in
           passed q (changes u (link_here q)) after put there (λ rest. puts rest place) goes en el)
           keep;
       link = λ u actor.

@@ -29,7 +29,7 @@ use Rattle.hum_engine.specs.Search.{IsNearer, outer, passed, stayed, changed, sk
 use Rattle.hum_engine.specs.Scene.{Scene, plan_of, moved, before_all, IsCrowded, HasIdleLink}
 use Rattle.hum_engine.specs.Nets.{NetAt, AtEach, AreOver, GoesTo, IsChanged, Sees, IsRunning, MayAsk, MayStep}
 use Rattle.hum_engine.specs.Nets.{MayAdvance, HasPicked, IsNext, HasMoved, HasRested, HasWorked, HasStepped}
-use Rattle.hum_engine.specs.Nets.{HasAdvanced, IsCloser, MarksFailures, IsGoing, IsFront}
+use Rattle.hum_engine.specs.Nets.{HasAdvanced, IsCloser, MarksFailures, IsFront}
 use Rattle.hum_engine.proofs.Advancing.{pick_now, none_yet, then_at, marks_none}
 use Rattle.hum_engine.proofs.Flags.{IsTurn, touched_below, two_set}
 use Rattle.hum_engine.proofs.HeldUp.{held_by, held_unready, crowded_by}
@@ -421,14 +421,13 @@ module _ {S R W O : Type 0} {stage : Stage S} {writer : Sink W} {order : Order O
       taker_at : slice_get behind.takers.items turned.link ≡ Some taker
       taker_at = nth behind.takers.items turned.link taker link_by read
 
-      pub ends_by : IsGoing stage writer turned.link behind
-          × IsGoing stage writer taker behind
+      pub ends_by : MayAsk stage writer turned.link behind × MayAsk stage writer taker behind
       ends_by =
           let t = next_now a worked on in
           let r : IsRunning stage writer behind =
           record { start = t.0; scene = t.1; now = t.3.goes.to; at = t.3.goes.at } in (
-            record { running = r; going = now_unfailed r.at t.4; within = omega (arith, link_within a worked t.3 t.4) },
-            record { running = r; going = now_unfailed r.at t.4; within = (taker_of a worked t.3 t.4 taker_at).most },
+            record { running = r; going = t.4; within = omega (arith, link_within a worked t.3 t.4) },
+            record { running = r; going = t.4; within = (taker_of a worked t.3 t.4 taker_at).most },
           )
 
       -- and are, where there is no search.

@@ -36,7 +36,7 @@ done_of (does.Done e) h = (e, refl)
 module _ {S R : Type 0} {stage : Stage S} {k : ℕ} {web : Web S R} {s : Scene}
     {r : Readiness} (a : IsAboutKind stage k r web s) where
   pub about_by : {doing : Doing} → doing_of (at_of s.kinds s.links k) ≡ doing → IsAbout stage k doing web s
-  about_by is = record { at = a.at; less = a.less; bytes = a.bytes; does = is }
+  about_by is = record { actor = a.actor; bytes = a.bytes; does = is }
 
   pub gives_about : r ≡ kind.Gives → IsAbout stage k does.Gives web s
   gives_about is = about_by (gives_of _ (a.does ∙ is))
@@ -69,8 +69,7 @@ module _ {S R : Type 0} {stage : Stage S} {k : ℕ} {web : Web S R} {node : Node
         λ u at less.
             let here = at.stand.nodes k node says_at in
             record {
-              at = at;
-              less = less;
+              actor = record { at = at; less = less };
               bytes = stage_bytes stage.stands node (u.rests k) _ none here;
               does = sym (sym is ∙ told _ _ here ∙ ap (λ b. readiness_at b (doing_of (at_of u.kinds u.links k))) none);
             },
@@ -81,8 +80,7 @@ module _ {S R : Type 0} {stage : Stage S} {k : ℕ} {web : Web S R} {node : Node
   reader_is e =
       let a = h.holds in
       one_kind k web says_at (true_from_ne_false _ (λ isnt. never (record {
-        at = a.at;
-        less = a.less;
+        actor = a;
         bytes = stage_bytes stage.stands node (h.scene.rests k) _ isnt (a.at.stand.nodes k node says_at);
         does = reads_of _ (says false isnt ∙ e);
       })))

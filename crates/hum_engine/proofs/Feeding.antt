@@ -49,7 +49,7 @@ module _ {S R : Type 0} {stage : Stage S} {k : ℕ} {web : Web S R} {s : Scene} 
 
 pub turn_link : {S R : Type 0} {stage : Stage S} {k : ℕ} {web : Web S R} {link : port.Link}
     → Somewhere (MayTurn stage k web) → link ≡ get_or web.links.items k link → slice_get web.links.items k ≡ Some link
-turn_link h e = link_at h.holds.less h.holds.at.stand e
+turn_link h e = link_at h.holds.actor.less h.holds.actor.at.stand e
 
 module _ {S R : Type 0} (stage : Stage S) (k : ℕ) (web : Web S R) (s : Scene) where
   pub node_of : k < s.count → Stands stage web s
@@ -80,16 +80,16 @@ still_here nodes k node after x was e =
 module _ {S R : Type 0} {stage : Stage S} {k : ℕ} {old : Web S R} {node : Node S R}
     (turn : Somewhere (MayTurn stage k old)) (value : node ≡ get_or old.nodes.items k node) where
   pub polled_at : slice_get old.nodes.items k ≡ Some node
-  polled_at = node_at turn.holds.less turn.holds.at.stand value
+  polled_at = node_at turn.holds.actor.less turn.holds.actor.at.stand value
 
   -- it has room
   pub source_room : {link : port.Link} → IsKind true k old → link ≡ get_or old.links.items k link → room link ≡ true
   source_room {link} kind e =
       let s = turn.scene in
       let may = turn.holds in
-      let b = source_bytes stage.stands node (s.rests k) _ (kind node polled_at) (may.at.stand.nodes k node polled_at) in
-      let r = sym (ready_reader (plan_of s) s.size k s.links may.less b) ∙ may.ready in
-      room_same k may.at.stand (link_at may.less may.at.stand e) ∙ (and_parts (is_none (s.links k).mark) _ r).1
+      let b = source_bytes stage.stands node (s.rests k) _ (kind node polled_at) (may.actor.at.stand.nodes k node polled_at) in
+      let r = sym (ready_reader (plan_of s) s.size k s.links may.actor.less b) ∙ may.ready in
+      room_same k may.actor.at.stand (link_at may.actor.less may.actor.at.stand e) ∙ (and_parts (is_none (s.links k).mark) _ r).1
 
   -- what it tells of why it has stopped
   pub why_stopped : {x : Node S R} {o : Option (Result End ReadError)} (after : Node S R)
@@ -131,12 +131,12 @@ module _ {S R : Type 0} {stage : Stage S} {k : ℕ} {old : Web S R} {node : Node
           at_end = h.at_end;
           still = h.still;
           turns = λ s last may.
-              let st = may.at.stand in
+              let st = may.actor.at.stand in
               let here : StandsAs stage.stands node (h.read ++ s.rests k) (at_of s.kinds s.links k) =
               rw (cond-true _ _ _ (eq-eqb k k refl)) at (st.nodes k node polled_at) in
               let others : OthersStand stage s k s.links old.nodes.items = λ i y o g.
               rw (cond-false _ _ _ (ne_eqb i k o)) at (st.nodes i y g) in
-              let t = polls stage s k old.nodes.items old.links.items may.less after link put at_link
+              let t = polls stage s k old.nodes.items old.links.items may.actor.less after link put at_link
               others st.links may.ready p (h.polls (s.rests k) (at_of s.kinds s.links k) last here) goes in
               record {
                 new = t.new;
@@ -160,7 +160,7 @@ module _ {S R : Type 0} {stage : Stage S} {k : ℕ} {old : Web S R} {node : Node
       asked same stays =
           record {
             others = others_same;
-            marks = rw (is_after, polled_at, same) (marks _ _ (turn.holds.at.stand.nodes k node polled_at));
+            marks = rw (is_after, polled_at, same) (marks _ _ (turn.holds.actor.at.stand.nodes k node polled_at));
             once = rw (is_after, polled_at) once;
             stays = rw (is_after, polled_at) stays;
           }
@@ -185,7 +185,7 @@ module _ {S R : Type 0} {stage : Stage S} {k : ℕ} {old : Web S R} {node : Node
         told_read put its is polled goes links full = record {
           turned = fed put its is polled goes links;
           link = λ s actor.
-              let less : k < s.count = omega (arith, turn.holds.less, turn.holds.at.stand.count, actor.at.stand.count) in
+              let less : k < s.count = omega (arith, turn.holds.actor.less, turn.holds.actor.at.stand.count, actor.at.stand.count) in
               let some = source_bytes stage.stands node (s.rests k) _ (kind node polled_at) (actor.at.stand.nodes k node polled_at) in
               sym (source_touches (plan_of s) actor.at.reached.ok s.size k s.links (source_is (plan_of s) k less some));
           full = full;

@@ -40,7 +40,7 @@ use Rattle.hum_engine.proofs.Polling.{state_gives}
 use Rattle.hum_engine.proofs.Stepping.{has_done}
 use Rattle.hum_engine.proofs.Taking.{left, wants_at}
 use Rattle.hum_engine.proofs.Tried.{record_left, tells_some}
-use Rattle.hum_engine.proofs.Turning.{stage_fed, stage_ready, one_kind, acting, actor_of, turn_of, about_of}
+use Rattle.hum_engine.proofs.Turning.{stage_fed, stage_ready, one_kind, acting, turn_of}
 
 -- A stage that has taken a record ahead, and whose link has room: it gives next, and can.
 pub record IsAhead {S R : Type 0} (stage : Stage S) (k : ℕ) (web : Web S R) (node : Node S R) : Type 0 where
@@ -63,20 +63,21 @@ module _ {S R : Type 0} {stage : Stage S} {k : ℕ} {web : Web S R} {node : Node
             let stand = here.stand.nodes k node there in
             let h = gives _ _ stand in
             record {
-              at = here;
-              less = less;
-              bytes = stage_bytes stage.stands node (u.rests k) _ kind stand;
-              does = h.1;
+              about = record {
+                actor = record { at = here; less = less };
+                bytes = stage_bytes stage.stands node (u.rests k) _ kind stand;
+                does = h.1;
+              };
               can = ap (can u.size u.links k) (state_gives u u.links k less h.1) ∙ room_in here.stand room;
             };
       }
 
   pub ahead_turn : IsAhead stage k web node → IsAt stage web s → MayTurn stage k web s
-  ahead_turn a at = let may = a.may s at in turn_of (about_of may) may.can
+  ahead_turn a at = let may = a.may s at in turn_of may.about may.can
 
   pub ahead_touches : IsAhead stage k web node → IsActor stage k web s
       → k ≡ touched k (state (plan_of s) s.links k)
-  ahead_touches a actor = touched_gives (about_of (a.may s actor.at))
+  ahead_touches a actor = touched_gives (a.may s actor.at).about
 
   -- the record lies on its link then
   pub ahead_done : {new : Web S R} {row : Row} {link : port.Link} (after : Node S R) (put : port.Link)
@@ -86,8 +87,8 @@ module _ {S R : Type 0} {stage : Stage S} {k : ℕ} {web : Web S R} {node : Node
       → new.links.items ≡ slice_set web.links.items k put
       → MayTurn stage k web s → Done stage k (state (plan_of s) s.links k) new s
   ahead_done after put a its taken goes en el turn =
-      let may = a.may s turn.at in
-      has_done (state_gives s s.links k may.less may.does) (gave may after a.there taken put its refl goes en el)
+      let may = a.may s turn.actor.at in
+      has_done (state_gives s s.links k may.about.actor.less may.about.does) (gave may after a.there taken put its refl goes en el)
 
 pub ahead_kind : {S R : Type 0} {stage : Stage S} {k : ℕ} {web : Web S R} {node : Node S R}
     → IsAhead stage k web node → IsKind false k web
@@ -132,8 +133,7 @@ module _ {S R : Type 0} {stage : Stage S} {k : ℕ} {web : Web S R} (h : IsHandi
       (λ source.
       let p = at.stand.links k h.idle.link h.idle.its in
       record {
-        at = at;
-        less = handing_less at;
+        actor = record { at = at; less = handing_less at };
         ready = source_ready stage k web s h.node h.idle.link at (handing_less at) h.is source
             ∙ ap (λ o. is_none o && has_room s.size (s.links k)) (sym p.mark ∙ h.idle.idle.unset)
             ∙ ap (λ (ws : List Row). nat_lt (length ws) s.size) (sym p.waiting ∙ h.idle.idle.empty)
@@ -244,9 +244,9 @@ pub wanting : {S R : Type 0} {stage : Stage S} {k place source : ℕ} {web : Web
     → doing_of t ≡ does.Wants place → source ≡ slice_index (sources_of t) place)
     → WantsFrom stage k place source web
 wanting {stage = stage} {k = k} {place = place} {web = web} {s = s} {node = node} a stage_kind value from =
-    let there : slice_get web.nodes.items k ≡ Some node = node_at a.less a.at.stand value in
+    let there : slice_get web.nodes.items k ≡ Some node = node_at a.actor.less a.actor.at.stand value in
     let kind = stage_kind node there in
-    wants_by k web there kind (wants_place stage.stands node (s.rests k) _ place kind (a.at.stand.nodes k node there) a.does)
+    wants_by k web there kind (wants_place stage.stands node (s.rests k) _ place kind (a.actor.at.stand.nodes k node there) a.does)
     (λ rest t h wants. from kind rest t place h wants)
 
 -- What is taken from its source changes its input by this.
@@ -264,8 +264,7 @@ module _ {S R : Type 0} {stage : Stage S} {k place source : ℕ} {web : Web S R}
 
     pub next_about : IsAbout stage k (does.Wants place) web s
     next_about = record {
-      at = h.at;
-      less = h.less;
+      actor = h;
       bytes = stage_bytes stage.stands w.node (s.rests k) _ w.kind standing;
       does = w.wants (s.rests k) _ standing;
     }
@@ -336,7 +335,7 @@ module _ {S R : Type 0} (stage : Stage S) (k place source : ℕ) (row : Row) (we
     pub accept_turn : MayTurn stage k (laid source row link web) s
     accept_turn =
         let h : HasActor stage k (laid source row link web) s = record { at = at; less = less } in
-        record { at = at; less = less; ready = sym (trying_able laid_wants laid_value (tells_loaded row link empty) h) }
+        record { actor = h; ready = sym (trying_able laid_wants laid_value (tells_loaded row link empty) h) }
 
     pub accept_touches : source ≡ touched k (state (plan_of s) s.links k)
     accept_touches =
@@ -403,7 +402,7 @@ module _ {S R : Type 0} {stage : Stage S} {k : ℕ} {row : Row} {web : Web S R} 
         let lies = laid_value stage k place source row web link its empty w in
         stage_fed (accept_turn stage k place source row web link its empty w o.scene offered_at o.less) (next_kind wants)
         (λ u turn.
-        let p = takes wants lies told refl (actor_of turn) in
+        let p = takes wants lies told refl turn.actor in
         passed p (record_left told u source (link_here p) refl) after link (node_at o.less o.at.stand value)
         (λ rest. puts rest place) (goes_unloaded row link empty) en
         (el ∙ set_back web.links.items source (loaded row link) link its))

@@ -141,7 +141,7 @@ module _ {S R W : Type 0} {stage : Stage S} {writer : Sink W} {start : Option (L
   may_before less =
       subst (λ (f : ℕ → List ℕ). MayTurn stage k old.web (record (moved s now.links) { rests = f }))
       (fun_ext (λ i. only_before (nat_eq i k) read (s.rests i)))
-      (record { at = at_now h (ready_result h k r); less = less; ready = ready_now h k r })
+      (record { actor = record { at = at_now h (ready_result h k r); less = less }; ready = ready_now h k r })
 
   -- one turn more
   turned_to : (to : Now Row) (sent : List ℕ) {is_over : Bool}

@@ -28,46 +28,46 @@ module _ {S R : Type 0} {stage : Stage S} {k : ℕ} {web : Web S R} {s : Scene} 
       → link ≡ get_or web.links.items k link → Tells link b has_room
       → b ≡ can s.size s.links k (state (plan_of s) s.links k)
   room_gives {link} a e tells =
-      tells s.size (s.links k) (a.at.stand.links k link (link_at a.less a.at.stand e))
-      ∙ sym (ap (can s.size s.links k) (state_gives s s.links k a.less a.does))
+      tells s.size (s.links k) (a.actor.at.stand.links k link (link_at a.actor.less a.actor.at.stand e))
+      ∙ sym (ap (can s.size s.links k) (state_gives s s.links k a.actor.less a.does))
 
   pub unset_ends : {link : port.Link} {b : Bool} {end : End} → IsAbout stage k (does.Done end) web s
       → link ≡ get_or web.links.items k link → Tells link b (λ size l. is_none l.mark)
       → b ≡ can s.size s.links k (state (plan_of s) s.links k)
   unset_ends {link} {b} {end} a e tells =
-      tells s.size (s.links k) (a.at.stand.links k link (link_at a.less a.at.stand e))
-      ∙ sym (ap (can s.size s.links k) (state_at s s.links k a.less a.does))
+      tells s.size (s.links k) (a.actor.at.stand.links k link (link_at a.actor.less a.actor.at.stand e))
+      ∙ sym (ap (can s.size s.links k) (state_at s s.links k a.actor.less a.does))
 
   module _ {place i : ℕ} where
     pub within_links : IsAbout stage k (does.Wants place) web s
         → i ≡ slice_index (s.kinds k).stage.sources place → i < length web.links.items
-    within_links a e = omega (arith, (wants_at s k place a.at.reached.ok a.less a.does).lower, a.at.stand.as_many, a.less, e)
+    within_links a e = omega (arith, (wants_at s k place a.actor.at.reached.ok a.actor.less a.does).lower, a.actor.at.stand.as_many, a.actor.less, e)
 
     pub some_takes : {link : port.Link} {b : Bool} → IsAbout stage k (does.Wants place) web s
         → i ≡ slice_index (s.kinds k).stage.sources place → link ≡ get_or web.links.items i link
         → Tells link b (λ size l. nat_lt 0 (length l.waiting) || is_some l.mark)
         → b ≡ can s.size s.links k (state (plan_of s) s.links k)
     some_takes {link} a e value tells =
-        let takes = state_at s s.links k a.less a.does in
-        let unheard : (s.links i).heard ≡ None = rw e (wanted (plan_of s) a.at.reached.ok s.links k (slice_index (s.kinds k).stage.sources place) a.less takes).unheard in
-        let told = tells s.size (s.links i) (a.at.stand.links i link (nth web.links.items i link (within_links a e) value)) in
+        let takes = state_at s s.links k a.actor.less a.does in
+        let unheard : (s.links i).heard ≡ None = rw e (wanted (plan_of s) a.actor.at.reached.ok s.links k (slice_index (s.kinds k).stage.sources place) a.actor.less takes).unheard in
+        let told = tells s.size (s.links i) (a.actor.at.stand.links i link (nth web.links.items i link (within_links a e) value)) in
         told ∙ grind (arith, unheard) ∙ ap (λ j. has_some (s.links j)) e ∙ sym (ap (can s.size s.links k) takes)
 
     pub touched_takes : IsAbout stage k (does.Wants place) web s
         → i ≡ slice_index (s.kinds k).stage.sources place → i ≡ touched k (state (plan_of s) s.links k)
-    touched_takes a e = e ∙ sym (ap (touched k) (state_at s s.links k a.less a.does))
+    touched_takes a e = e ∙ sym (ap (touched k) (state_at s s.links k a.actor.less a.does))
 
   -- it never reads
   pub never : IsAbout stage k does.Reads web s → ⊥
   never a =
-      let n = reads_bytes (plan_of s) a.at.reached.ok s.links k a.less (state_at s s.links k a.less a.does) in
+      let n = reads_bytes (plan_of s) a.actor.at.reached.ok s.links k a.actor.less (state_at s s.links k a.actor.less a.does) in
       omega (arith, n, a.bytes)
 
   pub touched_gives : IsAbout stage k does.Gives web s → k ≡ touched k (state (plan_of s) s.links k)
-  touched_gives a = sym (ap (touched k) (state_gives s s.links k a.less a.does))
+  touched_gives a = sym (ap (touched k) (state_gives s s.links k a.actor.less a.does))
 
   pub touched_ends : {end : End} → IsAbout stage k (does.Done end) web s → k ≡ touched k (state (plan_of s) s.links k)
-  touched_ends {end} a = sym (ap (touched k) (state_at s s.links k a.less a.does))
+  touched_ends {end} a = sym (ap (touched k) (state_at s s.links k a.actor.less a.does))
 
   -- A link that has room has room in the plan.
   pub room_in : Stands stage web s → HasRoom k web → has_room s.size (s.links k) ≡ true
@@ -115,4 +115,4 @@ module _ {S R : Type 0} {stage : Stage S} {k : ℕ} {web : Web S R} {s : Scene} 
   -- one whose end isn't set, and whose link has room, is ready
   pub source_turn : HasRoom k web → a ≡ true → MayTurn stage k web s
   source_turn room set =
-      record { at = h.at; less = h.less; ready = by_unset ∙ ap₂ (λ c d. c && d) set (room_in h.at.stand room) }
+      record { actor = h; ready = by_unset ∙ ap₂ (λ c d. c && d) set (room_in h.at.stand room) }

@@ -50,9 +50,6 @@ module _ {S R : Type 0} {stage : Stage S} {k : ℕ} {web : Web S R} {s : Scene} 
   pub stage_too : {here : Scene} → HasActor stage k web here → IsActor stage k web s → HasActor stage k web s
   stage_too h a = record { at = a.at; less = omega (arith, h.less, h.at.stand.count, a.at.stand.count) }
 
-  pub actor_of : MayTurn stage k web s → HasActor stage k web s
-  actor_of may = record { at = may.at; less = may.less }
-
   pub kind_at : {node : Node S R} {b : Bool} → HasActor stage k web s → node ≡ get_or web.nodes.items k node
       → is_source node ≡ b → IsKind b k web
   kind_at h e is = one_kind k web (node_at h.less h.at.stand e) is
@@ -64,23 +61,13 @@ module _ {S R : Type 0} {stage : Stage S} {k : ℕ} {web : Web S R} {s : Scene} 
     stage_ready a = grind (arith, nat_tests, a.bytes)
 
     -- and what it may do then
-    pub may_of : IsAbout stage k doing web s → can s.size s.links k (state (plan_of s) s.links k) ≡ true
-        → MayAct stage k doing web s
-    may_of a can = record { at = a.at; less = a.less; bytes = a.bytes; does = a.does; can = can }
-
-    pub actor_by : IsAbout stage k doing web s → HasActor stage k web s
-    actor_by a = record { at = a.at; less = a.less }
-
-    pub about_of : MayAct stage k doing web s → IsAbout stage k doing web s
-    about_of may = record { at = may.at; less = may.less; bytes = may.bytes; does = may.does }
-
     pub acting : IsAbout stage k doing web s → ready (plan_of s) s.size s.links k ≡ true
         → MayAct stage k doing web s
-    acting a h = may_of a (sym (stage_ready a) ∙ h)
+    acting a h = record { about = a; can = sym (stage_ready a) ∙ h }
 
     pub turn_of : IsAbout stage k doing web s → can s.size s.links k (state (plan_of s) s.links k) ≡ true
         → MayTurn stage k web s
-    turn_of a can = record { at = a.at; less = a.less; ready = stage_ready a ∙ can }
+    turn_of a can = record { actor = a.actor; ready = stage_ready a ∙ can }
 
 -- A turn of a stage that isn't a source.
 pub stage_fed : {S R : Type 0} {stage : Stage S} {reader : Source R} {k : ℕ}
@@ -88,8 +75,8 @@ pub stage_fed : {S R : Type 0} {stage : Stage S} {reader : Source R} {k : ℕ}
     → ((s : Scene) → MayTurn stage k old s → Done stage k (state (plan_of s) s.links k) new s)
     → Keeps k old new → Fed stage reader k old new
 stage_fed {S} {R} {stage} {reader} {k} {old} {new} {here} may kind does keep =
-    let node = node_of stage k old here may.less may.at.stand in
-    let after = node_of stage k new (moved here (does here may).new) may.less (does here may).stand in
+    let node = node_of stage k old here may.actor.less may.actor.at.stand in
+    let after = node_of stage k new (moved here (does here may).new) may.actor.less (does here may).stand in
     let was = kind node.0 node.1 in
     record {
       node = node.0;
@@ -104,12 +91,12 @@ stage_fed {S} {R} {stage} {reader} {k} {old} {new} {here} may kind does keep =
       turns = λ s last m.
           let u = unfed s m in
           let d = does s u in
-          let none = stage_bytes stage.stands node.0 (s.rests k) _ was (u.at.stand.nodes k node.0 node.1) in
+          let none = stage_bytes stage.stands node.0 (s.rests k) _ was (u.actor.at.stand.nodes k node.0 node.1) in
           record {
             new = d.new;
             step = step_does (plan_of s) s.size k (state (plan_of s) s.links k) s.links d.new
-                (omega (arith, u.less)) u.ready refl
-                (λ e. absurd (omega (arith, reads_bytes (plan_of s) u.at.reached.ok s.links k u.less e, none)))
+                (omega (arith, u.actor.less)) u.ready refl
+                (λ e. absurd (omega (arith, reads_bytes (plan_of s) u.actor.at.reached.ok s.links k u.actor.less e, none)))
                 d.does;
             stand = d.stand;
           };

@@ -326,12 +326,6 @@ pub record HasWorked {S R W : Type 0} (stage : Stage S) (reader : Source R) (wri
   pub gone : HasGone stage reader writer k old new answer
   pub little : AsksLittle stage reader writer k old new
 
--- one of its actors, while no failure has ended the run
-pub record IsGoing {S R W : Type 0} (stage : Stage S) (writer : Sink W) (k : ℕ) (net : Net S R W) : Type 0 where
-  pub running : IsRunning stage writer net
-  pub going : running.now.failure ≡ None
-  pub within : k ≤ running.scene.count
-
 -- A prefix of the plan's text was written.
 pub record WroteFront (s : Scene) (start held : Option (List ℕ)) : Type 0 where
   pub part : List ℕ

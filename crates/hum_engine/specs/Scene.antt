@@ -133,19 +133,27 @@ pub record HasStage {S R : Type 0} (stage : Stage S) (k : ℕ) (web : Web S R) (
   pub stand : Stands stage web s
   pub less : k < s.count
 
--- Stage k is ready.
-pub record MayTurn {S R : Type 0} (stage : Stage S) (k : ℕ) (web : Web S R) (s : Scene) : Type 0 where
+-- An actor that is a stage.
+pub record HasActor {S R : Type 0} (stage : Stage S) (k : ℕ) (web : Web S R) (s : Scene) : Type 0 where
   pub at : IsAt stage web s
   pub less : k < s.count
+
+-- Stage k is ready.
+pub record MayTurn {S R : Type 0} (stage : Stage S) (k : ℕ) (web : Web S R) (s : Scene) : Type 0 where
+  pub actor : HasActor stage k web s
   pub ready : ready (plan_of s) s.size s.links k ≡ true
+
+-- Stage k, which isn't a source, is about to do this.
+pub record IsAbout {S R : Type 0} (stage : Stage S) (k : ℕ) (doing : Doing) (web : Web S R) (s : Scene)
+    : Type 0 where
+  pub actor : HasActor stage k web s
+  pub bytes : (s.kinds k).stage.bytes ≡ 0
+  pub does : doing_of (at_of s.kinds s.links k) ≡ doing
 
 -- Stage k, which isn't a source, does this next, and can.
 pub record MayAct {S R : Type 0} (stage : Stage S) (k : ℕ) (doing : Doing) (web : Web S R) (s : Scene)
     : Type 0 where
-  pub at : IsAt stage web s
-  pub less : k < s.count
-  pub bytes : (s.kinds k).stage.bytes ≡ 0
-  pub does : doing_of (at_of s.kinds s.links k) ≡ doing
+  pub about : IsAbout stage k doing web s
   pub can : can s.size s.links k (state (plan_of s) s.links k) ≡ true
 
 -- it stands for something of which this holds
@@ -289,24 +297,10 @@ pub record IsActor {S R : Type 0} (stage : Stage S) (k : ℕ) (web : Web S R) (s
   pub at : IsAt stage web s
   pub within : k ≤ s.count
 
--- An actor that is a stage.
-pub record HasActor {S R : Type 0} (stage : Stage S) (k : ℕ) (web : Web S R) (s : Scene) : Type 0 where
-  pub at : IsAt stage web s
-  pub less : k < s.count
-
--- Stage k, which isn't a source, is about to do this.
-pub record IsAbout {S R : Type 0} (stage : Stage S) (k : ℕ) (doing : Doing) (web : Web S R) (s : Scene)
-    : Type 0 where
-  pub at : IsAt stage web s
-  pub less : k < s.count
-  pub bytes : (s.kinds k).stage.bytes ≡ 0
-  pub does : doing_of (at_of s.kinds s.links k) ≡ doing
-
 -- the same without its end
 pub record IsAboutKind {S R : Type 0} (stage : Stage S) (k : ℕ) (kind : Readiness) (web : Web S R) (s : Scene)
     : Type 0 where
-  pub at : IsAt stage web s
-  pub less : k < s.count
+  pub actor : HasActor stage k web s
   pub bytes : (s.kinds k).stage.bytes ≡ 0
   pub does : readiness_of (doing_of (at_of s.kinds s.links k)) ≡ kind
 

@@ -18,7 +18,7 @@ ghost use Rattle.hum_engine.specs.Scene.{WantsFrom, HasActor, IsWaiting, IsCrowd
 ghost use Rattle.hum_engine.specs.Search.{is_left};
 ghost use Rattle.hum_engine.specs.Told.{AsksNone};
 ghost use Rattle.hum_engine.specs.declared.net.Stepped.TheVariants as steps;
-ghost use Rattle.hum_engine.specs.Nets.{HasSent, MayWrite, CallsSink, SinkWent, MayGo, IsRunning, IsAmong, IsGoing};
+ghost use Rattle.hum_engine.specs.Nets.{HasSent, MayWrite, CallsSink, SinkWent, MayGo, IsRunning, IsAmong};
 ghost use Rattle.hum_engine.specs.Nets.{NetAt, AtEach, AreBegun, IsNet, RunsBy, WroteFront};
 ghost use Rattle.hum_engine.specs.Nets.{MayPick, IsNext, MayAsk, HasRested, HasWorked};
 ghost use Rattle.hum_engine.specs.Nets.{HasGone, AsksLittle, fault_by, turned_by, failed_by, is_over};
@@ -241,7 +241,7 @@ impl<S: Stage + Drop, R: Source + Drop, W: Sink> Net<S, R, W> {
     // Sets the flag of an actor. While the run goes on it says whether that one is ready.
     #[inline(always)]
     fn ask(&mut self, k: usize)
-        requires { IsGoing S.Stage W.Sink k self.old }
+        requires { MayAsk S.Stage W.Sink k self.old }
         ensures same { self.new ≡ record self.old { actors = self.new.actors } }
         ensures len { length self.new.actors.items ≡ length self.old.actors.items }
         ensures list { AtEach S.Stage W.Sink self.old
@@ -254,8 +254,8 @@ impl<S: Stage + Drop, R: Source + Drop, W: Sink> Net<S, R, W> {
 
     // Sets the flags of the two ends of a link.
     fn ask_both(&mut self, link: usize, taker: usize)
-        requires link { IsGoing S.Stage W.Sink link self.old }
-        requires taker { IsGoing S.Stage W.Sink taker self.old }
+        requires link { MayAsk S.Stage W.Sink link self.old }
+        requires taker { MayAsk S.Stage W.Sink taker self.old }
         ensures same { self.new ≡ record self.old { actors = self.new.actors } }
         ensures len { length self.new.actors.items ≡ length self.old.actors.items }
         ensures list { AtEach S.Stage W.Sink self.old

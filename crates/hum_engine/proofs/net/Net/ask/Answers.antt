@@ -1,6 +1,6 @@
 use Rattle.std.proofs.Common.{ap, slice_set}
 use Rattle.hum_engine.specs.Scene.{moved}
-use Rattle.hum_engine.proofs.Netting.{web_at, ready_by}
+use Rattle.hum_engine.proofs.Netting.{at_now, ready_by}
 use Rattle.hum_engine.proofs.net.Net.ask.Goals as goal
 
 pub ready-is-requires : goal.ready-is-requires
@@ -8,7 +8,7 @@ ready-is-requires g c =
     let r = c.requires.running in
     record {
       scene = moved r.scene r.now.links;
-      holds = record { at = web_at r.at c.requires.going; within = c.requires.within };
+      holds = record { at = at_now r.at c.requires.going; within = c.requires.within };
     }
 
 pub returns-clause-list : goal.returns-clause-list

@@ -13,7 +13,7 @@ use Rattle.hum_engine.proofs.Doings.{done_about}
 use Rattle.hum_engine.proofs.Feeding.{node_at}
 use Rattle.hum_engine.proofs.Polling.{state_at}
 use Rattle.hum_engine.proofs.Readying.{touched_ends}
-use Rattle.hum_engine.proofs.Turning.{acting, actor_of, stage_too}
+use Rattle.hum_engine.proofs.Turning.{acting, stage_too}
 use Rattle.hum_engine.proofs.Stepping.{has_done}
 use Rattle.hum_engine.proofs.web.Web.close.Goals as goal
 
@@ -32,23 +32,23 @@ pub finish-requires : goal.finish-requires
 finish-requires g c =
     record {
       scene = c.requires.turn.scene;
-      holds = acting (ends c.requires.done (actor_of c.requires.turn.holds) c.index.ensures c.end.ensures c.in-Some.is)
+      holds = acting (ends c.requires.done c.requires.turn.holds.actor c.index.ensures c.end.ensures c.in-Some.is)
           c.requires.turn.holds.ready;
     }
 
 pub returns-in-Some-clause-done : goal.returns-in-Some-clause-done
 returns-in-Some-clause-done g c s turn =
-    let may = acting (ends c.requires.done (actor_of turn) c.index.ensures c.end.ensures c.in-Some.is) turn.ready in
-    has_done (state_at s s.links c.args.k may.less may.does) (c.finish.ensures.ended s may)
+    let may = acting (ends c.requires.done turn.actor c.index.ensures c.end.ensures c.in-Some.is) turn.ready in
+    has_done (state_at s s.links c.args.k may.about.actor.less may.about.does) (c.finish.ensures.ended s may)
 
 pub returns-in-Some-clause-link : goal.returns-in-Some-clause-link
 returns-in-Some-clause-link g c s actor =
-    let h = stage_too (actor_of c.requires.turn.holds) actor in
+    let h = stage_too c.requires.turn.holds.actor actor in
     touched_ends (ends c.requires.done h c.index.ensures c.end.ensures c.in-Some.is)
 
 pub returns-in_default : goal.returns-in_default
 returns-in_default g c =
-    let d = done_about (c.requires.done.1 _ c.requires.turn.holds.at c.requires.turn.holds.less) refl in
+    let d = done_about (c.requires.done.1 _ c.requires.turn.holds.actor.at c.requires.turn.holds.actor.less) refl in
     absurd (c.in_default.not-Some d.0 (c.end.ensures _ _ d.0
-    (c.requires.turn.holds.at.stand.nodes c.args.k _ (node_at c.requires.turn.holds.less c.requires.turn.holds.at.stand
+    (c.requires.turn.holds.actor.at.stand.nodes c.args.k _ (node_at c.requires.turn.holds.actor.less c.requires.turn.holds.actor.at.stand
     c.index.ensures)) d.1.does))

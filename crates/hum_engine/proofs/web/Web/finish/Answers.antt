@@ -6,4 +6,4 @@ use Rattle.hum_engine.proofs.web.Web.finish.Goals as goal
 pub returns-clause-ended : goal.returns-clause-ended
 returns-clause-ended g c s may =
     finished c.end.new.self may
-    (link_at may.less may.at.stand c.index_mut.ensures.value) c.end.ensures refl refl
+    (link_at may.about.actor.less may.about.actor.at.stand c.index_mut.ensures.value) c.end.ensures refl refl

@@ -9,13 +9,13 @@ push-requires g c = record { room = gives_room c.requires.may.holds c.index_mut-
 
 pub returns-in-Some-clause-given : goal.returns-in-Some-clause-given
 returns-in-Some-clause-given g c s may =
-    gave may c.take.new.self (node_at may.less may.at.stand c.index_mut.ensures.value)
-    c.in_ok-row.ensures.taken c.push.new.self (link_at may.less may.at.stand c.index_mut-in-Some.ensures.value)
+    gave may c.take.new.self (node_at may.about.actor.less may.about.actor.at.stand c.index_mut.ensures.value)
+    c.in_ok-row.ensures.taken c.push.new.self (link_at may.about.actor.less may.about.actor.at.stand c.index_mut-in-Some.ensures.value)
     c.in-Some.is c.push.ensures.pushed refl refl
 
 pub returns-in_default-clause-given : goal.returns-in_default-clause-given
 returns-in_default-clause-given g c s may =
-    let x = gives_some may c.take.new.self (node_at may.less may.at.stand c.index_mut.ensures.value)
+    let x = gives_some may c.take.new.self (node_at may.about.actor.less may.about.actor.at.stand c.index_mut.ensures.value)
     c.in_ok-row.ensures.taken in
     absurd (c.in_default.not-Some x.0 x.1)
 

@@ -7,24 +7,23 @@ use Rattle.hum_engine.proofs.Acting.{keeps}
 use Rattle.hum_engine.proofs.Answered.{told_out, told_taken}
 use Rattle.hum_engine.proofs.Handing.{next_within, trying_able, trying_may, wanting}
 use Rattle.hum_engine.proofs.Tried.{record_left, end_left, with_back, web_back}
-use Rattle.hum_engine.proofs.Turning.{actor_by}
 use Rattle.hum_engine.proofs.web.Web.pass.Goals as goal
 
 pub index_mut-requires : goal.index_mut-requires
 index_mut-requires g c =
     let w = wanting c.requires.about.1.holds c.requires.stage c.index_mut-node.ensures.value c.source-source.ensures in
-    omega (arith, next_within w (actor_by c.requires.about.1.holds), c.args.self.now.links.ok.0)
+    omega (arith, next_within w c.requires.about.1.holds.actor, c.args.self.now.links.ok.0)
 
 pub put-requires-clause-may : goal.put-requires-clause-may
 put-requires-clause-may g c =
     trying_may (wanting c.requires.about.1.holds c.requires.stage c.index_mut-node.ensures.value c.source-source.ensures)
-    c.index_mut.ensures.value c.take.ensures.taken (actor_by c.requires.about.1.holds) c.index_mut-node.ensures.value
+    c.index_mut.ensures.value c.take.ensures.taken c.requires.about.1.holds.actor c.index_mut-node.ensures.value
     (ap is_some_of c.in-Record.is) (λ s here. record_left c.take.ensures.taken s _ here c.in-Record.is)
 
 pub stop-requires-clause-may : goal.stop-requires-clause-may
 stop-requires-clause-may g c =
     trying_may (wanting c.requires.about.1.holds c.requires.stage c.index_mut-node.ensures.value c.source-source.ensures)
-    c.index_mut.ensures.value c.take.ensures.taken (actor_by c.requires.about.1.holds) c.index_mut-node.ensures.value
+    c.index_mut.ensures.value c.take.ensures.taken c.requires.about.1.holds.actor c.index_mut-node.ensures.value
     (ap is_some_of c.in-End.is) (λ s here. end_left c.take.ensures.taken s _ here c.in-End.is)
 
 pub returns-in-Ok-clause-ready : goal.returns-in-Ok-clause-ready
@@ -55,7 +54,7 @@ pub returns-in-Ok-clause-told : goal.returns-in-Ok-clause-told
 returns-in-Ok-clause-told g c =
     told_taken (with_record c.in-Record.row) c.put.new.self c.take.new.self
     (wanting c.requires.about.1.holds c.requires.stage c.index_mut-node.ensures.value c.source-source.ensures)
-    c.index_mut.ensures.value c.take.ensures.taken (actor_by c.requires.about.1.holds) c.index_mut-node.ensures.value
+    c.index_mut.ensures.value c.take.ensures.taken c.requires.about.1.holds.actor c.index_mut-node.ensures.value
     (ap is_some_of c.in-Record.is) (λ s here. record_left c.take.ensures.taken s _ here c.in-Record.is) c.put.ensures.kind
     c.in-Ok.ensures.put (c.take.ensures.popped (ap is_some_of c.in-Record.is)) refl refl
     (λ is. (c.is_full.ensures.full is, c.in-Ok.ensures.gives (c.is_full.ensures.gives is)))
@@ -68,7 +67,7 @@ pub returns-in-End-clause-told : goal.returns-in-End-clause-told
 returns-in-End-clause-told g c =
     rw c.alone.ensures (told_taken (with_end c.in-End.end) c.stop.new.self c.take.new.self
     (wanting c.requires.about.1.holds c.requires.stage c.index_mut-node.ensures.value c.source-source.ensures)
-    c.index_mut.ensures.value c.take.ensures.taken (actor_by c.requires.about.1.holds) c.index_mut-node.ensures.value
+    c.index_mut.ensures.value c.take.ensures.taken c.requires.about.1.holds.actor c.index_mut-node.ensures.value
     (ap is_some_of c.in-End.is) (λ s here. end_left c.take.ensures.taken s _ here c.in-End.is) c.stop.ensures.kind
     c.stop.ensures.stopped (c.take.ensures.popped (ap is_some_of c.in-End.is)) refl refl
     (λ is. absurd (false≢true is)) (λ is. absurd (false≢true is)))

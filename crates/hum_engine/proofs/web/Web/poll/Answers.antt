@@ -31,8 +31,8 @@ returns-in-Some-Ok-clause-told g c =
 
 pub returns-in-None-stopped-clause-told : goal.returns-in-None-stopped-clause-told
 returns-in-None-stopped-clause-told g c =
-    let link = link_of g.S.Stage c.args.k c.args.self.now _ c.requires.turn.holds.less
-    c.requires.turn.holds.at.stand in
+    let link = link_of g.S.Stage c.args.k c.args.self.now _ c.requires.turn.holds.actor.less
+    c.requires.turn.holds.actor.at.stand in
     told_read c.requires.turn c.index_mut.ensures.value _ c.next.new.self refl _ c.next.ensures.once c.next.ensures.marks
     c.requires.source link.0 link.1
     (ap₂ given_by c.in-None.is (why_stopped c.requires.turn c.index_mut.ensures.value _ c.index.ensures c.stopped.ensures

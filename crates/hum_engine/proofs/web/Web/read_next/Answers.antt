@@ -33,8 +33,8 @@ returns-in-Some-Ok g c =
 
 pub returns-in-None-stopped : goal.returns-in-None-stopped
 returns-in-None-stopped g c =
-    let link = link_of g.S.Stage c.args.k c.args.self.now _ c.requires.turn.holds.less
-    c.requires.turn.holds.at.stand in
+    let link = link_of g.S.Stage c.args.k c.args.self.now _ c.requires.turn.holds.actor.less
+    c.requires.turn.holds.actor.at.stand in
     let given = ap₂ given_by c.in-None.is (why_stopped c.requires.turn c.index_mut.ensures.value _ c.index.ensures
     c.stopped.ensures ∙ c.in-None-stopped.is) in
     record {

@@ -17,7 +17,7 @@ returns-then-gives_ahead-clause-told g c =
     rw c.alone.ensures (told_own (ahead_kind a)
     (keeps c.take_ahead-row.new.self (c.take_ahead-row.ensures.kind ∙ a.kind) refl) (ahead_turn a c.requires.at.holds)
     (λ s turn. ahead_done c.take_ahead-row.new.self c.push.new.self a
-    (link_at turn.less turn.at.stand c.index_mut-then-gives_ahead.ensures.value) c.take_ahead-row.ensures.taken
+    (link_at turn.actor.less turn.actor.at.stand c.index_mut-then-gives_ahead.ensures.value) c.take_ahead-row.ensures.taken
     c.push.ensures.pushed refl refl turn)
     (λ s actor. ahead_touches a actor))
 

@@ -2,7 +2,6 @@ use Rattle.std.proofs.Common.{◌∙◌, refl, sym}
 use Rattle.hum_engine.proofs.Answered.{may_try, may_turn, gives_ready, ends_ready, told_own, told_given, told_out}
 use Rattle.hum_engine.proofs.Doings.{doing_is, reader_is, gives_about}
 use Rattle.hum_engine.proofs.Readying.{room_gives}
-use Rattle.hum_engine.proofs.Turning.{may_of}
 use Rattle.hum_engine.proofs.web.Web.turn.Goals as goal
 
 pub pass-requires-clause-about : goal.pass-requires-clause-about
@@ -24,7 +23,7 @@ give-requires-clause-may g c =
     let a = gives_about ((doing_is c.requires c.index.ensures c.readiness.ensures c.in-Gives.is (λ e. cc)).1 _
     c.requires.holds.at c.requires.holds.less) refl in
     let can = sym (room_gives a c.index-in-Gives.ensures c.has_room.ensures.has_room) ∙ c.if-not-has_room.false in
-    record { scene = c.requires.scene; holds = may_of a can }
+    record { scene = c.requires.scene; holds = record { about = a; can = can } }
 
 pub give-requires-clause-stage : goal.give-requires-clause-stage
 give-requires-clause-stage g c = (doing_is c.requires c.index.ensures c.readiness.ensures c.in-Gives.is (λ e. cc)).0
