@@ -7,11 +7,10 @@ ghost use Rattle.hum_record.specs.Row.{Row};
 ghost use Rattle.hum_turns.specs.Failures.{Now, result as ended};
 ghost use Rattle.hum_engine.specs.Scene.{Scene, plan_of};
 ghost use Rattle.hum_engine.specs.Nets.{NetAt};
+ghost use Rattle.hum_net.specs.Scenes.{commands};
 ghost use Rattle.hum_net.specs.Bundles.{ComesOfBundle, is_failed_write, is_read_by};
 
-use hum_commands::CommandStage;
 use hum_net::{Leftmost, Net, Outcome, RunResult, Sink, Source, run_bundle};
-use hum_stage::Stage;
 use std::alloc::Global;
 
 /// Runs a bundle, a plan and its scores in one stream: the leftmost actor that is ready has each turn.
@@ -32,7 +31,7 @@ pub fn make_rounds<R: Source + Drop, W: Sink>(
     rounds: usize,
 ) -> Option<RunResult>
     ensures { (start : Option (List ℕ)) (s : Scene) (now : Now Row)
-        → NetAt ⟦<CommandStage as Stage>⟧ W.Sink start s net.new now → result ≡ ended (plan_of s) now }
+        → NetAt commands W.Sink start s net.new now → result ≡ ended (plan_of s) now }
 {
     for _ in 0..rounds {
         for k in 0..net.actors() {

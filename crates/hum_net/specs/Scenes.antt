@@ -6,6 +6,8 @@ use Rattle.hum_stage.specs.declared.contract.Stage.{Ghosts as Commands}
 use Rattle.hum_turns.specs.Links.{fresh}
 use Rattle.hum_turns.specs.Failures.{Now, is_ready}
 use Rattle.hum_nodes.specs.Trees.{kind_at}
+use Rattle.hum_commands.specs.declared.stages.CommandStage.{CommandStage}
+use Rattle.hum_commands.specs.contracts.stages.CommandStageStage.TheImpl as stage
 use Rattle.hum_engine.specs.declared.net.Net.{Net}
 use Rattle.hum_engine.specs.Scene.{Scene, plan_of}
 use Rattle.hum_engine.specs.Nets.{NetAt}
@@ -22,6 +24,10 @@ scene_of bytes rests stages size = record {
   size = size;
   links = λ k. fresh;
 }
+
+-- what the stages of commands stand for
+abbrev pub commands : Commands CommandStage
+commands = stage.ghosts
 
 -- nothing has moved yet
 abbrev pub first_now : Now Row

@@ -16,13 +16,12 @@ ghost use Rattle.hum_engine.specs.Nets.{CallsSink, AtEach};
 ghost use Rattle.hum_turns.specs.Plan.{last};
 ghost use Rattle.hum_net.specs.Nodes.{AreTold, reads_of};
 ghost use Rattle.hum_net.specs.Parts.{AreSoundFrom};
-ghost use Rattle.hum_net.specs.Scenes.{scene_of, first_now, IsReadyNow};
+ghost use Rattle.hum_net.specs.Scenes.{commands, scene_of, first_now, IsReadyNow};
 
 use crate::nodes::plan_nodes;
 use hum_commands::CommandStage;
 use hum_engine::Net as Engine;
 use hum_plan::{Plan, PlanStage};
-use hum_stage::Stage;
 use hum_text::calls::{Sink, Source};
 use hum_turns::{Order, RunResult};
 use std::alloc::Global;
@@ -41,12 +40,13 @@ impl<R: Source, W: Sink> Model for Net<R, W> {
     ghost use Rattle.hum_commands.specs.declared.stages.CommandStage.{CommandStage};
     ghost use Rattle.hum_engine.specs.declared.net.Net.{Net as Engine};
     ghost use Rattle.hum_engine.specs.Nets.{IsNet};
+    ghost use Rattle.hum_net.specs.Scenes.{commands};
 
     ghost Value = { Engine CommandStage R W };
 
     ghost view = { λ net. net.engine };
 
-    ghost invariant = { λ net. IsNet ⟦<CommandStage as Stage>⟧ W.Sink net.engine };
+    ghost invariant = { λ net. IsNet commands W.Sink net.engine };
 }
 
 impl<R: Source + Drop, W: Sink> Net<R, W> {
@@ -68,8 +68,7 @@ impl<R: Source + Drop, W: Sink> Net<R, W> {
 
         // Whatever bytes the readers have, it stands for the plan over them before the first turn.
         ensures opens { IfOk result (λ net. (bytes : ℕ → List ℕ)
-            → NetAt ⟦<CommandStage as Stage>⟧ W.Sink (W.contents writer) (scene_of bytes bytes plan link) net
-            first_now) }
+            → NetAt commands W.Sink (W.contents writer) (scene_of bytes bytes plan link) net first_now) }
 
         // Where the readers tell their bytes, so do its sources.
         ensures tells { IfOk result (λ net. (bytes : ℕ → List ℕ) → AreTold R.remaining bytes 0 plan readers.items
@@ -94,8 +93,8 @@ impl<R: Source + Drop, W: Sink> Net<R, W> {
         requires link { 1 ≤ link }
         requires room { link ≤ 4096 }
         ensures opens { IfOk result (λ net. (bytes : ℕ → List ℕ)
-            → NetAt ⟦<CommandStage as Stage>⟧ W.Sink (W.contents writer)
-            (scene_of bytes bytes (stages_of stages.items) link) net first_now) }
+            → NetAt commands W.Sink (W.contents writer) (scene_of bytes bytes (stages_of stages.items) link) net
+            first_now) }
         ensures tells { IfOk result (λ net. (bytes : ℕ → List ℕ)
             → AreTold R.remaining bytes 0 (stages_of stages.items) readers.items
             → Tells R.Source net.web.nodes.items bytes) }
@@ -114,7 +113,7 @@ impl<R: Source + Drop, W: Sink> Net<R, W> {
     /// How many actors there are: the stages and the sink.
     pub fn actors(&self) -> usize
         ensures count { result ≡ length self.now.actors.items }
-        ensures stages { AtEach ⟦<CommandStage as Stage>⟧ W.Sink self.now (λ start s now. result ≡ s.count + 1) }
+        ensures stages { AtEach commands W.Sink self.now (λ start s now. result ≡ s.count + 1) }
     {
         self.engine.actors()
     }
@@ -122,8 +121,7 @@ impl<R: Source + Drop, W: Sink> Net<R, W> {
     /// Whether an actor is ready: it may have a turn. Once the run has ended none is.
     pub fn ready(&self, k: usize) -> bool
         requires { k < length self.now.actors.items }
-        ensures { AtEach ⟦<CommandStage as Stage>⟧ W.Sink self.now
-            (λ start s now. result ≡ is_ready (plan_of s) s.size now k) }
+        ensures { AtEach commands W.Sink self.now (λ start s now. result ≡ is_ready (plan_of s) s.size now k) }
     {
         self.engine.ready(k)
     }
@@ -131,10 +129,10 @@ impl<R: Source + Drop, W: Sink> Net<R, W> {
     /// One turn of an actor that is ready, and whether the run is over then.
     pub fn turn(&mut self, k: usize) -> bool
         requires within { k < length self.old.actors.items }
-        requires ready { IsReadyNow ⟦<CommandStage as Stage>⟧ W.Sink k self.old }
+        requires ready { IsReadyNow commands W.Sink k self.old }
 
         // It is one turn of this actor, whatever comes of the bytes that are still to be read.
-        ensures turned { HasTurned ⟦<CommandStage as Stage>⟧ R.Source W.Sink k self.old self.new result }
+        ensures turned { HasTurned commands R.Source W.Sink k self.old self.new result }
         ensures turns { self.new.turns ≡ self.old.turns + 1 }
         ensures actors { self.new.actors ≡ self.old.actors }
 
@@ -145,7 +143,7 @@ impl<R: Source + Drop, W: Sink> Net<R, W> {
 
         // The writer is asked for no write but those of the record that the sink takes, or for one flush
         // at the end.
-        ensures asked { AtEach ⟦<CommandStage as Stage>⟧ W.Sink self.old
+        ensures asked { AtEach commands W.Sink self.old
             (λ start s now. k ≡ s.count → CallsSink (W.calls self.old.sink) (W.calls self.new.sink)
             (now.links (last (plan_of s))).waiting) }
     {
@@ -154,18 +152,16 @@ impl<R: Source + Drop, W: Sink> Net<R, W> {
 
     /// Whether the run is over. Until then some actor is ready.
     pub fn over(&self) -> bool
-        ensures progress { AtEach ⟦<CommandStage as Stage>⟧ W.Sink self.now
+        ensures progress { AtEach commands W.Sink self.now
             (λ start s now. ended (plan_of s) now ≡ None → SomeReady (plan_of s) s.size now.links) }
-        ensures over { AtEach ⟦<CommandStage as Stage>⟧ W.Sink self.now
-            (λ start s now. result ≡ is_some (ended (plan_of s) now)) }
+        ensures over { AtEach commands W.Sink self.now (λ start s now. result ≡ is_some (ended (plan_of s) now)) }
     {
         self.engine.over()
     }
 
     /// How the run ended, once it has.
     pub fn result(&self) -> Option<RunResult>
-        ensures { AtEach ⟦<CommandStage as Stage>⟧ W.Sink self.now
-            (λ start s now. result ≡ ended (plan_of s) now) }
+        ensures { AtEach commands W.Sink self.now (λ start s now. result ≡ ended (plan_of s) now) }
     {
         self.engine.result()
     }
@@ -174,12 +170,12 @@ impl<R: Source + Drop, W: Sink> Net<R, W> {
     /// that were moved allow.
     pub fn turns(&self) -> u64
         ensures turns { result ≡ self.now.turns }
-        ensures most { AtEach ⟦<CommandStage as Stage>⟧ W.Sink self.now
+        ensures most { AtEach commands W.Sink self.now
             (λ start s now. now.failure ≡ None → result ≤ most_in_all (plan_of s) now.links) }
 
         // Each actor has had no more of them than what it moved allows.
         ensures each { (start : Option (List ℕ)) (s : Scene) (now : Now Row)
-            → (at : NetAt ⟦<CommandStage as Stage>⟧ W.Sink start s self.now now) → now.failure ≡ None → (k : ℕ)
+            → (at : NetAt commands W.Sink start s self.now now) → now.failure ≡ None → (k : ℕ)
             → turns_of k at.turns ≤ most (plan_of s) now.links k }
     {
         self.engine.turns()
@@ -187,12 +183,12 @@ impl<R: Source + Drop, W: Sink> Net<R, W> {
 
     /// How many records wait inside an actor: none in a source or the sink.
     pub fn held(&self, k: usize) -> usize
-        ensures held { AtEach ⟦<CommandStage as Stage>⟧ W.Sink self.now
+        ensures held { AtEach commands W.Sink self.now
             (λ start s now. now.failure ≡ None → k ≤ s.count → result ≡ held_of s now.links k) }
 
         // In a stage of one input at most one more than the greatest lag of its records, in assemble
         // at most one of each source.
-        ensures few { AtEach ⟦<CommandStage as Stage>⟧ W.Sink self.now
+        ensures few { AtEach commands W.Sink self.now
             (λ start s now. now.failure ≡ None → HoldsFew s now.links k result) }
     {
         self.engine.held(k)
@@ -201,7 +197,7 @@ impl<R: Source + Drop, W: Sink> Net<R, W> {
     /// How many records lie on the link of an actor: those that it gave, less those taken. The sink has
     /// no link.
     pub fn linked(&self, k: usize) -> usize
-        ensures { AtEach ⟦<CommandStage as Stage>⟧ W.Sink self.now
+        ensures { AtEach commands W.Sink self.now
             (λ start s now. now.failure ≡ None → k < s.count
             → (result ≡ linked (now.links k)) × (result ≤ s.size)) }
     {
@@ -212,16 +208,15 @@ impl<R: Source + Drop, W: Sink> Net<R, W> {
     /// the bytes go on that are still to come.
     pub fn into_writer(self) -> W
         ensures sink { result ≡ self.sink }
-        ensures front { AtEach ⟦<CommandStage as Stage>⟧ W.Sink self
-            (λ start s now. WroteFront s start (W.contents result)) }
+        ensures front { AtEach commands W.Sink self (λ start s now. WroteFront s start (W.contents result)) }
     {
         self.engine.into_writer()
     }
 
     /// Makes the turns that the order picks, to the end of the run.
     pub fn run<O: Order>(&mut self, order: &mut O) -> RunResult
-        ensures { RunsBy ⟦<CommandStage as Stage>⟧ R.Source W.Sink (order_of O.Order) order.old order.new self.old
-            self.new result }
+        ensures { RunsBy commands R.Source W.Sink (order_of O.Order) order.old order.new self.old self.new result
+            }
     {
         self.engine.run(order)
     }

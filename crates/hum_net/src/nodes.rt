@@ -3,12 +3,12 @@ ghost use Rattle.std.specs.Prelude.{◌≡◌, ◌≤◌, ◌<◌, ◌+◌, ℕ,
 ghost use Rattle.hum_plan.specs.Stages.{Stage, IsTree};
 ghost use Rattle.hum_plan.specs.Seen.{options_of, stage_of, stages_of};
 ghost use Rattle.hum_net.specs.Parts.{first_of};
+ghost use Rattle.hum_net.specs.Scenes.{commands};
 ghost use Rattle.hum_net.specs.Nodes.{AllFrom, Fits, Tells, AreTold, reads_by, reads_of};
 
 use hum_commands::CommandStage;
 use hum_nodes::Node;
 use hum_plan::{Options, PlanStage};
-use hum_stage::Stage;
 use hum_text::calls::Source;
 use std::alloc::{AllocError, Global};
 use std::collections::VecDeque;
@@ -50,7 +50,7 @@ fn plan_node<R: Source + Drop>(
     requires reader { reads_by (options_of stage.options) ≤ length readers.old.items }
     ensures left { length readers.new.items + reads_by (options_of stage.options)
         ≡ length readers.old.items }
-    ensures fits { IfOk result (Fits ⟦<CommandStage as Stage>⟧ k stage) }
+    ensures fits { IfOk result (Fits commands k stage) }
     ensures told { IfOk result (λ made. (bytes : ℕ → List ℕ) (stages : List Stage)
         → AreTold R.remaining bytes k (stage_of stage ∷ stages) readers.old.items
         → Tells R.remaining bytes k stage made
@@ -82,7 +82,7 @@ pub(crate) fn plan_nodes<R: Source + Drop>(
 ) -> Result<Vec<Node<CommandStage, R>>, AllocError>
     requires tree { IsTree (stages_of stages.items) }
     requires readers { reads_of (stages_of stages.items) ≡ length readers.items }
-    ensures fits { IfOk result (λ nodes. AllFrom (Fits ⟦<CommandStage as Stage>⟧) 0 stages.items nodes.items) }
+    ensures fits { IfOk result (λ nodes. AllFrom (Fits commands) 0 stages.items nodes.items) }
     ensures told { IfOk result (λ nodes. (bytes : ℕ → List ℕ)
         → AreTold R.remaining bytes 0 (stages_of stages.items) readers.items
         → AllFrom (Tells R.remaining bytes) 0 stages.items nodes.items) }
