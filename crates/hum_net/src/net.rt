@@ -215,8 +215,7 @@ impl<R: Source + Drop, W: Sink> Net<R, W> {
 
     /// Makes the turns that the order picks, to the end of the run.
     pub fn run<O: Order>(&mut self, order: &mut O) -> RunResult
-        ensures { RunsBy commands R.Source W.Sink (order_of O.Order) order.old order.new self.old self.new result
-            }
+        ensures { RunsBy commands R.Source W.Sink (order_of O.Order) order.old order.new self.old self.new result }
     {
         self.engine.run(order)
     }

@@ -1,8 +1,8 @@
 use Rattle.std.proofs.Common.{refl, ap, sym, ◌∙◌, map}
 use Rattle.std.specs.Prelude.{pred}
 use Rattle.std.proofs.lemmas.Result.{IfOk-weaker}
-use Rattle.hum_commands.specs.contracts.stages.CommandStageStage.TheImpl as command
 use Rattle.hum_net.specs.Parts.{first_of}
+use Rattle.hum_net.specs.Scenes.{commands}
 use Rattle.hum_net.proofs.Meaning.{command_fits, assemble_fits}
 use Rattle.hum_net.proofs.nodes.plan_node.Goals as goal
 
@@ -11,7 +11,7 @@ returns-clause-fits g c =
     let said = ap (λ p. p.1) c.into_parts-sources.ensures in
     let at = ap (λ p. p.0.items) c.into_parts-sources.ensures in
     let stands = c.new-stage.ensures.stands in
-    command_fits command.ghosts c.args.k _ c.args.stage _ c.in-Command.options _ c.command.result (sym said ∙ c.in-Command.is)
+    command_fits commands c.args.k _ c.args.stage _ c.in-Command.options _ c.command.result (sym said ∙ c.in-Command.is)
     (sym at) (c.first_from_zero.ensures ∙ ap first_of c.deref-in-Command.ensures.value)
     (λ rest. c.command.ensures.stands _ rest stands) (c.command.ensures.lawful _ stands) c.new-stage.ensures.keeps
     refl
@@ -21,7 +21,7 @@ returns-in-Assemble-clause-fits g c =
     let said = ap (λ p. p.1) c.into_parts-sources.ensures in
     let at = ap (λ p. p.0.items) c.into_parts-sources.ensures in
     IfOk-weaker c.assemble.result _ _
-    (λ node fits. assemble_fits command.ghosts c.args.k _ c.args.stage
+    (λ node fits. assemble_fits commands c.args.k _ c.args.stage
     c.in_ok-sources-in-Assemble.sources.items node (sym said ∙ c.in-Assemble.is)
     (c.in_ok-sources-in-Assemble.ensures ∙ ap (map pred) (c.deref.ensures.value ∙ at)) fits
     refl) c.assemble.ensures.stands

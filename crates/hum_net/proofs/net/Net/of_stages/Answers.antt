@@ -1,7 +1,6 @@
 use Rattle.std.proofs.Common.{◌<◌, arith}
-use Rattle.hum_commands.specs.contracts.stages.CommandStageStage.TheImpl as command
 use Rattle.hum_plan.specs.Seen.{stages_of}
-use Rattle.hum_net.specs.Scenes.{scene_of}
+use Rattle.hum_net.specs.Scenes.{commands, scene_of}
 use Rattle.hum_net.proofs.Going.{all_begun, all_tell, few_nodes, net_at, sound_from}
 use Rattle.hum_net.proofs.net.Net.of_stages.Goals as goal
 
@@ -27,4 +26,4 @@ returns-clause-tells g c bytes told = rw c.in_ok-engine.ensures.nodes
 
 pub returns-clause-valid : goal.returns-clause-valid
 returns-clause-valid g c =
-    sound_from command.ghosts 0 c.args.stages.items c.in-Ok.nodes.items c.in-Ok.ensures.fits
+    sound_from commands 0 c.args.stages.items c.in-Ok.nodes.items c.in-Ok.ensures.fits

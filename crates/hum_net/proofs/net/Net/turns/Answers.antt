@@ -2,7 +2,7 @@ use Rattle.std.proofs.Common.{◌≤◌, subst}
 use Rattle.hum_turns.specs.Counts.{turns_of, most}
 use Rattle.hum_engine.specs.Scene.{plan_of}
 use Rattle.hum_engine.specs.Nets.{NetAt}
-use Rattle.hum_commands.specs.contracts.stages.CommandStageStage.TheImpl as command
+use Rattle.hum_net.specs.Scenes.{commands}
 use Rattle.hum_net.proofs.net.Net.turns.Goals as goal
 
 pub returns-clause-most : goal.returns-clause-most
@@ -11,6 +11,6 @@ returns-clause-most g c start s now here = c.turns.ensures.most start s now (rw 
 pub returns-clause-each : goal.returns-clause-each
 returns-clause-each g c start s now here none k =
     subst
-    (λ net. (h : NetAt command.ghosts g.W.Sink start s net now)
+    (λ net. (h : NetAt commands g.W.Sink start s net now)
     → turns_of k h.turns ≤ most (plan_of s) now.links k)
     c.self.view_is (λ h. c.turns.ensures.each start s now h none k) here
