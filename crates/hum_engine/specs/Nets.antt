@@ -17,7 +17,8 @@ use Rattle.hum_turns.specs.Plan.{Plan, KeepsFine, last}
 use Rattle.hum_turns.specs.Meaning.{plan_meaning, first_fault, IsNumbered}
 use Rattle.hum_turns.specs.Orders.{Order, Driven, LeansTo, ready_list, choice}
 use Rattle.hum_turns.specs.declared.order.Side.TheVariants as side
-use Rattle.hum_turns.specs.Links.{Moment, has_room, has_some}
+use Rattle.hum_turns.specs.Counts.{turns_of, most}
+use Rattle.hum_turns.specs.Links.{Moment, has_room, has_some, linked}
 use Rattle.hum_turns.specs.Turns.{Gives, Takes, state}
 use Rattle.hum_turns.specs.Turns.{is_source as reads_bytes}
 use Rattle.hum_turns.specs.Near.{touched}
@@ -115,6 +116,17 @@ abbrev pub AtEach : {S R W : Type 0} → Stage S → Sink W → Net S R W
 AtEach stage writer net Holds =
     (start : Option (List ℕ)) (s : Scene) (now : Now Row)
     → NetAt stage writer start s net now → Holds start s now
+
+-- Each actor has had no more turns than what it moved allows.
+abbrev pub HadFewEach : {S R W : Type 0} → Stage S → Sink W → Net S R W → Type 0
+HadFewEach stage writer net =
+    (start : Option (List ℕ)) (s : Scene) (now : Now Row) → (at : NetAt stage writer start s net now)
+    → now.failure ≡ None → (k : ℕ) → turns_of k at.turns ≤ most (plan_of s) now.links k
+
+-- So many records lie on the link of stage k, if there is one.
+abbrev pub IsLinked : Scene → Now Row → ℕ → ℕ → Type 0
+IsLinked s now k many =
+    now.failure ≡ None → k < s.count → (many ≡ linked (now.links k)) × (many ≤ s.size)
 
 -- Nothing comes behind the end of a source that was read.
 abbrev pub AreOver : {S R : Type 0} → List (Node S R) → (ℕ → List ℕ) → Type 0

@@ -3,13 +3,13 @@ ghost use Rattle.std.specs.Prelude.{◌≡◌, ◌≢◌, ◌⊎◌, ◌≤◌, 
 ghost use Rattle.std.specs.Prelude.{List, length, slice_set, Option, None, Some, is_some};
 ghost use Rattle.std.specs.Prelude.{IfSome, MatchOption, IfOk, IfErr};
 ghost use Rattle.hum_record.specs.Row.{Row};
-ghost use Rattle.hum_turns.specs.Links.{linked, has_some};
+ghost use Rattle.hum_turns.specs.Links.{has_some};
 ghost use Rattle.hum_turns.specs.Plan.{last};
 ghost use Rattle.hum_turns.specs.declared.result.RunResult.TheVariants as ends;
 ghost use Rattle.hum_turns.specs.Failures.{Now, IsFirst, is_ready, result as ended};
 ghost use Rattle.hum_turns.specs.Orders.{ready_list};
 ghost use Rattle.hum_turns.specs.Ordering.{order_of};
-ghost use Rattle.hum_turns.specs.Counts.{turns_of, most, most_in_all};
+ghost use Rattle.hum_turns.specs.Counts.{most_in_all};
 ghost use Rattle.hum_turns.specs.Holds.{SomeReady};
 ghost use Rattle.hum_engine.specs.Readers.{ShowsSame, is_read_of, is_write};
 ghost use Rattle.hum_engine.specs.Scene.{Scene, plan_of, Somewhere, IsAt, IsNetPlan, IsBegun};
@@ -19,6 +19,7 @@ ghost use Rattle.hum_engine.specs.Search.{is_left};
 ghost use Rattle.hum_engine.specs.Told.{AsksNone};
 ghost use Rattle.hum_engine.specs.declared.net.Stepped.TheVariants as steps;
 ghost use Rattle.hum_engine.specs.Nets.{HasSent, MayWrite, CallsSink, SinkWent, MayGo, IsRunning, IsAmong};
+ghost use Rattle.hum_engine.specs.Nets.{HadFewEach, IsLinked};
 ghost use Rattle.hum_engine.specs.Nets.{NetAt, AtEach, AreBegun, IsNet, RunsBy, WroteFront};
 ghost use Rattle.hum_engine.specs.Nets.{MayPick, IsNext, MayAsk, HasRested, HasWorked};
 ghost use Rattle.hum_engine.specs.Nets.{HasGone, AsksLittle, fault_by, turned_by, failed_by, is_over};
@@ -663,9 +664,7 @@ impl<S: Stage + Drop, R: Source + Drop, W: Sink> Net<S, R, W> {
             (λ start s now. now.failure ≡ None → result ≤ most_in_all (plan_of s) now.links) }
 
         // Each actor has had no more of them than what it moved allows.
-        ensures each { (start : Option (List ℕ)) (s : Scene) (now : Now Row)
-            → (at : NetAt S.Stage W.Sink start s self.now now) → now.failure ≡ None → (k : ℕ)
-            → turns_of k at.turns ≤ most (plan_of s) now.links k }
+        ensures each { HadFewEach S.Stage W.Sink self.now }
     {
         self.turns
     }
@@ -681,9 +680,7 @@ impl<S: Stage + Drop, R: Source + Drop, W: Sink> Net<S, R, W> {
     /// How many records lie on the link of an actor: those that it gave, less those taken. The sink has
     /// no link.
     pub fn linked(&self, k: usize) -> usize
-        ensures { AtEach S.Stage W.Sink self.now
-            (λ start s now. now.failure ≡ None → k < s.count
-            → (result ≡ linked (now.links k)) × (result ≤ s.size)) }
+        ensures { AtEach S.Stage W.Sink self.now (λ start s now. IsLinked s now k result) }
     {
         self.web.linked(k)
     }

@@ -4,15 +4,14 @@ ghost use Rattle.std.specs.Prelude.{IfOk, IfErr, is_some};
 ghost use Rattle.hum_record.specs.Row.{Row};
 ghost use Rattle.hum_turns.specs.Failures.{Now, is_ready, result as ended};
 ghost use Rattle.hum_turns.specs.Ordering.{order_of};
-ghost use Rattle.hum_turns.specs.Links.{linked};
-ghost use Rattle.hum_turns.specs.Counts.{turns_of, most, most_in_all};
+ghost use Rattle.hum_turns.specs.Counts.{most_in_all};
 ghost use Rattle.hum_turns.specs.Holds.{SomeReady};
 ghost use Rattle.hum_plan.specs.Stages.{IsTree, reads_of as read_stages};
 ghost use Rattle.hum_plan.specs.Seen.{stages_of};
 ghost use Rattle.hum_engine.specs.Scene.{Scene, plan_of, held_of, HoldsFew};
 ghost use Rattle.hum_engine.specs.Readers.{failed_at, is_read_of, is_write};
 ghost use Rattle.hum_engine.specs.Nets.{NetAt, Tells, HasTurned, RunsBy, WroteFront};
-ghost use Rattle.hum_engine.specs.Nets.{CallsSink, AtEach};
+ghost use Rattle.hum_engine.specs.Nets.{CallsSink, AtEach, HadFewEach, IsLinked};
 ghost use Rattle.hum_turns.specs.Plan.{last};
 ghost use Rattle.hum_net.specs.Nodes.{AreTold, reads_of};
 ghost use Rattle.hum_net.specs.Parts.{AreSoundFrom};
@@ -174,9 +173,7 @@ impl<R: Source + Drop, W: Sink> Net<R, W> {
             (λ start s now. now.failure ≡ None → result ≤ most_in_all (plan_of s) now.links) }
 
         // Each actor has had no more of them than what it moved allows.
-        ensures each { (start : Option (List ℕ)) (s : Scene) (now : Now Row)
-            → (at : NetAt commands W.Sink start s self.now now) → now.failure ≡ None → (k : ℕ)
-            → turns_of k at.turns ≤ most (plan_of s) now.links k }
+        ensures each { HadFewEach commands W.Sink self.now }
     {
         self.engine.turns()
     }
@@ -197,9 +194,7 @@ impl<R: Source + Drop, W: Sink> Net<R, W> {
     /// How many records lie on the link of an actor: those that it gave, less those taken. The sink has
     /// no link.
     pub fn linked(&self, k: usize) -> usize
-        ensures { AtEach commands W.Sink self.now
-            (λ start s now. now.failure ≡ None → k < s.count
-            → (result ≡ linked (now.links k)) × (result ≤ s.size)) }
+        ensures { AtEach commands W.Sink self.now (λ start s now. IsLinked s now k result) }
     {
         self.engine.linked(k)
     }
