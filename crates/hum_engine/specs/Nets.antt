@@ -488,9 +488,8 @@ pub record HasRunOn {S R W O : Type 0} (stage : Stage S) (writer : Sink W) (orde
   pub runs : RunsTo stage writer order o p start (record s { rests = left }) now net by
 
 -- What a run by an order has come to.
-pub record RunsBy {S R W O : Type 0} (stage : Stage S)
-    (reader : Source R) (writer : Sink W) (order : Order O) (o p : O) (old new : Net S R W) (by : RunResult)
-    : Type 0 where
+pub record RunsBy {S R W O : Type 0} (stage : Stage S) (reader : Source R) (writer : Sink W) (order : Order O)
+    (o p : O) (old new : Net S R W) (by : RunResult) : Type 0 where
   -- Whatever bytes the sources have, and however they go on: the turns are those that the order picks,
   -- and what was written is what the plan means.
   pub ran : HasRun stage reader writer order o p old new by

@@ -30,7 +30,8 @@ failed_at reader k nodes = or_none false (failed_of reader.failed) (slice_get no
 -- Each source has read these bytes.
 abbrev pub HaveRead : {S R : Type 0} → Source R → List (Node S R) → List (Node S R) → (ℕ → List ℕ) → Type 0
 HaveRead reader old new reads =
-    (i : ℕ) → HasRead (ended_at i old) (ended_at i new) (remaining_at reader i old) (remaining_at reader i new) (reads i)
+    (i : ℕ)
+    → HasRead (ended_at i old) (ended_at i new) (remaining_at reader i old) (remaining_at reader i new) (reads i)
 
 -- This one has read no byte.
 abbrev pub HasReadNone : {S R : Type 0} → Source R → ℕ → List (Node S R) → List (Node S R) → Type 0

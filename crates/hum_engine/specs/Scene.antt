@@ -4,7 +4,9 @@ use Rattle.std.specs.Prelude.{if◌then◌else◌, nat_eq, nat_lt, List, [], ◌
 use Rattle.std.specs.Prelude.{length, map, Option, Some, slice_get, slice_index}
 use Rattle.std.specs.Vec.{with_item}
 use Rattle.std.specs.Io.KnownBytes.{Consumes, IsAtEnd}
+use Rattle.hum_text.specs.declared.calls.Source.{Ghosts as Source}
 use Rattle.hum_record.specs.Row.{Row}
+use Rattle.hum_stage.specs.declared.contract.Stage.{Ghosts as Stage}
 use Rattle.hum_stage.specs.Lag.{LagsAtMost}
 use Rattle.hum_stage.specs.Meaning.{Meaning, IsLawful, IsWithinLag}
 use Rattle.hum_turns.specs.Plan.{Plan, IsPlan, last}
@@ -21,8 +23,6 @@ use Rattle.hum_nodes.specs.declared.node.Readiness.{Readiness}
 use Rattle.hum_nodes.specs.declared.node.Readiness.TheVariants as kinds
 use Rattle.hum_nodes.specs.declared.node.Node.{Node}
 use Rattle.hum_nodes.specs.Nodes.{StandsAs, is_source, remaining_of, ended_of}
-use Rattle.hum_text.specs.declared.calls.Source.{Ghosts as Source}
-use Rattle.hum_stage.specs.declared.contract.Stage.{Ghosts as Stage}
 use Rattle.hum_engine.specs.declared.link.Link.{Link}
 use Rattle.hum_engine.specs.Links.{IsLink, IsIdle, loaded, room}
 use Rattle.hum_engine.specs.declared.web.Web.{Web}
