@@ -106,14 +106,14 @@ abbrev pub ComesOfBundle : (too_large : Bool) → List ℕ → (List ℕ → Opt
 ComesOfBundle true text score old new flushed result = result ≡ outcome.TooLarge
 ComesOfBundle false text score old new flushed result = Comes text score old new flushed result
 
--- A text is refused by its first fault, unless memory is wanting.
+-- A text is refused by its first fault, unless memory runs out.
 abbrev pub IsRefusal : List ℕ → Outcome → Type 0
 IsRefusal text (outcome.Run end) = end ≡ ends.Memory
 IsRefusal text (outcome.Plan fault) = PlanAnswer text (Err fault)
 IsRefusal text (outcome.NoScore number) = ⊥
 IsRefusal text outcome.TooLarge = ⊥
 
--- A plan is refused for the first stage whose score isn't there, unless memory is wanting.
+-- A plan is refused for the first stage whose score isn't there, unless memory runs out.
 abbrev pub LacksNow : (List ℕ → Option (List ℕ)) → List Stage → Outcome → Type 0
 LacksNow score stages (outcome.Run end) = end ≡ ends.Memory
 LacksNow score stages (outcome.Plan fault) = ⊥

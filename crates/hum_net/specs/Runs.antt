@@ -85,6 +85,6 @@ pub record HasDriven {O : Type 0} (order : Order O) (stages : List Stage) (link 
   pub ends : (rests : ℕ → List ℕ) → ((k : ℕ) → over k ≡ true → rests k ≡ [])
       → HasEnded order (λ k. reads k ++ rests k) stages link end old new held kept
 
--- Memory was wanting before there was a net, and the order was not asked.
+-- Memory ran out before there was a net, and the order was not asked.
 abbrev pub IsUnasked : {O : Type 0} → RunResult → O → O → Type 0
 IsUnasked end old new = (end ≡ ends.Memory) × (new ≡ old)

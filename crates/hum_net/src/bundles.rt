@@ -157,18 +157,16 @@ pub fn run_bundle<O: Order, W: Sink + Drop>(
     // which is valid Humdrum unless interpretations are dropped, and the outcome is how that ends; or a
     // failure ended it, and a prefix of that text was written.
     ensures comes { ComesOfBundle (nat_lt largest (length bundle.now)) (plan_of bundle.now)
-        (λ name. score_of name bundle.now) (W.contents writer) (W.contents result.1)
-        (W.flushed result.1) result.0 }
+        (λ name. score_of name bundle.now) (W.contents writer) (W.contents result.1) (W.flushed result.1) result.0 }
 
     // The turns are those that the order picked, to the run's end, and it is left as its picks leave
     // it; where there is no turn it is not asked.
-    ensures picked { Picks (order_of O.Order) (plan_of bundle.now)
-        (λ name. score_of name bundle.now) link order.old order.new result.0 }
+    ensures picked { Picks (order_of O.Order) (plan_of bundle.now) (λ name. score_of name bundle.now) link
+        order.old order.new result.0 }
 
     // What was written is what the run had written at its last moment, after a failure too.
-    ensures ended { Ends (order_of O.Order) (plan_of bundle.now)
-        (λ name. score_of name bundle.now) link order.old order.new (W.contents writer)
-        (W.contents result.1) result.0 }
+    ensures ended { Ends (order_of O.Order) (plan_of bundle.now) (λ name. score_of name bundle.now) link
+        order.old order.new (W.contents writer) (W.contents result.1) result.0 }
 
     // A failed write or flush is told exactly where one set the writer's mark.
     ensures marked { W.failed result.1 ≡ (W.failed writer || is_failed_write result.0) }

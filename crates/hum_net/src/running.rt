@@ -52,27 +52,25 @@ pub fn run_stages<R: Source + Drop, O: Order, W: Sink + Drop>(
 
     // Whatever bytes the readers give, in whatever pieces, and whatever the order: what was written is
     // the text of what the stages mean over the scores that the bytes denote, which is valid Humdrum
-    // unless interpretations are dropped, and the run ends as they mean; or a read, a write or want of
-    // memory ended it, and a prefix of that text was written.
+    // unless interpretations are dropped, and the run ends as they mean; or a failed read or write, or
+    // running out of memory, ended it, and a prefix of that text was written.
     ensures wrote { (bytes : ℕ → List ℕ) → AreTold R.remaining bytes 0 (stages_of stages.items) readers.items
-        → HasWritten bytes (stages_of stages.items) (W.contents sink) (W.contents result.1)
-        (W.flushed result.1) result.0 }
+        → HasWritten bytes (stages_of stages.items) (W.contents sink) (W.contents result.1) (W.flushed result.1)
+        result.0 }
 
     // The turns are those that the order picked, to the run's end, and it is left as its picks leave
-    // it; where memory is wanting before the first, it is not asked.
+    // it; where memory runs out before the first, it is not asked.
     ensures picked { (bytes : ℕ → List ℕ) → AreTold R.remaining bytes 0 (stages_of stages.items) readers.items
-        → HasPicked (order_of O.Order) bytes (stages_of stages.items) link
-        result.0 order.old order.new ⊎ IsUnasked result.0 order.old order.new }
+        → HasPicked (order_of O.Order) bytes (stages_of stages.items) link result.0 order.old order.new
+        ⊎ IsUnasked result.0 order.old order.new }
 
     // So they are whether the readers tell their bytes or not, and however these go on; and what was
     // written is what the run had written at its last moment, after a failure too.
-    ensures driven { HasDriven (order_of O.Order) (stages_of stages.items) link
-        result.0 order.old order.new (W.contents sink) (W.contents result.1)
-        ⊎ IsUnasked result.0 order.old order.new }
+    ensures driven { HasDriven (order_of O.Order) (stages_of stages.items) link result.0 order.old order.new
+        (W.contents sink) (W.contents result.1) ⊎ IsUnasked result.0 order.old order.new }
     ensures ended { (bytes : ℕ → List ℕ) → AreTold R.remaining bytes 0 (stages_of stages.items) readers.items
-        → HasEnded (order_of O.Order) bytes (stages_of stages.items) link
-        result.0 order.old order.new (W.contents sink) (W.contents result.1)
-        ⊎ IsUnasked result.0 order.old order.new }
+        → HasEnded (order_of O.Order) bytes (stages_of stages.items) link result.0 order.old order.new
+        (W.contents sink) (W.contents result.1) ⊎ IsUnasked result.0 order.old order.new }
 
     // A failed write or flush is told exactly where one set the sink's mark.
     ensures marked { W.failed result.1 ≡ (W.failed sink || is_write (Some result.0)) }

@@ -23,7 +23,7 @@ pub trait Stage {
     /// How many records it can give at most before it wants one.
     ghost left: { Self → ℕ };
 
-    /// Memory was wanted, and each call that takes memory fails.
+    /// It ran out of memory, and each call that takes memory fails.
     ghost spent: { Self → Type 0 };
 
     /// Puts one record more into a stage that wants it; those put with this one are a score.

@@ -15,7 +15,7 @@ pub enum RunResult {
     Read(u8),
     /// The writer failed.
     Write,
-    /// Memory was wanted.
+    /// Memory ran out.
     Memory,
 }
 

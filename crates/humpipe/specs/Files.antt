@@ -18,7 +18,7 @@ pub record IsReader (stages : List Stage) (number : ℕ) : Type 0 where
   pub is_it : stage.number ≡ number
   pub within : (0 < number) × (number ≤ 64)
 
--- The file of one of these stages doesn't open, unless memory is wanting.
+-- The file of one of these stages doesn't open, unless memory runs out.
 abbrev pub IsOneShut : List Stage → Outcome → Type 0
 IsOneShut stages (outcome.Run end) = end ≡ Memory
 IsOneShut stages (outcome.Plan fault) = ⊥

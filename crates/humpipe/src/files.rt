@@ -49,8 +49,7 @@ pub fn run_files<O: Order, W: Sink + Drop>(
         → (result.1 ≡ writer) × (order.new ≡ order.old) }
 
     // The turns are those that the order picked, over links of this size, to the run's end.
-    ensures picked { Picks (order_of O.Order) plan.now link order.old order.new
-        result.0 }
+    ensures picked { Picks (order_of O.Order) plan.now link order.old order.new result.0 }
 
     // A failed write or flush is told exactly where one set the writer's mark.
     ensures marked { W.failed result.1 ≡ (W.failed writer || is_failed_write result.0) }

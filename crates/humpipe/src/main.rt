@@ -44,8 +44,7 @@ fn run_input<O: Order>(rt: &HostRuntime, link: u16, order: &mut O) -> io::Result
     requires room { link ≤ 4096 }
 
     // The turns are those that the order picked, over links of this size.
-    ensures picked { IfOk result (Drives (order_of O.Order) link
-        order.old order.new) }
+    ensures picked { IfOk result (Drives (order_of O.Order) link order.old order.new) }
 {
     let bundle = match read_up_to(rt.alloc(), rt.reader(), LARGEST_BUNDLE as u64) {
         Ok(bundle) => bundle,
@@ -61,8 +60,7 @@ fn run_plan<O: Order>(rt: &HostRuntime, plan: &str, link: u16, order: &mut O) ->
     requires room { link ≤ 4096 }
 
     // The turns are those that the order picked, over links of this size.
-    ensures picked { IfOk result (Drives (order_of O.Order) link
-        order.old order.new) }
+    ensures picked { IfOk result (Drives (order_of O.Order) link order.old order.new) }
 {
     let plan = match fs::open(rt, plan) {
         Ok(file) => read_up_to(rt.alloc(), file, LONGEST_PLAN as u64),
@@ -93,8 +91,7 @@ fn run_choice<O: Order>(rt: &HostRuntime, choice: Choice<'_>, order: &mut O) -> 
     requires room { choice.link ≤ 4096 }
 
     // The turns are those that the order picked, over links of this size.
-    ensures picked { IfOk result (Drives (order_of O.Order) choice.entry.link
-        order.old order.new) }
+    ensures picked { IfOk result (Drives (order_of O.Order) choice.entry.link order.old order.new) }
 {
     match choice.file {
         None => run_input(rt, choice.link, order),
