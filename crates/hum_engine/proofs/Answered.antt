@@ -1,28 +1,30 @@
 -- What the turn of a stage tells.
-use Rattle.std.proofs.Common.{◌≡◌, ◌∙◌, ℕ, Bool, true, false, List, Option, Some, Ok, Err, refl, sym, ap, slice_get}
-use Rattle.std.proofs.Common.{slice_set, get_or, inr, is_none}
+use Rattle.std.proofs.Common.{◌≡◌, ◌∙◌, ℕ, Bool, true, false, List, Some, Ok, Err, refl, sym, ap, slice_get}
+use Rattle.std.proofs.Common.{Result, slice_set, get_or, inr, is_none}
 use Rattle.std.proofs.lemmas.Bool.{false≢true}
 use Rattle.hum_text.specs.declared.calls.Source.{Ghosts as Source}
 use Rattle.hum_record.specs.Row.{Row}
 use Rattle.hum_stage.specs.declared.contract.Stage.{Ghosts as Stage}
+use Rattle.hum_read.specs.declared.ReadError.{ReadError}
 use Rattle.hum_read.specs.declared.ReadError.TheVariants as error
 use Rattle.hum_turns.specs.Flow.{Flow}
 use Rattle.hum_turns.specs.Links.{has_room}
 use Rattle.hum_turns.specs.Turns.{Gives, popped, can, ready, state}
 use Rattle.hum_turns.specs.Near.{touched}
-use Rattle.hum_nodes.specs.At.{At, HasChanged}
+use Rattle.hum_nodes.specs.At.{HasChanged}
 use Rattle.hum_nodes.specs.Doing as does
 use Rattle.hum_nodes.specs.Nodes.{StandsAs, is_source}
 use Rattle.hum_nodes.specs.declared.node.Node.{Node}
 use Rattle.hum_nodes.specs.declared.node.Readiness.{Readiness}
 use Rattle.hum_nodes.specs.declared.node.Readiness.TheVariants as kinds
+use Rattle.hum_engine.specs.declared.web.Moved.{Moved}
 use Rattle.hum_engine.specs.declared.web.Web.{Web}
 use Rattle.hum_engine.specs.declared.link.Link as port
 use Rattle.hum_engine.specs.declared.link.Taken.{Taken}
 use Rattle.hum_engine.specs.Links.{Goes, Tells, is_some_of, room, taken_of}
 use Rattle.hum_engine.specs.Scene.{Scene, plan_of, IsActor, HasActor, IsAbout, IsAboutKind, IsDoing, IsKind, WantsFrom}
 use Rattle.hum_engine.specs.Scene.{MayTurn, MayAct, Done, Keeps, HasFullLink, Somewhere}
-use Rattle.hum_engine.specs.Told.{HasTold}
+use Rattle.hum_engine.specs.Told.{HasTold, HasActed}
 use Rattle.hum_engine.proofs.Acting.{keeps, link_here, passed}
 use Rattle.hum_engine.proofs.Doings.{about_by, done_about, gives_about, wants_about}
 use Rattle.hum_engine.proofs.Feeding.{link_of, node_at}
@@ -98,6 +100,12 @@ module _ {S R : Type 0} {stage : Stage S} {reader : Source R} {k : ℕ} {old new
       has_done (state_gives u u.links k may.about.actor.less may.about.does) (given u may))
       (λ u actor.
       let h = stage_too here.holds.actor actor in touched_gives (gives_about (doing.1 u h.at h.less) refl))
+
+  -- one that may be had in each scene tells what it tells in this one
+  pub acted : {told : Result Moved ReadError} → (h : Somewhere (HasActor stage k old))
+      → ((s : Scene) → HasActor stage k old s → ready (plan_of s) s.size s.links k ≡ true)
+      → (Somewhere (MayTurn stage k old) → HasTold stage reader k old new told) → HasActed stage reader k old new told
+  acted h able tells = record { was_ready = able; tells = tells (may_turn h (able h.scene h.holds)) }
 
   -- one that ran out of memory
   pub told_out : IsKind false k old → Keeps k old new → HasTold stage reader k old new

@@ -36,7 +36,7 @@ use Rattle.hum_engine.proofs.HeldUp.{held_by, held_unready, crowded_by}
 use Rattle.hum_engine.proofs.Leaning.{leaning_choice}
 use Rattle.hum_engine.proofs.Moving.{nth}
 use Rattle.hum_engine.proofs.Netting.{is_at, not_over, at_now, ready_at}
-use Rattle.hum_engine.proofs.Running.{at_some, relisted, picked, any_ready, now_unfailed, unfailed_at, no_rests, seen}
+use Rattle.hum_engine.proofs.Running.{at_some, relisted, picked, any_ready, unfailed_at, no_rests, seen}
 use Rattle.hum_engine.proofs.Searching.{IsTaker, front_passed, passed_fewer, front_changed, front_skipped, moves_past}
 use Rattle.hum_engine.proofs.Searching.{stays_past, stays_on, others_as_ready, reached_on, reached_over, left_side}
 use Rattle.hum_engine.proofs.Searching.{skipped_side}

@@ -1,5 +1,5 @@
 -- The steps in which a record is handed on.
-use Rattle.std.proofs.Common.{◌≡◌, ◌∙◌, ℕ, zero, suc, pred, ◌+◌, ◌<◌, ◌≤◌, Bool, true, false, List, length, Option}
+use Rattle.std.proofs.Common.{◌≡◌, ◌∙◌, ℕ, zero, suc, pred, ◌+◌, ◌<◌, ◌≤◌, Bool, true, false, length, Option}
 use Rattle.std.proofs.Common.{Some, None, refl, sym, ap, subst, slice_get, get_or, arith, inr, ⊎_elim}
 use Rattle.std.proofs.lemmas.Bool.{cases_Bool, cond-false, ne_eqb}
 use Rattle.std.proofs.lemmas.Option.{same_Some, slice_get-get_or, slice_get_within}
@@ -61,7 +61,7 @@ search_fits {S} {R} {W} {stage} {writer} {look} {by} {net} may is =
     }
 
 -- A stage that waits isn't ready.
-waiting_idle : {S R W : Type 0} {stage : Stage S} (writer : Sink W) {k : ℕ}
+pub waiting_idle : {S R W : Type 0} {stage : Stage S} (writer : Sink W) {k : ℕ}
     {net : Net S R W} → IsWaiting k net.web → AtEach stage writer net
     (λ start s now. result (plan_of s) now ≡ None → is_ready (plan_of s) s.size now k ≡ false)
 waiting_idle {stage = stage} writer {k} {net} w start s now h none =
@@ -158,7 +158,17 @@ module _ {S R W O : Type 0} {stage : Stage S} {reader : Source R} {writer : Sink
         let less : k < fits.at.scene.count = omega (arith, x.above, fits.within, fits.at.holds.stand.count) in
         record { scene = fits.at.scene; holds = record { at = fits.at.holds; less = less } }
 
-    -- and the taker isn't ready then.
+    -- and so is a stage that has taken from it.
+    pub taker_still : taker < length old.web.nodes.items → is_over ≡ false → Somewhere (HasActor stage taker new.web)
+    taker_still less on =
+        let was = search_fits x.may.step x.is in
+        let fits = search_fits (may_on (both_on on) x.may.step) refl in
+        let many : length new.takers.items ≡ length old.takers.items = ap (λ v. length v.items) h.marks.takers in
+        let within : taker < fits.at.scene.count =
+        omega (arith, less, was.takers, fits.takers, many, fits.at.holds.stand.count) in
+        record { scene = fits.at.scene; holds = record { at = fits.at.holds; less = within } }
+
+    -- Where the taker isn't ready then, whoever is behind it is asked next.
     pub passed_advanced : {hand after : Search}
         → AtEach stage writer new (λ start s now. result (plan_of s) now ≡ None
         → is_ready (plan_of s) s.size now taker ≡ false) → hand ≡ handed by taker w → after ≡ passed hand

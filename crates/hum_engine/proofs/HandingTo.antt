@@ -281,7 +281,7 @@ module _ {S R W : Type 0} {stage : Stage S} {reader : Source R} {writer : Sink W
             between = between;
             given = given;
             taken = record {
-              ready = sink_ready (next ∙ sym many) (λ s at heard. rw (heard, waits s at) refl) refl;
+              ready = sink_ready (next ∙ sym many) (λ s at heard. rw (heard, waits s at) refl);
               turned = sink_turned (failed_so b) (next ∙ sym many)
                   (λ s w. sent_record (writer.flushed new.sink) b sent (sunk s w.at) (ap next_of (sym (waits s w.at)))
                   (not_heard (s.links (last (plan_of s))) w.some))
@@ -308,8 +308,8 @@ module _ {S R W : Type 0} {stage : Stage S} {reader : Source R} {writer : Sink W
     sink_idle {new = new} alike = sink_ready {net = new} (next ∙ sym many ∙ ap (λ w. length w.nodes.items) (sym alike)) (λ s at heard.
         let st = (rw alike at at).stand in
         let p = st.links k link its in
-        subst (λ i. false ≡ has_some (s.links i)) (last_is s st.count)
-        (rw (sym p.waiting ∙ m.handing.idle.idle.empty, sym p.mark ∙ m.handing.idle.idle.unset, and-false) refl)) refl
+        subst (λ i. has_some (s.links i) ≡ false) (last_is s st.count)
+        (rw (sym p.waiting ∙ m.handing.idle.idle.empty, sym p.mark ∙ m.handing.idle.idle.unset, and-false) refl))
 
 -- What has come of its turn, by what that tells.
 module _ {S R W : Type 0} {stage : Stage S} {writer : Sink W} {k : ℕ} {old : Net S R W} (m : MayHand stage writer k old)

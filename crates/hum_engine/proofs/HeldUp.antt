@@ -22,7 +22,6 @@ use Rattle.hum_nodes.specs.Doing.{Doing}
 use Rattle.hum_nodes.specs.Doing as does
 use Rattle.hum_nodes.specs.Nodes.{readiness_at, is_source as reads_node}
 use Rattle.hum_nodes.proofs.Standing.{source_bytes}
-use Rattle.hum_stage.specs.Meaning as stage
 use Rattle.hum_engine.proofs.Doings.{gives_of}
 use Rattle.hum_engine.proofs.Polling.{state_gives}
 use Rattle.std.proofs.lemmas.Option.{slice_get_within}

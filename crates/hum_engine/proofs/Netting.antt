@@ -22,10 +22,8 @@ use Rattle.hum_turns.specs.Failures.{Now, MayFail, Moves, Fails, Turn, is_ready,
 use Rattle.hum_turns.proofs.Writing.{walk_going, walk_more}
 use Rattle.hum_turns.proofs.Near.{step_taken, step_heard, step_does, ready_sink}
 use Rattle.hum_turns.proofs.States.{sink_state, last_less, source_is}
-use Rattle.hum_nodes.specs.At.{At}
-use Rattle.hum_nodes.specs.declared.node.Node.{Node}
 use Rattle.hum_nodes.specs.Nodes.{ended_of}
-use Rattle.hum_nodes.specs.Polls.{HasRead, HasStayed}
+use Rattle.hum_nodes.specs.Polls.{HasRead}
 use Rattle.hum_nodes.proofs.Followed.{read_once, read_none, read_stayed}
 use Rattle.hum_nodes.proofs.Standing.{source_bytes}
 use Rattle.hum_engine.specs.declared.web.Web.{Web}

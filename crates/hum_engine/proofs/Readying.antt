@@ -1,5 +1,5 @@
 -- What a web tells of who is ready.
-use Rattle.std.proofs.Common.{◌≡◌, ◌∙◌, ℕ, ◌<◌, Bool, true, false, List, length, Some, ◌&&◌, is_none, is_some, ◌||◌, nat_lt}
+use Rattle.std.proofs.Common.{◌≡◌, ◌∙◌, ℕ, ◌<◌, Bool, true, false, length, Some, ◌&&◌, is_none, is_some, ◌||◌, nat_lt}
 use Rattle.std.proofs.Common.{None, sym, ap, ap₂, arith, slice_get, slice_index, get_or}
 use Rattle.hum_stage.specs.declared.contract.Stage.{Ghosts as Stage}
 use Rattle.hum_turns.specs.Links.{has_room, has_some}

@@ -1,5 +1,5 @@
 -- A turn of a stage, which a net counts.
-use Rattle.std.proofs.Common.{◌≡◌, ◌≢◌, ◌∙◌, ℕ, ◌+◌, ◌<◌, ◌≤◌, ◌||◌, Bool, true, false, List, length, Option, Some}
+use Rattle.std.proofs.Common.{◌≡◌, ◌≢◌, ◌∙◌, ℕ, ◌+◌, ◌<◌, ◌≤◌, ◌||◌, Bool, true, false, length, Option, Some}
 use Rattle.std.proofs.Common.{None, Result, Ok, Err, refl, sym, ap, inl, inr, arith, ⊎_elim, eq-eqb, ne_eqb}
 use Rattle.std.specs.Prelude.{OnOk, is_some}
 use Rattle.std.proofs.lemmas.Bool.{false≢true, cases_eq}
@@ -64,24 +64,24 @@ module _ {S R W : Type 0} {stage : Stage S} {writer : Sink W} {k : ℕ} {net : N
 
 -- Whether a stage is ready, as its web tells.
 pub stage_ready : {S R W : Type 0} {stage : Stage S} {writer : Sink W}
-    {k : ℕ} {net : Net S R W} {b is : Bool} → k ≢ length net.web.nodes.items
-    → ((s : Scene) → HasActor stage k net.web s → b ≡ ready (plan_of s) s.size s.links k) → b ≡ is
+    {k : ℕ} {net : Net S R W} {is : Bool} → k ≢ length net.web.nodes.items
+    → ((s : Scene) → HasActor stage k net.web s → ready (plan_of s) s.size s.links k ≡ is)
     → AtEach stage writer net (λ start s now. result (plan_of s) now ≡ None → k ≤ s.count
     → is_ready (plan_of s) s.size now k ≡ is)
-stage_ready {k = k} other tells told start s now h none within =
+stage_ready {k = k} other tells start s now h none within =
     let at = at_now h none in
     let less : k < s.count = omega (arith, at.stand.count, within, other) in
-    sym (ready_at h none k (sym told ∙ tells (moved s now.links) (record { at = at; less = less })))
+    sym (ready_at h none k (sym (tells (moved s now.links) (record { at = at; less = less }))))
 
 -- Whether the sink is, as what it takes from tells.
 pub sink_ready : {S R W : Type 0} {stage : Stage S} {writer : Sink W}
-    {k : ℕ} {net : Net S R W} {b is : Bool} → k ≡ length net.web.nodes.items
+    {k : ℕ} {net : Net S R W} {is : Bool} → k ≡ length net.web.nodes.items
     → ((s : Scene) → IsAt stage net.web s → (s.links (last (plan_of s))).heard ≡ None
-    → b ≡ has_some (s.links (last (plan_of s)))) → b ≡ is
+    → has_some (s.links (last (plan_of s))) ≡ is)
     → AtEach stage writer net (λ start s now. result (plan_of s) now ≡ None → is_ready (plan_of s) s.size now k ≡ is)
-sink_ready {k = k} here tells told start s now h none =
+sink_ready {k = k} here tells start s now h none =
     let at = at_now h none in
-    sym (ready_at h none k (sym told ∙ tells (moved s now.links) at (unheard_at h none)
+    sym (ready_at h none k (sym (tells (moved s now.links) at (unheard_at h none))
     ∙ sym (ready_sink (plan_of s) s.size k now.links (omega (arith, here, at.stand.count)))))
 
 -- How a run has failed by what a stage k has told, if it has.

@@ -1,5 +1,5 @@
 -- What sources show where they stay as they were, and where no byte was read.
-use Rattle.std.proofs.Common.{◌≡◌, ℕ, Bool, false, List, [], Option, None}
+use Rattle.std.proofs.Common.{◌≡◌, ℕ, false, List, [], None}
 use Rattle.std.proofs.Common.{ap, slice_get}
 use Rattle.hum_text.specs.declared.calls.Source.{Ghosts as Source}
 use Rattle.hum_nodes.specs.declared.node.Node.{Node}

@@ -1,5 +1,5 @@
 -- The turn of a stage that isn't a source, by the kind of what it does next.
-use Rattle.std.proofs.Common.{◌≡◌, ◌∙◌, ℕ, false, List, sym, subst, arith, nat_lt, ap, le-ltb}
+use Rattle.std.proofs.Common.{◌≡◌, ◌∙◌, ℕ, false, sym, subst, arith, nat_lt, ap, le-ltb}
 use Rattle.std.proofs.lemmas.Bool.{cond-false}
 use Rattle.hum_stage.specs.declared.contract.Stage.{Ghosts as Stage}
 use Rattle.hum_turns.specs.Plan.{last}

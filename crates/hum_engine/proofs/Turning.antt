@@ -14,10 +14,10 @@ use Rattle.hum_nodes.specs.Doing.{Doing}
 use Rattle.hum_nodes.specs.At.{holds_of}
 use Rattle.hum_nodes.specs.declared.node.Node.{Node}
 use Rattle.hum_nodes.specs.Nodes.{is_source, remaining_of, ended_of, calls_of, failed_of}
-use Rattle.hum_nodes.specs.Polls.{HasStayed, is_failed_read}
+use Rattle.hum_nodes.specs.Polls.{is_failed_read}
 use Rattle.hum_read.specs.declared.ReadError.{ReadError}
 use Rattle.hum_nodes.proofs.Standing.{stage_bytes, nothing_read, no_mark, no_call, no_end, no_rest}
-use Rattle.hum_engine.specs.Readers.{or_none, remaining_at, ended_at, HasReadNone}
+use Rattle.hum_engine.specs.Readers.{or_none, HasReadNone}
 use Rattle.hum_engine.specs.declared.web.Web.{Web}
 use Rattle.hum_record.specs.Row.{Row}
 use Rattle.hum_turns.specs.Links.{Moment}

@@ -1,5 +1,5 @@
 -- What a net stands for: its web, what was written, and how it failed.
-use Rattle.std.specs.Prelude.{◌≡◌, ◌≢◌, ◌⊎◌, ℕ, ◌+◌, ◌<◌, ◌≤◌}
+use Rattle.std.specs.Prelude.{◌≡◌, ◌≢◌, ◌⊎◌, ℕ, ◌+◌, ◌-◌, ◌<◌, ◌≤◌}
 use Rattle.std.specs.Prelude.{Bool, true, false, ◌||◌, if◌then◌else◌, List, [], ◌∷◌, ◌++◌, length}
 use Rattle.std.specs.Prelude.{Option, Some, None, IfSome, is_some, slice_get, Result, Ok, Err}
 use Rattle.std.specs.Io.KnownBytes.{Appends}
@@ -90,6 +90,27 @@ SinkWent stage (Some by) old new flushed is_over web s =
 pub record MayWrite {S R : Type 0} (stage : Stage S) (web : Web S R) (s : Scene) : Type 0 where
   pub at : IsAt stage web s
   pub some : has_some (s.links (last (plan_of s))) ≡ true
+
+-- The sink wasn't ready, and nothing has changed.
+pub record SinkWaited {S R W : Type 0} (stage : Stage S) (old new : Net S R W) : Type 0 where
+  pub idle : (s : Scene) → IsAt stage old.web s → (s.links (last (plan_of s))).heard ≡ None
+      → has_some (s.links (last (plan_of s))) ≡ false
+  pub same : new ≡ old
+
+-- It was ready and has had its turn, which isn't counted yet, and tells whether the run is over.
+pub record SinkActed {S R W : Type 0} (stage : Stage S) (reader : Source R) (writer : Sink W) (old new : Net S R W)
+    (is_over : Bool) : Type 0 where
+  pub was_ready : (s : Scene) → IsAt stage old.web s → (s.links (last (plan_of s))).heard ≡ None
+      → has_some (s.links (last (plan_of s))) ≡ true
+  pub went : (s : Scene) → MayWrite stage old.web s → SinkWent stage new.failure (writer.contents old.sink)
+      (writer.contents new.sink) (writer.flushed new.sink) is_over new.web s
+  pub asked : (s : Scene) → MayWrite stage old.web s
+      → CallsSink (writer.calls old.sink) (writer.calls new.sink) (s.links (last (plan_of s))).waiting
+  pub marked : writer.failed new.sink ≡ (writer.failed old.sink || is_write new.failure)
+  pub unread : (k : ℕ) → is_read_of k new.failure ≡ false
+  pub room : is_over ≡ false → HasRoom (length old.web.links.items - 1) new.web
+  pub shows : (k : ℕ) → ShowsSame reader old.web.nodes.items new.web.nodes.items k
+  pub rest : new ≡ record old { web = new.web; sink = new.sink; failure = new.failure }
 
 -- What a net stands for: a moment that turns have led to, written behind what the sink held at
 -- first, and flushed once the end was heard.

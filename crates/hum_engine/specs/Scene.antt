@@ -1,7 +1,7 @@
 -- What nodes and links stand for.
 use Rattle.std.specs.Prelude.{◌≡◌, ◌≢◌, ◌⊎◌, ℕ, ◌+◌, ◌<◌, ◌≤◌, Bool, true, false}
 use Rattle.std.specs.Prelude.{if◌then◌else◌, nat_eq, nat_lt, List, [], ◌++◌}
-use Rattle.std.specs.Prelude.{length, map, Option, Some, slice_get, slice_index}
+use Rattle.std.specs.Prelude.{length, map, Some, slice_get, slice_index}
 use Rattle.std.specs.Vec.{with_item}
 use Rattle.std.specs.Io.KnownBytes.{Consumes, IsAtEnd}
 use Rattle.hum_text.specs.declared.calls.Source.{Ghosts as Source}

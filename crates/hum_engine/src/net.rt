@@ -3,7 +3,6 @@ ghost use Rattle.std.specs.Prelude.{◌≡◌, ◌≢◌, ◌⊎◌, ◌≤◌, 
 ghost use Rattle.std.specs.Prelude.{List, length, slice_set, Option, None, Some, is_some};
 ghost use Rattle.std.specs.Prelude.{IfSome, MatchOption, IfOk, IfErr};
 ghost use Rattle.hum_record.specs.Row.{Row};
-ghost use Rattle.hum_turns.specs.Links.{has_some};
 ghost use Rattle.hum_turns.specs.Plan.{last};
 ghost use Rattle.hum_turns.specs.declared.result.RunResult.TheVariants as ends;
 ghost use Rattle.hum_turns.specs.Failures.{Now, IsFirst, is_ready, result as ended};
@@ -11,14 +10,13 @@ ghost use Rattle.hum_turns.specs.Orders.{ready_list};
 ghost use Rattle.hum_turns.specs.Ordering.{order_of};
 ghost use Rattle.hum_turns.specs.Counts.{most_in_all};
 ghost use Rattle.hum_turns.specs.Holds.{SomeReady};
-ghost use Rattle.hum_engine.specs.Readers.{ShowsSame, is_read_of, is_write};
 ghost use Rattle.hum_engine.specs.Scene.{Scene, plan_of, Somewhere, IsAt, IsNetPlan, IsBegun};
 ghost use Rattle.hum_engine.specs.Scene.{held_of, HoldsFew, HasRoom, IsOffered, HasAccepted};
 ghost use Rattle.hum_engine.specs.Scene.{WantsFrom, HasActor, IsWaiting, IsCrowded, HasIdleLink};
 ghost use Rattle.hum_engine.specs.Search.{is_left};
 ghost use Rattle.hum_engine.specs.Told.{AsksNone};
 ghost use Rattle.hum_engine.specs.declared.net.Stepped.TheVariants as steps;
-ghost use Rattle.hum_engine.specs.Nets.{HasSent, MayWrite, CallsSink, SinkWent, MayGo, IsRunning, IsAmong};
+ghost use Rattle.hum_engine.specs.Nets.{HasSent, SinkWaited, SinkActed, MayGo, IsRunning, IsAmong};
 ghost use Rattle.hum_engine.specs.Nets.{HadFewEach, IsLinked};
 ghost use Rattle.hum_engine.specs.Nets.{NetAt, AtEach, AreBegun, IsNet, RunsBy, WroteFront};
 ghost use Rattle.hum_engine.specs.Nets.{MayPick, IsNext, MayAsk, HasRested, HasWorked};
@@ -77,28 +75,13 @@ enum Stepped {
 }
 
 impl<S: Stage + Drop, R: Source + Drop, W: Sink> Net<S, R, W> {
-    // The sink's turn, if it is ready, and whether the run is over.
+    // The sink's turn, if it is ready, but that it isn't counted. Tells whether the run is over.
     #[inline(always)]
     fn sink_turn(&mut self) -> Option<bool>
         requires none { self.old.failure ≡ None }
         requires may { Somewhere (IsAt S.Stage self.old.web) }
-        ensures ready { (s : Scene) → IsAt S.Stage self.old.web s → (s.links (last (plan_of s))).heard ≡ None
-            → is_some result ≡ has_some (s.links (last (plan_of s))) }
-        ensures went { IfSome result (λ is_over. (s : Scene) → MayWrite S.Stage self.old.web s
-            → SinkWent S.Stage self.new.failure (W.contents self.old.sink) (W.contents self.new.sink)
-            (W.flushed self.new.sink) is_over self.new.web s) }
-        ensures asked { IfSome result (λ is_over. (s : Scene) → MayWrite S.Stage self.old.web s
-            → CallsSink (W.calls self.old.sink) (W.calls self.new.sink) (s.links (last (plan_of s))).waiting) }
-        ensures marked { IfSome result (λ is_over. W.failed self.new.sink
-            ≡ (W.failed self.old.sink || is_write self.new.failure)) }
-        ensures unread { (k : ℕ) → is_read_of k self.new.failure ≡ false }
-        ensures room { result ≡ Some false
-            → HasRoom (length self.old.web.links.items - 1) self.new.web }
-        ensures shows { (k : ℕ) → ShowsSame R.Source self.old.web.nodes.items self.new.web.nodes.items k }
-        ensures turns { self.new.turns ≡ self.old.turns }
-        ensures actors { self.new.actors ≡ self.old.actors }
-        ensures takers { self.new.takers ≡ self.old.takers }
-        ensures same { result ≡ None → self.new ≡ self.old }
+        ensures { MatchOption result (SinkWaited S.Stage self.old self.new)
+            (SinkActed S.Stage R.Source W.Sink self.old self.new) }
     {
         match self.web.take_out() {
             Taken::Record(row) => return Some(self.send(row)),
@@ -483,6 +466,9 @@ impl<S: Stage + Drop, R: Source + Drop, W: Sink> Net<S, R, W> {
         Some(match self.hand_to_stage(k, taker) {
             Some(is_over) => {
                 look.hand(taker, self.waits(k, is_over));
+                if self.waits(taker, is_over) {
+                    look.pass();
+                }
                 is_over
             }
             None => {

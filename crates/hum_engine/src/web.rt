@@ -1,6 +1,6 @@
 //! Nodes and their links.
 ghost use Rattle.std.specs.Prelude.{◌≡◌, ◌≤◌, ◌<◌, ℕ, true, false, length};
-ghost use Rattle.std.specs.Prelude.{IfSome, is_some, ◌-◌};
+ghost use Rattle.std.specs.Prelude.{IfSome, MatchOption, is_some, ◌-◌};
 ghost use Rattle.std.specs.Prelude.{IfOk, OnOk, Some, None};
 ghost use Rattle.hum_turns.specs.Turns.{Gives, Takes, Ends, state, can, ready};
 ghost use Rattle.hum_turns.specs.Plan.{last};
@@ -12,7 +12,7 @@ ghost use Rattle.hum_nodes.specs.declared.node.Readiness.TheVariants as kinds;
 ghost use Rattle.hum_record.specs.Row.{Row};
 ghost use Rattle.hum_engine.specs.Links.{taken_of, is_some_of};
 ghost use Rattle.hum_engine.specs.declared.link.Taken.TheVariants as taken;
-ghost use Rattle.hum_engine.specs.Told.{HasTold, HasFetched, AsksNone};
+ghost use Rattle.hum_engine.specs.Told.{HasTold, HasWaited, HasActed, HasFetched, AsksNone};
 ghost use Rattle.hum_engine.specs.Scene.{Scene, plan_of, Somewhere, IsAt, IsActor, MayTurn, MayAct};
 ghost use Rattle.hum_engine.specs.Scene.{IsKind, Keeps, Done, IsAbout};
 ghost use Rattle.hum_engine.specs.Scene.{IsAboutKind, IsDoing, HasActor};
@@ -277,10 +277,8 @@ impl<S: Stage + Drop, R: Source + Drop> Web<S, R> {
     fn pass(&mut self, k: usize) -> Option<Result<Moved, ReadError>>
         requires about { (place : ℕ) × Somewhere (IsAbout S.Stage k (does.Wants place) self.old) }
         requires stage { IsKind false k self.old }
-        ensures ready { (s : Scene) → HasActor S.Stage k self.old s
-            → is_some result ≡ ready (plan_of s) s.size s.links k }
-        ensures told { IfSome result (HasTold S.Stage R.Source k self.old self.new) }
-        ensures same { result ≡ None → self.new ≡ self.old }
+        ensures { MatchOption result (HasWaited S.Stage k self.old self.new)
+            (HasActed S.Stage R.Source k self.old self.new) }
     {
         let node = &mut self.nodes[k];
         let source = node.source();
@@ -308,10 +306,8 @@ impl<S: Stage + Drop, R: Source + Drop> Web<S, R> {
     #[inline(always)]
     pub fn turn(&mut self, k: usize) -> Option<Result<Moved, ReadError>>
         requires { Somewhere (HasActor S.Stage k self.old) }
-        ensures ready { (s : Scene) → HasActor S.Stage k self.old s
-            → is_some result ≡ ready (plan_of s) s.size s.links k }
-        ensures told { IfSome result (HasTold S.Stage R.Source k self.old self.new) }
-        ensures same { result ≡ None → self.new ≡ self.old }
+        ensures { MatchOption result (HasWaited S.Stage k self.old self.new)
+            (HasActed S.Stage R.Source k self.old self.new) }
     {
         match self.nodes[k].readiness() {
             Readiness::Wants(_) => self.pass(k),

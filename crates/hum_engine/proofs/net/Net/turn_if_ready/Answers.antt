@@ -1,4 +1,4 @@
-use Rattle.std.proofs.Common.{◌∙◌, ◌+◌, Some, is_some, sym, ap, inl, arith}
+use Rattle.std.proofs.Common.{◌∙◌, ◌+◌, sym, ap, inl, arith}
 use Rattle.std.proofs.lemmas.Bool.{false≢true, not-true}
 use Rattle.std.proofs.Math.Bool.{or-false}
 use Rattle.hum_engine.specs.Scene.{moved}
@@ -19,36 +19,37 @@ sink_turn-requires-clause-may g c = asked_web c.requires
 pub returns-in_err-is_over : goal.returns-in_err-is_over
 returns-in_err-is_over g c = rw c.from_residual.ensures (record {
   idle = λ start s now h none within.
-      sink_ready (c.if-k-count.true ∙ c.count.ensures) c.sink_turn.ensures.ready (ap is_some c.in_err-is_over.was)
-      start s now h none;
-  same = c.sink_turn.ensures.same c.in_err-is_over.was;
+      sink_ready (c.if-k-count.true ∙ c.count.ensures) c.in_err-is_over.ensures.idle start s now h none;
+  same = c.in_err-is_over.ensures.same;
 })
 
 pub overflow_add-self : goal.overflow_add-self
-overflow_add-self g c = omega (arith, asked_few c.requires, c.sink_turn.ensures.turns)
+overflow_add-self g c = omega (arith, asked_few c.requires, ap (λ n. n.turns) c.in_ok-is_over.ensures.rest)
 
 pub returns-then-k-count : goal.returns-then-k-count
 returns-then-k-count g c =
     let here = c.if-k-count.true ∙ c.count.ensures in
-    let e = c.sink_turn.ensures in
     let o = c.in_ok-is_over.ensures in
+    let turns = ap (λ n. n.turns) o.rest in
+    let actors = ap (λ n. n.actors) o.rest in
+    let takers = ap (λ n. n.takers) o.rest in
     record {
-      ready = λ start s now h none within. sink_ready here e.ready (ap is_some c.in_ok-is_over.was) start s now h none;
+      ready = λ start s now h none within. sink_ready here o.was_ready start s now h none;
       gone = record {
-        turned = rw (e.turns, e.actors, e.takers) (sink_turned c.sink_turn.new.self.failure here o.went e.shows);
+        turned = rw (turns, actors, takers) (sink_turned c.sink_turn.new.self.failure here o.went o.shows);
         link = λ s h. inl (sink_touches s c.args.k c.last-link.result (here ∙ h.at.stand.count) (c.last-link.ensures.last s h.at));
-        marks = record { reads = λ i. rw (e.unread i, or-false) (e.shows i).mark; writes = o.marked; takers = e.takers };
-        turns = ap (λ n. n + 1) e.turns;
-        actors = e.actors;
+        marks = record { reads = λ i. rw (o.unread i, or-false) (o.shows i).mark; writes = o.marked; takers = takers };
+        turns = ap (λ n. n + 1) turns;
+        actors = actors;
         full = λ full. absurd (false≢true full);
         room = λ taken. let st = (asked_at c.requires).stand in (
           omega (arith, c.last-link.ensures.place, st.as_many, here, st.count, c.requires.running.at.plan.ok.some),
-          rw c.last-link.ensures.place (e.room (c.in_ok-is_over.was ∙ ap Some (not-true c.in_ok-is_over.is_over taken))),
+          rw c.last-link.ensures.place (o.room (not-true c.in_ok-is_over.is_over taken)),
         );
       };
       little = record {
-        once = inl ((e.shows c.args.k).calls_made, (e.shows c.args.k).mark);
-        others = λ i o. e.shows i;
+        once = inl ((o.shows c.args.k).calls_made, (o.shows c.args.k).mark);
+        others = λ i other. o.shows i;
         sink = λ start s now h ready is. o.asked (moved s now.links) (may_write h c.args.k ready (omega (arith, is)));
         unasked = λ other. absurd (other here);
       };

@@ -26,54 +26,45 @@ stop-requires-clause-may g c =
     c.index_mut.ensures.value c.take.ensures.taken c.requires.about.1.holds.actor c.index_mut-node.ensures.value
     (ap is_some_of c.in-End.is) (λ s here. end_left c.take.ensures.taken s _ here c.in-End.is)
 
-pub returns-in-Ok-clause-ready : goal.returns-in-Ok-clause-ready
-returns-in-Ok-clause-ready g c s h =
-    sym (ap is_some_of c.in-Record.is)
-    ∙ trying_able (wanting c.requires.about.1.holds c.requires.stage c.index_mut-node.ensures.value c.source-source.ensures)
-    c.index_mut.ensures.value c.take.ensures.taken h
+pub returns-in-Ok : goal.returns-in-Ok
+returns-in-Ok g c =
+    let w = wanting c.requires.about.1.holds c.requires.stage c.index_mut-node.ensures.value c.source-source.ensures in
+    record {
+      was_ready = λ s h. sym (trying_able w c.index_mut.ensures.value c.take.ensures.taken h) ∙ ap is_some_of c.in-Record.is;
+      tells = told_taken (with_record c.in-Record.row) c.put.new.self c.take.new.self w
+          c.index_mut.ensures.value c.take.ensures.taken c.requires.about.1.holds.actor c.index_mut-node.ensures.value
+          (ap is_some_of c.in-Record.is) (λ s here. record_left c.take.ensures.taken s _ here c.in-Record.is) c.put.ensures.kind
+          c.in-Ok.ensures.put (c.take.ensures.popped (ap is_some_of c.in-Record.is)) refl refl
+          (λ is. (c.is_full.ensures.full is, c.in-Ok.ensures.gives (c.is_full.ensures.gives is)))
+          (λ is. c.take.ensures.room c.in-Record.row c.in-Record.is);
+    }
 
-pub returns-in-Err-clause-ready : goal.returns-in-Err-clause-ready
-returns-in-Err-clause-ready g c s h =
-    sym (ap is_some_of c.in-Record.is)
-    ∙ trying_able (wanting c.requires.about.1.holds c.requires.stage c.index_mut-node.ensures.value c.source-source.ensures)
-    c.index_mut.ensures.value c.take.ensures.taken h
+pub returns-in-Err : goal.returns-in-Err
+returns-in-Err g c =
+    let w = wanting c.requires.about.1.holds c.requires.stage c.index_mut-node.ensures.value c.source-source.ensures in
+    record {
+      was_ready = λ s h. sym (trying_able w c.index_mut.ensures.value c.take.ensures.taken h) ∙ ap is_some_of c.in-Record.is;
+      tells = told_out c.requires.stage (keeps c.put.new.self c.put.ensures.kind refl);
+    }
 
-pub returns-in-End-clause-ready : goal.returns-in-End-clause-ready
-returns-in-End-clause-ready g c s h =
-    sym (ap is_some_of c.in-End.is)
-    ∙ trying_able (wanting c.requires.about.1.holds c.requires.stage c.index_mut-node.ensures.value c.source-source.ensures)
-    c.index_mut.ensures.value c.take.ensures.taken h
+pub returns-in-End : goal.returns-in-End
+returns-in-End g c =
+    let w = wanting c.requires.about.1.holds c.requires.stage c.index_mut-node.ensures.value c.source-source.ensures in
+    rw c.alone.ensures (record {
+      was_ready = λ s h. sym (trying_able w c.index_mut.ensures.value c.take.ensures.taken h) ∙ ap is_some_of c.in-End.is;
+      tells = told_taken (with_end c.in-End.end) c.stop.new.self c.take.new.self w
+          c.index_mut.ensures.value c.take.ensures.taken c.requires.about.1.holds.actor c.index_mut-node.ensures.value
+          (ap is_some_of c.in-End.is) (λ s here. end_left c.take.ensures.taken s _ here c.in-End.is) c.stop.ensures.kind
+          c.stop.ensures.stopped (c.take.ensures.popped (ap is_some_of c.in-End.is)) refl refl
+          (λ is. absurd (false≢true is)) (λ is. absurd (false≢true is));
+    })
 
-pub returns-in-Nothing-clause-ready : goal.returns-in-Nothing-clause-ready
-returns-in-Nothing-clause-ready g c s h =
-    sym (ap is_some_of c.in-Nothing.is)
-    ∙ trying_able (wanting c.requires.about.1.holds c.requires.stage c.index_mut-node.ensures.value c.source-source.ensures)
-    c.index_mut.ensures.value c.take.ensures.taken h
-
-pub returns-in-Ok-clause-told : goal.returns-in-Ok-clause-told
-returns-in-Ok-clause-told g c =
-    told_taken (with_record c.in-Record.row) c.put.new.self c.take.new.self
-    (wanting c.requires.about.1.holds c.requires.stage c.index_mut-node.ensures.value c.source-source.ensures)
-    c.index_mut.ensures.value c.take.ensures.taken c.requires.about.1.holds.actor c.index_mut-node.ensures.value
-    (ap is_some_of c.in-Record.is) (λ s here. record_left c.take.ensures.taken s _ here c.in-Record.is) c.put.ensures.kind
-    c.in-Ok.ensures.put (c.take.ensures.popped (ap is_some_of c.in-Record.is)) refl refl
-    (λ is. (c.is_full.ensures.full is, c.in-Ok.ensures.gives (c.is_full.ensures.gives is)))
-    (λ is. c.take.ensures.room c.in-Record.row c.in-Record.is)
-
-pub returns-in-Err-clause-told : goal.returns-in-Err-clause-told
-returns-in-Err-clause-told g c = told_out c.requires.stage (keeps c.put.new.self c.put.ensures.kind refl)
-
-pub returns-in-End-clause-told : goal.returns-in-End-clause-told
-returns-in-End-clause-told g c =
-    rw c.alone.ensures (told_taken (with_end c.in-End.end) c.stop.new.self c.take.new.self
-    (wanting c.requires.about.1.holds c.requires.stage c.index_mut-node.ensures.value c.source-source.ensures)
-    c.index_mut.ensures.value c.take.ensures.taken c.requires.about.1.holds.actor c.index_mut-node.ensures.value
-    (ap is_some_of c.in-End.is) (λ s here. end_left c.take.ensures.taken s _ here c.in-End.is) c.stop.ensures.kind
-    c.stop.ensures.stopped (c.take.ensures.popped (ap is_some_of c.in-End.is)) refl refl
-    (λ is. absurd (false≢true is)) (λ is. absurd (false≢true is)))
-
-pub returns-in-Nothing-clause-same : goal.returns-in-Nothing-clause-same
-returns-in-Nothing-clause-same g c none =
-    web_back (with_back c.args.self.now.nodes c.args.k c.index_mut-node.ensures.value)
-    (ap (λ l. with_item c.args.self.now.links c.source-source.result l) (c.take.ensures.same c.in-Nothing.is)
-    ∙ with_back c.args.self.now.links c.source-source.result c.index_mut.ensures.value)
+pub returns-in-Nothing : goal.returns-in-Nothing
+returns-in-Nothing g c =
+    let w = wanting c.requires.about.1.holds c.requires.stage c.index_mut-node.ensures.value c.source-source.ensures in
+    record {
+      idle = λ s h. sym (trying_able w c.index_mut.ensures.value c.take.ensures.taken h) ∙ ap is_some_of c.in-Nothing.is;
+      same = web_back (with_back c.args.self.now.nodes c.args.k c.index_mut-node.ensures.value)
+          (ap (λ l. with_item c.args.self.now.links c.source-source.result l) (c.take.ensures.same c.in-Nothing.is)
+          ∙ with_back c.args.self.now.links c.source-source.result c.index_mut.ensures.value);
+    }

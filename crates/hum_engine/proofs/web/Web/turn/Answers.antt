@@ -1,5 +1,5 @@
 use Rattle.std.proofs.Common.{◌∙◌, refl, sym}
-use Rattle.hum_engine.proofs.Answered.{may_try, may_turn, gives_ready, ends_ready, told_own, told_given, told_out}
+use Rattle.hum_engine.proofs.Answered.{acted, may_try, may_turn, gives_ready, ends_ready, told_own, told_given, told_out}
 use Rattle.hum_engine.proofs.Doings.{doing_is, reader_is, gives_about}
 use Rattle.hum_engine.proofs.Readying.{room_gives}
 use Rattle.hum_engine.proofs.web.Web.turn.Goals as goal
@@ -37,51 +37,39 @@ close-requires-clause-turn g c =
 pub close-requires-clause-done : goal.close-requires-clause-done
 close-requires-clause-done g c = doing_is c.requires c.index.ensures c.readiness.ensures c.in-Done.is (λ e. cc)
 
-pub returns-then-not-has_room-clause-ready : goal.returns-then-not-has_room-clause-ready
-returns-then-not-has_room-clause-ready g c s h =
-    sym c.if-not-has_room.true
-    ∙ gives_ready (doing_is c.requires c.index.ensures c.readiness.ensures c.in-Gives.is (λ e. cc)) h
-    c.index-in-Gives.ensures c.has_room.ensures.has_room
-
-pub returns-in-Ok-clause-ready : goal.returns-in-Ok-clause-ready
-returns-in-Ok-clause-ready g c s h =
-    sym c.if-not-has_room.false
-    ∙ gives_ready (doing_is c.requires c.index.ensures c.readiness.ensures c.in-Gives.is (λ e. cc)) h
-    c.index-in-Gives.ensures c.has_room.ensures.has_room
-
-pub returns-in-Err-clause-ready : goal.returns-in-Err-clause-ready
-returns-in-Err-clause-ready g c s h =
-    sym c.if-not-has_room.false
-    ∙ gives_ready (doing_is c.requires c.index.ensures c.readiness.ensures c.in-Gives.is (λ e. cc)) h
-    c.index-in-Gives.ensures c.has_room.ensures.has_room
-
-pub returns-then-not-is_unset-clause-ready : goal.returns-then-not-is_unset-clause-ready
-returns-then-not-is_unset-clause-ready g c s h =
-    sym c.if-not-is_unset.true
-    ∙ ends_ready (doing_is c.requires c.index.ensures c.readiness.ensures c.in-Done.is (λ e. cc)) h
-    c.index-in-Done.ensures c.is_unset.ensures
-
-pub returns-else-not-is_unset-clause-ready : goal.returns-else-not-is_unset-clause-ready
-returns-else-not-is_unset-clause-ready g c s h =
-    sym c.if-not-is_unset.false
-    ∙ ends_ready (doing_is c.requires c.index.ensures c.readiness.ensures c.in-Done.is (λ e. cc)) h
-    c.index-in-Done.ensures c.is_unset.ensures
-
-pub returns-in-Ok-clause-told : goal.returns-in-Ok-clause-told
-returns-in-Ok-clause-told g c =
+pub returns-then-not-has_room : goal.returns-then-not-has_room
+returns-then-not-has_room g c =
     let doing = doing_is c.requires c.index.ensures c.readiness.ensures c.in-Gives.is (λ e. cc) in
-    rw c.alone.ensures (told_given doing c.give.ensures.nodes
-    (may_turn c.requires (sym (gives_ready doing c.requires.holds c.index-in-Gives.ensures c.has_room.ensures.has_room)
-    ∙ c.if-not-has_room.false)) c.in-Ok.ensures.given)
+    record {
+      idle = λ s h. sym (gives_ready doing h c.index-in-Gives.ensures c.has_room.ensures.has_room) ∙ c.if-not-has_room.true;
+      same = refl;
+    }
 
-pub returns-in-Err-clause-told : goal.returns-in-Err-clause-told
-returns-in-Err-clause-told g c =
-    told_out (doing_is c.requires c.index.ensures c.readiness.ensures c.in-Gives.is (λ e. cc)).0 c.give.ensures.nodes
+pub returns-in-Ok : goal.returns-in-Ok
+returns-in-Ok g c =
+    let doing = doing_is c.requires c.index.ensures c.readiness.ensures c.in-Gives.is (λ e. cc) in
+    rw c.alone.ensures (acted c.requires
+    (λ s h. sym (gives_ready doing h c.index-in-Gives.ensures c.has_room.ensures.has_room) ∙ c.if-not-has_room.false)
+    (λ here. told_given doing c.give.ensures.nodes here c.in-Ok.ensures.given))
 
-pub returns-else-not-is_unset-clause-told : goal.returns-else-not-is_unset-clause-told
-returns-else-not-is_unset-clause-told g c =
+pub returns-in-Err : goal.returns-in-Err
+returns-in-Err g c =
+    let doing = doing_is c.requires c.index.ensures c.readiness.ensures c.in-Gives.is (λ e. cc) in
+    acted c.requires
+    (λ s h. sym (gives_ready doing h c.index-in-Gives.ensures c.has_room.ensures.has_room) ∙ c.if-not-has_room.false)
+    (λ here. told_out doing.0 c.give.ensures.nodes)
+
+pub returns-then-not-is_unset : goal.returns-then-not-is_unset
+returns-then-not-is_unset g c =
     let doing = doing_is c.requires c.index.ensures c.readiness.ensures c.in-Done.is (λ e. cc) in
-    let turn = may_turn c.requires (sym (ends_ready doing c.requires.holds c.index-in-Done.ensures c.is_unset.ensures)
-    ∙ c.if-not-is_unset.false) in
-    rw c.alone-in-Done.ensures
-    (told_own doing.0 c.close.ensures.nodes turn.holds c.close.ensures.done c.close.ensures.link)
+    record {
+      idle = λ s h. sym (ends_ready doing h c.index-in-Done.ensures c.is_unset.ensures) ∙ c.if-not-is_unset.true;
+      same = refl;
+    }
+
+pub returns-else-not-is_unset : goal.returns-else-not-is_unset
+returns-else-not-is_unset g c =
+    let doing = doing_is c.requires c.index.ensures c.readiness.ensures c.in-Done.is (λ e. cc) in
+    rw c.alone-in-Done.ensures (acted c.requires
+    (λ s h. sym (ends_ready doing h c.index-in-Done.ensures c.is_unset.ensures) ∙ c.if-not-is_unset.false)
+    (λ here. told_own doing.0 c.close.ensures.nodes here.holds c.close.ensures.done c.close.ensures.link))
