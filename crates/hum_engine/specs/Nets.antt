@@ -1,7 +1,7 @@
 -- What a net stands for: its web, what was written, and how it failed.
 use Rattle.std.specs.Prelude.{◌≡◌, ◌≢◌, ◌⊎◌, ℕ, ◌+◌, ◌-◌, ◌<◌, ◌≤◌}
 use Rattle.std.specs.Prelude.{Bool, true, false, ◌||◌, if◌then◌else◌, List, [], ◌∷◌, ◌++◌, length}
-use Rattle.std.specs.Prelude.{Option, Some, None, IfSome, is_some, slice_get, Result, Ok, Err}
+use Rattle.std.specs.Prelude.{Option, Some, None, IfSome, is_some, slice_get, slice_set, Result, Ok, Err}
 use Rattle.std.specs.Io.KnownBytes.{Appends}
 use Rattle.hum_text.specs.Calls.{counted}
 use Rattle.hum_text.specs.declared.calls.Source.{Ghosts as Source}
@@ -137,6 +137,10 @@ abbrev pub AtEach : {S R W : Type 0} → Stage S → Sink W → Net S R W
 AtEach stage writer net Holds =
     (start : Option (List ℕ)) (s : Scene) (now : Now Row)
     → NetAt stage writer start s net now → Holds start s now
+
+-- these flags, of which the one of actor k says whether that is ready
+abbrev pub flagged : Scene → Now Row → ℕ → List Bool → List Bool
+flagged s now k flags = slice_set flags k (is_ready (plan_of s) s.size now k)
 
 -- Each actor has had no more turns than what it moved allows.
 abbrev pub HadFewEach : {S R W : Type 0} → Stage S → Sink W → Net S R W → Type 0

@@ -1,6 +1,6 @@
 //! A web whose last stage is written.
 ghost use Rattle.std.specs.Prelude.{◌≡◌, ◌≢◌, ◌⊎◌, ◌≤◌, ◌<◌, ◌+◌, ◌-◌, ◌||◌, ◌^◌, ℕ, true, false};
-ghost use Rattle.std.specs.Prelude.{List, length, slice_set, Option, None, Some, is_some};
+ghost use Rattle.std.specs.Prelude.{List, length, Option, None, Some, is_some};
 ghost use Rattle.std.specs.Prelude.{IfSome, MatchOption, IfOk, IfErr};
 ghost use Rattle.hum_record.specs.Row.{Row};
 ghost use Rattle.hum_turns.specs.Plan.{last};
@@ -17,7 +17,7 @@ ghost use Rattle.hum_engine.specs.Search.{is_left};
 ghost use Rattle.hum_engine.specs.Told.{AsksNone};
 ghost use Rattle.hum_engine.specs.declared.net.Stepped.TheVariants as steps;
 ghost use Rattle.hum_engine.specs.Nets.{HasSent, SinkWaited, SinkActed, MayGo, IsRunning, IsAmong};
-ghost use Rattle.hum_engine.specs.Nets.{HadFewEach, IsLinked};
+ghost use Rattle.hum_engine.specs.Nets.{HadFewEach, IsLinked, flagged};
 ghost use Rattle.hum_engine.specs.Nets.{NetAt, AtEach, AreBegun, IsNet, RunsBy, WroteFront};
 ghost use Rattle.hum_engine.specs.Nets.{MayPick, IsNext, MayAsk, HasRested, HasWorked};
 ghost use Rattle.hum_engine.specs.Nets.{HasGone, AsksLittle, fault_by, turned_by, failed_by, is_over};
@@ -230,7 +230,7 @@ impl<S: Stage + Drop, R: Source + Drop, W: Sink> Net<S, R, W> {
         ensures len { length self.new.actors.items ≡ length self.old.actors.items }
         ensures list { AtEach S.Stage W.Sink self.old
             (λ start s now. ended (plan_of s) now ≡ None → k ≤ s.count
-            → self.new.actors.items ≡ slice_set self.old.actors.items k (is_ready (plan_of s) s.size now k)) }
+            → self.new.actors.items ≡ flagged s now k self.old.actors.items) }
     {
         let is = self.web.ready(k);
         self.actors[k] = is;
@@ -244,9 +244,7 @@ impl<S: Stage + Drop, R: Source + Drop, W: Sink> Net<S, R, W> {
         ensures len { length self.new.actors.items ≡ length self.old.actors.items }
         ensures list { AtEach S.Stage W.Sink self.old
             (λ start s now. ended (plan_of s) now ≡ None → link ≤ s.count → taker ≤ s.count
-            → self.new.actors.items ≡ slice_set
-            (slice_set self.old.actors.items link (is_ready (plan_of s) s.size now link)) taker
-            (is_ready (plan_of s) s.size now taker)) }
+            → self.new.actors.items ≡ flagged s now taker (flagged s now link self.old.actors.items)) }
     {
         self.ask(link);
         self.ask(taker);
