@@ -1,9 +1,9 @@
 -- Words and their answers, worked by the definitions. The command is word 2, the words behind it are
 -- written with one blank between them.
 use Rattle.std.proofs.Common.{ℕ, suc, List, [], ◌∷◌, ◌==◌, true, false, Ok, None, Some}
-use Rattle.std.proofs.Common.{refl, inl, inr}
+use Rattle.std.proofs.Common.{refl, inl, inr, rules}
 use Rattle.std.specs.Prelude.{pos, negsuc}
-use Rattle.std.specs.List.{slice_split}
+use Rattle.std.specs.List.{AllByRecursion, slice_split}
 use lib.Chars.{codes}
 use Rattle.hum_pattern.specs.Meaning.{IsExpression, IsNone}
 use Rattle.hum_frac.specs.Gcd.{gcd, gcd_in}
@@ -14,6 +14,7 @@ use Rattle.hum_stage.specs.declared.faults.Command.TheVariants as command
 use Rattle.hum_options.specs.declared.faults.OptionRule.{OptionRule}
 use Rattle.hum_options.specs.declared.faults.OptionRule.TheVariants.{N8, N9, N10, N11, N12}
 use Rattle.hum_options.specs.declared.faults.PatternRefusal.TheVariants.{NoExpression, TooLarge}
+use Rattle.hum_choices.specs.declared.rid.RidOptions.{RidOptions}
 use Rattle.hum_choices.specs.Options as is
 use Rattle.hum_choices.specs.Options.{Options}
 use Rattle.hum_options.specs.Answers.{Word, Answer, Answers, fault, IsAnswer}
@@ -39,347 +40,125 @@ Gives command text options = Says command text (Ok options)
 abbrev Breaks : Command → List ℕ → ℕ → OptionRule → Type 0
 Breaks command text n rule = Says command text (fault n rule)
 
--- extract: `-f` or `-i`, one of them
-fields : Gives command.Extract (codes "-f 1-2")
-    (is.Extract (choice.Fields (record { first = choice.Number 1; last = choice.Number 2 } ∷ [])))
-unfolding Answers
-fields = refl
+-- no word of rid
+abbrev nothing_dropped : RidOptions
+nothing_dropped = record {
+  global_comments = false;
+  empty_global_comments = false;
+  local_comments = false;
+  null_local_comments = false;
+  interpretations = false;
+  null_interpretations = false;
+  tandems = false;
+  values = false;
+  null_values = false;
+}
 
-spines : Gives command.Extract (codes "-i **kern,**text")
-    (is.Extract (choice.Names (codes "**kern" ∷ codes "**text" ∷ [])))
-unfolding Answers
-spines = refl
+-- columns of this name, with this between their data
+abbrev joined_by : List ℕ → Options
+joined_by text = is.Cleave (record { name = codes "**kern"; new_name = codes "**all"; separator = text })
 
-extract_other : Breaks command.Extract (codes "-g 1") 3 N8
-unfolding Answers
-extract_other = refl
+-- Words that give options.
+abbrev AllGive : List (Command × List ℕ × Options) → Type 0
+AllGive = AllByRecursion (λ row. Gives row.0 row.1 row.2)
 
-extract_word : Breaks command.Extract (codes "1") 3 N8
-unfolding Answers
-extract_word = refl
-
-extract_joined : Breaks command.Extract (codes "-f1") 3 N8
-unfolding Answers
-extract_joined = refl
-
-extract_twice : Breaks command.Extract (codes "-f 1 -f") 5 N8
-unfolding Answers
-extract_twice = refl
-
-extract_excluded : Breaks command.Extract (codes "-f 1 -i") 5 N8
-unfolding Answers
-extract_excluded = refl
-
-extract_too_many : Breaks command.Extract (codes "-f 1 2") 5 N8
-unfolding Answers
-extract_too_many = refl
-
-extract_no_value : Breaks command.Extract (codes "-f") 3 N9
-unfolding Answers
-extract_no_value = refl
-
-extract_no_list : Breaks command.Extract (codes "-f 2-1") 4 N10
-unfolding Answers
-extract_no_list = refl
-
-extract_no_names : Breaks command.Extract (codes "-i kern") 4 N10
-unfolding Answers
-extract_no_names = refl
-
-extract_value_of_a_dash : Breaks command.Extract (codes "-f -i") 4 N10
-unfolding Answers
-extract_value_of_a_dash = refl
-
-extract_alone : Alone command.Extract (fault 2 N9)
-unfolding Answers
-extract_alone = refl
-
--- ditto: `-s` and `-p`, neither of them required
-ditto_alone : Alone command.Ditto (Ok (is.Ditto (record { skip = None; parentheses = false })))
-unfolding Answers
-ditto_alone = refl
-
-ditto_shown : Gives command.Ditto (codes "-p")
-    (is.Ditto (record { skip = None; parentheses = true }))
-unfolding Answers
-ditto_shown = refl
-
-ditto_twice : Breaks command.Ditto (codes "-p -p") 4 N8
-unfolding Answers
-ditto_twice = refl
-
-ditto_no_value : Breaks command.Ditto (codes "-p -s") 4 N9
-unfolding Answers
-ditto_no_value = refl
-
--- timebase: `-t`
-sixteenths : Gives command.Timebase (codes "-t 16")
-    (is.Timebase (record { step = record { top = 1; bottom = 16 }; text = codes "16" }))
+given : AllGive ((
+  command.Extract,
+  codes "-f 1-2",
+  is.Extract (choice.Fields (record { first = choice.Number 1; last = choice.Number 2 } ∷ [])),
+)
+    ∷ (
+      command.Extract,
+      codes "-i **kern,**text",
+      is.Extract (choice.Names (codes "**kern" ∷ codes "**text" ∷ [])),
+    )
+    ∷ (command.Ditto, codes "-p", is.Ditto (record { skip = None; parentheses = true }))
+    ∷ (
+      command.Timebase,
+      codes "-t 16",
+      is.Timebase (record { step = record { top = 1; bottom = 16 }; text = codes "16" }),
+    )
+    ∷ (command.Context, codes "-n 3", is.Context (is.Number 3) None)
+    ∷ (command.Trans, codes "-d -1 -c +2", is.Trans (negsuc 0) (pos 2))
+    ∷ (command.Trans, codes "-c -84 -d 49", is.Trans (pos 49) (negsuc 83))
+    ∷ (command.Semits, codes "-x", is.Semits (record { ties_left_out = false }))
+    ∷ (command.Semits, codes "-t -x", is.Semits (record { ties_left_out = true }))
+    ∷ (command.Mint, codes "-d -a", is.Mint (record { signless = true; sizeonly = true; breaks = None }))
+    ∷ (command.Yank, codes "-l -r 1-3", is.Yank is.Lines (Through 1 3 ∷ []))
+    ∷ (command.Yank, codes "-r 2-$ -s A", is.Yank (is.Labels (codes "A")) (Onward 2 ∷ []))
+    ∷ (command.Cleave, codes "-i **kern -o **all", joined_by (codes " "))
+    ∷ (command.Cleave, codes "-d | -o **all -i **kern", joined_by (codes "|"))
+    ∷ (command.Cleave, codes "-i **kern -o **all -d ", joined_by ([]))
+    ∷ (
+      command.Rid,
+      codes "-Gl",
+      is.Rid (record nothing_dropped { global_comments = true; null_local_comments = true }),
+    )
+    ∷ (command.Rid, codes "-G -GT", is.Rid (record nothing_dropped { global_comments = true; tandems = true }))
+    ∷ (command.Rid, codes "-I", is.Rid (record nothing_dropped { interpretations = true }))
+    ∷ [])
 unfolding Answers gcd gcd_in
-sixteenths = refl
+given = search rules
 
-timebase_other : Breaks command.Timebase (codes "-r 16") 3 N8
+-- Words that break this rule, each at the word of its number.
+abbrev AreBroken : OptionRule → List (Command × List ℕ × ℕ) → Type 0
+AreBroken rule = AllByRecursion (λ row. Breaks row.0 row.1 row.2 rule)
+
+unknown : AreBroken N8 (
+    (command.Extract, codes "-g 1", 3) ∷ (command.Extract, codes "1", 3) ∷ (command.Extract, codes "-f1", 3)
+    ∷ (command.Extract, codes "-f 1 -f", 5) ∷ (command.Extract, codes "-f 1 -i", 5)
+    ∷ (command.Extract, codes "-f 1 2", 5) ∷ (command.Ditto, codes "-p -p", 4)
+    ∷ (command.Timebase, codes "-r 16", 3) ∷ (command.Context, codes "-n 3 -b", 5)
+    ∷ (command.Context, codes "-n 3 -e x", 5) ∷ (command.Trans, codes "-d 1 -k 2", 5)
+    ∷ (command.Semits, codes "-x -p", 4) ∷ (command.Mint, codes "-d -a -d", 5)
+    ∷ (command.Yank, codes "-l -s", 4) ∷ (command.Yank, codes "-l -e", 4) ∷ (command.Yank, codes "-s A -e", 5)
+    ∷ (command.Yank, codes "-r 1 -r", 5) ∷ (command.Cleave, codes "-i **kern **text", 5) ∷ [])
 unfolding Answers
-timebase_other = refl
+unknown = search rules
 
-timebase_no_value : Breaks command.Timebase (codes "-t") 3 N9
+unknown_letters : AreBroken N8 (
+    (command.Recip, codes "-x", 3) ∷ (command.Rid, codes "-Gx", 3) ∷ (command.Rid, codes "-G -", 4)
+    ∷ (command.Rid, codes "G", 3) ∷ [])
 unfolding Answers
-timebase_no_value = refl
+unknown_letters = search rules
 
-timebase_no_duration : Breaks command.Timebase (codes "-t 16c") 4 N10
+missing : AreBroken N9 (
+    (command.Extract, codes "-f", 3) ∷ (command.Ditto, codes "-p -s", 4) ∷ (command.Timebase, codes "-t", 3)
+    ∷ (command.Context, codes "-n", 3) ∷ (command.Trans, codes "-d 1 -c", 5) ∷ (command.Trans, codes "-d 1", 2)
+    ∷ (command.Semits, codes "-t", 2) ∷ (command.Mint, codes "-b", 3) ∷ (command.Yank, codes "-l -r", 4)
+    ∷ (command.Yank, codes "-r 1", 2) ∷ (command.Yank, codes "-l", 2)
+    ∷ (command.Cleave, codes "-i **kern -o", 5) ∷ (command.Cleave, codes "-i **kern", 2) ∷ [])
 unfolding Answers
-timebase_no_duration = refl
+missing = search rules
 
-timebase_alone : Alone command.Timebase (fault 2 N9)
+malformed : AreBroken N10 (
+    (command.Extract, codes "-f 2-1", 4) ∷ (command.Extract, codes "-i kern", 4)
+    ∷ (command.Extract, codes "-f -i", 4) ∷ (command.Timebase, codes "-t 16c", 4)
+    ∷ (command.Context, codes "-n 0", 4) ∷ (command.Trans, codes "-d 50", 4)
+    ∷ (command.Trans, codes "-d 1 -c 85", 6) ∷ (command.Yank, codes "-r 3-1 -l", 4)
+    ∷ (command.Yank, codes "-s [a]", 4) ∷ (command.Cleave, codes "-i ** -o **all", 4)
+    ∷ (command.Cleave, codes "-d \t", 4) ∷ [])
 unfolding Answers
-timebase_alone = refl
+malformed = search rules
 
--- context: `-n`, or `-b` and `-e`; `-o` with either
-three_tokens : Gives command.Context (codes "-n 3") (is.Context (is.Number 3) None)
+-- Commands without words.
+abbrev AllAlone : List (Command × Answer) → Type 0
+AllAlone = AllByRecursion (λ row. Alone row.0 row.1)
+
+alone : AllAlone (
+    (command.Extract, fault 2 N9) ∷ (command.Ditto, Ok (is.Ditto (record { skip = None; parentheses = false })))
+    ∷ (command.Timebase, fault 2 N9) ∷ (command.Context, fault 2 N9)
+    ∷ (command.Mint, Ok (is.Mint (record { signless = false; sizeonly = false; breaks = None })))
+    ∷ (command.Recip, Ok is.Recip) ∷ (command.Rid, fault 2 N9) ∷ [])
 unfolding Answers
-three_tokens = refl
+alone = search rules
 
-context_excluded_begin : Breaks command.Context (codes "-n 3 -b") 5 N8
-unfolding Answers
-context_excluded_begin = refl
-
-context_excluded_end : Breaks command.Context (codes "-n 3 -e x") 5 N8
-unfolding Answers
-context_excluded_end = refl
-
-context_no_value : Breaks command.Context (codes "-n") 3 N9
-unfolding Answers
-context_no_value = refl
-
-context_no_count : Breaks command.Context (codes "-n 0") 4 N10
-unfolding Answers
-context_no_count = refl
-
-context_alone : Alone command.Context (fault 2 N9)
-unfolding Answers
-context_alone = refl
-
--- trans: `-d` and `-c`, both of them
-down_a_step : Gives command.Trans (codes "-d -1 -c +2") (is.Trans (negsuc 0) (pos 2))
-unfolding Answers
-down_a_step = refl
-
-either_first : Gives command.Trans (codes "-c -84 -d 49") (is.Trans (pos 49) (negsuc 83))
-unfolding Answers
-either_first = refl
-
-trans_other : Breaks command.Trans (codes "-d 1 -k 2") 5 N8
-unfolding Answers
-trans_other = refl
-
-trans_no_value : Breaks command.Trans (codes "-d 1 -c") 5 N9
-unfolding Answers
-trans_no_value = refl
-
-trans_steps_over : Breaks command.Trans (codes "-d 50") 4 N10
-unfolding Answers
-trans_steps_over = refl
-
-trans_semitones_over : Breaks command.Trans (codes "-d 1 -c 85") 6 N10
-unfolding Answers
-trans_semitones_over = refl
-
-trans_lacks_semitones : Breaks command.Trans (codes "-d 1") 2 N9
-unfolding Answers
-trans_lacks_semitones = refl
-
--- semits: `-x`, and `-t` or not
-semitones : Gives command.Semits (codes "-x") (is.Semits (record { ties_left_out = false }))
-unfolding Answers
-semitones = refl
-
-no_ties : Gives command.Semits (codes "-t -x") (is.Semits (record { ties_left_out = true }))
-unfolding Answers
-no_ties = refl
-
-semits_other : Breaks command.Semits (codes "-x -p") 4 N8
-unfolding Answers
-semits_other = refl
-
-semits_lacks : Breaks command.Semits (codes "-t") 2 N9
-unfolding Answers
-semits_lacks = refl
-
--- mint: `-a`, `-d` and `-b`, none of them required
-mint_alone : Alone command.Mint (Ok (is.Mint (record { signless = false; sizeonly = false; breaks = None })))
-unfolding Answers
-mint_alone = refl
-
-sizes : Gives command.Mint (codes "-d -a")
-    (is.Mint (record { signless = true; sizeonly = true; breaks = None }))
-unfolding Answers
-sizes = refl
-
-mint_twice : Breaks command.Mint (codes "-d -a -d") 5 N8
-unfolding Answers
-mint_twice = refl
-
-mint_no_value : Breaks command.Mint (codes "-b") 3 N9
-unfolding Answers
-mint_no_value = refl
-
--- recip: no word
-recip_alone : Alone command.Recip (Ok is.Recip)
-unfolding Answers
-recip_alone = refl
-
-recip_word : Breaks command.Recip (codes "-x") 3 N8
-unfolding Answers
-recip_word = refl
-
--- yank: one of `-l`, `-n`, `-o` and `-s`, and `-r`; `-e` with `-o` alone
-lines : Gives command.Yank (codes "-l -r 1-3") (is.Yank is.Lines (Through 1 3 ∷ []))
-unfolding Answers
-lines = refl
-
-section : Gives command.Yank (codes "-r 2-$ -s A") (is.Yank (is.Labels (codes "A")) (Onward 2 ∷ []))
-unfolding Answers
-section = refl
-
-yank_second_marker : Breaks command.Yank (codes "-l -s") 4 N8
-unfolding Answers
-yank_second_marker = refl
-
-yank_end_behind_lines : Breaks command.Yank (codes "-l -e") 4 N8
-unfolding Answers
-yank_end_behind_lines = refl
-
-yank_end_behind_label : Breaks command.Yank (codes "-s A -e") 5 N8
-unfolding Answers
-yank_end_behind_label = refl
-
-yank_twice : Breaks command.Yank (codes "-r 1 -r") 5 N8
-unfolding Answers
-yank_twice = refl
-
-yank_no_value : Breaks command.Yank (codes "-l -r") 4 N9
-unfolding Answers
-yank_no_value = refl
-
-yank_no_ranges : Breaks command.Yank (codes "-r 3-1 -l") 4 N10
-unfolding Answers
-yank_no_ranges = refl
-
-yank_no_label : Breaks command.Yank (codes "-s [a]") 4 N10
-unfolding Answers
-yank_no_label = refl
-
-yank_lacks_marker : Breaks command.Yank (codes "-r 1") 2 N9
-unfolding Answers
-yank_lacks_marker = refl
-
-yank_lacks_ranges : Breaks command.Yank (codes "-l") 2 N9
-unfolding Answers
-yank_lacks_ranges = refl
-
--- cleave: `-i` and `-o`, and `-d` or not
-one_column : Gives command.Cleave (codes "-i **kern -o **all")
-    (is.Cleave (record { name = codes "**kern"; new_name = codes "**all"; separator = codes " " }))
-unfolding Answers
-one_column = refl
-
-joined_by_a_bar : Gives command.Cleave (codes "-d | -o **all -i **kern")
-    (is.Cleave (record { name = codes "**kern"; new_name = codes "**all"; separator = codes "|" }))
-unfolding Answers
-joined_by_a_bar = refl
-
-joined_by_nothing : Gives command.Cleave (codes "-i **kern -o **all -d ")
-    (is.Cleave (record { name = codes "**kern"; new_name = codes "**all"; separator = [] }))
-unfolding Answers
-joined_by_nothing = refl
-
-cleave_other : Breaks command.Cleave (codes "-i **kern **text") 5 N8
-unfolding Answers
-cleave_other = refl
-
-cleave_no_value : Breaks command.Cleave (codes "-i **kern -o") 5 N9
-unfolding Answers
-cleave_no_value = refl
-
-cleave_no_name : Breaks command.Cleave (codes "-i ** -o **all") 4 N10
-unfolding Answers
-cleave_no_name = refl
-
-cleave_two_tokens : Breaks command.Cleave (codes "-d \t") 4 N10
-unfolding Answers
-cleave_two_tokens = refl
-
-cleave_lacks_new_name : Breaks command.Cleave (codes "-i **kern") 2 N9
-unfolding Answers
-cleave_lacks_new_name = refl
-
--- rid: words of letters
-comments : Gives command.Rid (codes "-Gl")
-    (is.Rid (record {
-      global_comments = true;
-      empty_global_comments = false;
-      local_comments = false;
-      null_local_comments = true;
-      interpretations = false;
-      null_interpretations = false;
-      tandems = false;
-      values = false;
-      null_values = false;
-    }))
-unfolding Answers
-comments = refl
-
-two_words : Gives command.Rid (codes "-G -GT")
-    (is.Rid (record {
-      global_comments = true;
-      empty_global_comments = false;
-      local_comments = false;
-      null_local_comments = false;
-      interpretations = false;
-      null_interpretations = false;
-      tandems = true;
-      values = false;
-      null_values = false;
-    }))
-unfolding Answers
-two_words = refl
-
-last_stage : Gives command.Rid (codes "-I")
-    (is.Rid (record {
-      global_comments = false;
-      empty_global_comments = false;
-      local_comments = false;
-      null_local_comments = false;
-      interpretations = true;
-      null_interpretations = false;
-      tandems = false;
-      values = false;
-      null_values = false;
-    }))
-unfolding Answers
-last_stage = refl
-
-rid_other_letter : Breaks command.Rid (codes "-Gx") 3 N8
-unfolding Answers
-rid_other_letter = refl
-
-rid_no_letter : Breaks command.Rid (codes "-G -") 4 N8
-unfolding Answers
-rid_no_letter = refl
-
-rid_no_dash : Breaks command.Rid (codes "G") 3 N8
-unfolding Answers
-rid_no_dash = refl
-
+-- The words of rid, in front of another stage.
 rid_before_others : IsAnswer command.Rid 2 false (words (codes "-i -gI")) (fault 4 N11)
 rid_before_others = refl
 
 rid_letter_before_stage : IsAnswer command.Rid 2 false (words (codes "-Ix")) (fault 3 N8)
 rid_letter_before_stage = refl
-
-rid_alone : Alone command.Rid (fault 2 N9)
-unfolding Answers
-rid_alone = refl
 
 -- A pattern is a regular expression, or the word is N12. A rule that is broken before it is told.
 skipped : IsExpression (codes "^=")

@@ -7,27 +7,28 @@ use Rattle.std.proofs.lemmas.Bool.{ltb-true, ltb-false, eqb-true}
 use Rattle.hum_path.proofs.Cases.{by_bool}
 use Rattle.hum_options.specs.declared.given.GivenOption.{GivenOption}
 use Rattle.hum_options.specs.declared.values.Value.{Value}
-use Rattle.hum_options.specs.Given.{Given, value_at, AreKept}
+use Rattle.hum_options.specs.Given.{Given, GivenOf, value_at, AreKept}
+use Rattle.hum_options.specs.Options.{markers_meant, both}
 use Rattle.hum_options.specs.Seen.{seen, given_of}
 use Rattle.hum_options.proofs.Choices.{chosen}
 
 -- an option as the code has it
-abbrev Entry : Type 0
-Entry = GivenOption Value
+abbrev Entry : Type 0 → Type 0
+Entry P = GivenOption (Value P)
 
 -- a test of what was given, seen or not
-pub any_given : (p : Given → Bool) (xs : List Entry)
+pub any_given : {P : Type 0} (p : GivenOf P → Bool) (xs : List (Entry P))
     → list_any p (map given_of xs) ≡ list_any (λ x. p (given_of x)) xs
 any_given p [] = refl
 any_given p (x ∷ xs) = ap (λ b. p (given_of x) || b) (any_given p xs)
 
-module _ (b : ℕ) where
+module _ {P : Type 0} (b : ℕ) where
   -- how many stand before the first of a letter
-  abbrev before : List Entry → ℕ
+  abbrev before : List (Entry P) → ℕ
   before xs = prefix_len (λ x. not (x.letter == b)) xs
 
   -- its value stands there
-  value_there : (d : Entry) (xs : List Entry) → before xs < length xs
+  value_there : (d : Entry P) (xs : List (Entry P)) → before xs < length xs
       → value_at b (map given_of xs) ≡ Some (seen (get_or xs (before xs) d).value)
   value_there d [] h = absurd (omega (arith, h))
   value_there d (x ∷ xs) h = by_bool (x.letter == b) (λ w. rw w refl)
@@ -37,7 +38,7 @@ module _ (b : ℕ) where
       rw (w, next) (value_there d xs (omega (arith, within))))
 
   -- and without it the options of other letters have theirs
-  others_there : (a : ℕ) (xs : List Entry) → before xs < length xs → (b == a) ≡ false
+  others_there : (a : ℕ) (xs : List (Entry P)) → before xs < length xs → (b == a) ≡ false
       → value_at a (map given_of (remove xs (before xs))) ≡ value_at a (map given_of xs)
   others_there a [] h other = absurd (omega (arith, h))
   others_there a (x ∷ xs) h other = by_bool (x.letter == b)
@@ -49,42 +50,50 @@ module _ (b : ℕ) where
       (others_there a xs (omega (arith, within)) other)))
 
   -- where none is of the letter
-  nothing_there : (xs : List Entry) → length xs ≤ before xs → None ≡ value_at b (map given_of xs)
+  nothing_there : (xs : List (Entry P)) → length xs ≤ before xs → None ≡ value_at b (map given_of xs)
   nothing_there [] h = refl
   nothing_there (x ∷ xs) h = by_bool (x.letter == b)
       (λ w. let none : suc (length xs) ≤ 0 = rw w at h in absurd (omega (arith, none)))
       (λ w. let over : suc (length xs) ≤ 1 + before xs = rw w at h in rw w (nothing_there xs (omega (arith, over))))
 
   -- a place that was found
-  place_found : {k : ℕ} (xs : List Entry) → Some k ≡ position (λ x. x.letter == b) xs
+  place_found : {k : ℕ} (xs : List (Entry P)) → Some k ≡ position (λ x. x.letter == b) xs
       → (k ≡ before xs) × (before xs < length xs)
   place_found {k} xs found =
       let test = chosen (nat_lt (before xs) (length xs)) (Some (before xs)) k (sym found) in
       (let place = test.1 in cc, ltb-true _ _ test.0)
 
   -- what is taken out of what was given
-  pub value_taken : (xs : List Entry) {k : ℕ} {given : Entry}
+  pub value_taken : (xs : List (Entry P)) {k : ℕ} {given : Entry P}
       → Some k ≡ position (λ x. x.letter == b) xs → given ≡ get_or xs k given
       → Some (seen given.value) ≡ value_at b (map given_of xs)
   value_taken xs {k} {given} found is =
       let p = place_found xs found in
-      ap (λ (x : Entry). Some (seen x.value)) is
+      ap (λ (x : Entry P). Some (seen x.value)) is
       ∙ ap (λ n. Some (seen (get_or xs n given).value)) p.0 ∙ sym (value_there given xs p.1)
 
-  pub others_kept : (xs ys : List Entry) {k : ℕ} → Some k ≡ position (λ x. x.letter == b) xs → ys ≡ remove xs k
+  pub others_kept : (xs ys : List (Entry P)) {k : ℕ} → Some k ≡ position (λ x. x.letter == b) xs → ys ≡ remove xs k
       → AreKept b (map given_of xs) (map given_of ys)
   others_kept xs ys found is = λ a other.
       let p = place_found xs found in rw (is, p.0) (others_there a xs p.1 other)
 
-  pub nothing_taken : (xs : List Entry) → None ≡ position (λ x. x.letter == b) xs
+  pub nothing_taken : (xs : List (Entry P)) → None ≡ position (λ x. x.letter == b) xs
       → None ≡ value_at b (map given_of xs)
   nothing_taken xs lost = by_bool (nat_lt (before xs) (length xs))
       (λ w. let e : None ≡ Some (before xs) = rw w at lost in cc)
       (λ w. nothing_there xs (ltb-false _ _ w))
 
   -- whether it was given
-  pub is_given : (xs : List Entry) (found : Option ℕ) → found ≡ position (λ x. x.letter == b) xs
+  pub is_given : (xs : List (Entry P)) (found : Option ℕ) → found ≡ position (λ x. x.letter == b) xs
       → is_some found ≡ is_some (value_at b (map given_of xs))
   is_given xs None lost = ap is_some (nothing_taken xs lost)
   is_given [] (Some k) found = cc
   is_given (x ∷ xs) (Some k) found = sym (ap is_some (value_there x (x ∷ xs) (place_found (x ∷ xs) found).1))
+
+-- where the option of one letter is taken out, the markers are what they were
+pub markers_kept : (old new : List Given) → AreKept 114 old new → markers_meant new ≡ markers_meant old
+markers_kept old new kept = rw (kept 108 refl, kept 110 refl, kept 111 refl, kept 101 refl, kept 115 refl) refl
+
+pub both_lack : {A B C : Type 0} (f : A → B → C) (first : Option A) → None ≡ both f first None
+both_lack f None = refl
+both_lack f (Some a) = refl

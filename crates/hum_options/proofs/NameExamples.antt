@@ -1,97 +1,38 @@
 -- Names and labels, worked by the definitions.
-use Rattle.std.proofs.Common.{◌≡◌, ℕ, List, [], ◌∷◌, ◌++◌, Option, None, Some, true, false, refl}
+use Rattle.std.proofs.Common.{◌≡◌, ℕ, List, [], ◌∷◌, ◌++◌, Option, true, false, refl}
 use lib.Chars.{codes}
 use Rattle.hum_choices.specs.Cleave.{fits_in_token}
+use Rattle.std.specs.List.{list_all, list_any}
 use Rattle.hum_options.specs.Items.{items_of}
+use Rattle.hum_options.proofs.Tables.{AreRead, AreNone}
 use Rattle.hum_options.specs.Names.{name_of, is_label}
 
 abbrev names : List ℕ → Option (List (List ℕ))
 names = items_of name_of
 
 -- Lists of names.
-one : names (codes "**kern") ≡ Some (codes "**kern" ∷ [])
-one = refl
-
-two : names (codes "**a,**b") ≡ Some (codes "**a" ∷ codes "**b" ∷ [])
-two = refl
-
-same_twice : names (codes "**a,**a") ≡ Some (codes "**a" ∷ codes "**a" ∷ [])
-same_twice = refl
-
-with_blank : names (codes "**a b") ≡ Some (codes "**a b" ∷ [])
-with_blank = refl
-
-third_star : names (codes "***") ≡ Some (codes "***" ∷ [])
-third_star = refl
+are_read : AreRead names (
+    (codes "**kern", codes "**kern" ∷ []) ∷ (codes "**a,**b", codes "**a" ∷ codes "**b" ∷ [])
+    ∷ (codes "**a,**a", codes "**a" ∷ codes "**a" ∷ []) ∷ (codes "**a b", codes "**a b" ∷ [])
+    ∷ (codes "***", codes "***" ∷ []) ∷ [])
+are_read = refl
 
 -- What is no list of names.
-nothing : names [] ≡ None
-nothing = refl
-
-bare : names (codes "**") ≡ None
-bare = refl
-
-one_star : names (codes "*a") ≡ None
-one_star = refl
-
-no_star : names (codes "kern") ≡ None
-no_star = refl
-
-second_without_stars : names (codes "**a,b") ≡ None
-second_without_stars = refl
-
-comma_behind : names (codes "**a,") ≡ None
-comma_behind = refl
-
-empty_item : names (codes "**a,,**b") ≡ None
-empty_item = refl
-
-with_tab : names (codes "**a" ++ (9 ∷ codes "b")) ≡ None
-with_tab = refl
-
-with_line_feed : names (codes "**a" ++ (10 ∷ [])) ≡ None
-with_line_feed = refl
-
-with_return : names (codes "**a" ++ (13 ∷ [])) ≡ None
-with_return = refl
+are_none : AreNone names (
+    [] ∷ codes "**" ∷ codes "*a" ∷ codes "kern" ∷ codes "**a,b" ∷ codes "**a," ∷ codes "**a,,**b"
+    ∷ (codes "**a" ++ (9 ∷ codes "b")) ∷ (codes "**a" ++ (10 ∷ [])) ∷ (codes "**a" ++ (13 ∷ [])) ∷ [])
+are_none = refl
 
 -- Labels.
-label : is_label (codes "A") ≡ true
-label = refl
+labels : list_all is_label (codes "A" ∷ codes "a b" ∷ codes "a,b" ∷ codes "]" ∷ []) ≡ true
+labels = refl
 
-label_with_blank : is_label (codes "a b") ≡ true
-label_with_blank = refl
-
-label_with_comma : is_label (codes "a,b") ≡ true
-label_with_comma = refl
-
-closing_bracket : is_label (codes "]") ≡ true
-closing_bracket = refl
-
-no_label : is_label [] ≡ false
-no_label = refl
-
-opening_bracket : is_label (codes "a[b") ≡ false
-opening_bracket = refl
-
-label_with_tab : is_label (97 ∷ 9 ∷ []) ≡ false
-label_with_tab = refl
-
-label_with_line_feed : is_label (10 ∷ []) ≡ false
-label_with_line_feed = refl
-
-label_with_return : is_label (97 ∷ 13 ∷ []) ≡ false
-label_with_return = refl
+no_labels : list_any is_label ([] ∷ codes "a[b" ∷ (97 ∷ 9 ∷ []) ∷ (10 ∷ []) ∷ (97 ∷ 13 ∷ []) ∷ []) ≡ false
+no_labels = refl
 
 -- What goes between data.
-empty_separator : fits_in_token [] ≡ true
-empty_separator = refl
+separators : list_all fits_in_token ([] ∷ codes ", " ∷ []) ≡ true
+separators = refl
 
-comma_and_blank : fits_in_token (codes ", ") ≡ true
-comma_and_blank = refl
-
-tab_between : fits_in_token (9 ∷ []) ≡ false
-tab_between = refl
-
-return_between : fits_in_token (13 ∷ []) ≡ false
-return_between = refl
+no_separators : list_any fits_in_token ((9 ∷ []) ∷ (13 ∷ []) ∷ []) ≡ false
+no_separators = refl

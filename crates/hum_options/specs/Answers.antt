@@ -15,7 +15,7 @@ use Rattle.hum_options.specs.declared.faults.OptionRule.TheVariants.{N8, N9, N10
 use Rattle.hum_options.specs.declared.faults.OptionFault.{OptionFault}
 use Rattle.hum_options.specs.declared.reading.Turn.{Turn}
 use Rattle.hum_options.specs.declared.reading.Turn.TheVariants.{Free, Awaits}
-use Rattle.hum_options.specs.Given.{letter, Given}
+use Rattle.hum_options.specs.Given.{letter, Given, GivenOf}
 use Rattle.hum_options.specs.Options.{excludes, option_of, meant}
 use Rattle.hum_options.specs.Values.{Value, Nothing, Pattern, value_of, IsRefused, IsSound}
 use Rattle.hum_choices.specs.Options.{Options, Rid}
@@ -33,19 +33,19 @@ abbrev pub fault : ℕ → OptionRule → Answer
 fault number rule = Err (record { word = number; rule = rule })
 
 -- whether an option that was given has the letter or excludes that of the letter
-abbrev pub bars : Command → ℕ → Given → Bool
+abbrev pub bars : {P : Type 0} → Command → ℕ → GivenOf P → Bool
 bars command b given = given.letter == b || excludes command given.letter b
 
-abbrev pub is_barred : Command → List Given → ℕ → Bool
+abbrev pub is_barred : {P : Type 0} → Command → List (GivenOf P) → ℕ → Bool
 is_barred command given b = list_any (bars command b) given
 
-abbrev pub unless_barred : Command → List Given → Option CommandOption → Option CommandOption
+abbrev pub unless_barred : {P : Type 0} → Command → List (GivenOf P) → Option CommandOption → Option CommandOption
 unless_barred command given None = None
 unless_barred command given (Some option) =
     if is_barred command given option.letter then None else Some option
 
 -- the option that a word is, if it may come behind those that were given
-abbrev pub next_option : Command → List Given → List ℕ → Option CommandOption
+abbrev pub next_option : {P : Type 0} → Command → List (GivenOf P) → List ℕ → Option CommandOption
 next_option command given word = unless_barred command given (option_of command word)
 
 abbrev pub is_alone : ValueKind → Bool

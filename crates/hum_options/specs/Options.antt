@@ -7,6 +7,7 @@ use lib.Chars.{codes}
 use Rattle.hum_choices.specs.Extract as choice
 use Rattle.hum_choices.specs.Extract.{range_of}
 use Rattle.hum_choices.specs.Cleave as cleave
+use Rattle.hum_choices.specs.Timebase.{Pace}
 use Rattle.hum_choices.specs.Options.{Span, Number, Phrase, Markers, Lines, Numbers, Occurrences, Labels, Options}
 use Rattle.hum_choices.specs.Options.{Extract, Ditto, Timebase, Context, Trans, Semits, Mint, Recip, Yank, Cleave}
 use Rattle.hum_choices.specs.declared.ditto.DittoOptions.{DittoOptions}
@@ -18,7 +19,7 @@ use Rattle.hum_options.specs.declared.options.ValueKind.{ValueKind}
 use Rattle.hum_options.specs.declared.options.ValueKind.TheVariants.{Alone, Fields, Names, Name, Text, Ranges, Label}
 use Rattle.hum_options.specs.declared.options.ValueKind.TheVariants.{Pattern, Count, Steps, Semitones, Duration}
 use Rattle.hum_options.specs.declared.options.CommandOption.{CommandOption}
-use Rattle.hum_options.specs.Given.{Given, letter, has, get}
+use Rattle.hum_options.specs.Given.{GivenOf, Given, letter, has, get}
 
 -- an option, by the text of its letter and the kind of its value
 abbrev pub takes : List ℕ → ValueKind → ℕ × ValueKind
@@ -77,7 +78,7 @@ both f None second = None
 both f (Some a) second = option_map (f a) second
 
 -- `-f`, or `-i`
-abbrev pub choice_meant : List Given → Option choice.Choice
+abbrev pub choice_meant : {P : Type 0} → List (GivenOf P) → Option choice.Choice
 choice_meant given = option_or
     (option_map (λ ranges. choice.Fields (map range_of ranges)) (get Fields (codes "f") given))
     (option_map choice.Names (get Names (codes "i") given))
@@ -96,11 +97,11 @@ markers_meant given =
     (get Pattern (codes "o") given)) (option_map Labels (get Label (codes "s") given)))
 
 -- `-d`, or a space
-abbrev pub separator_meant : List Given → List ℕ
+abbrev pub separator_meant : {P : Type 0} → List (GivenOf P) → List ℕ
 separator_meant given = unwrap_or (get Text (codes "d") given) (codes " ")
 
 -- `-i` and `-o`, and `-d` or a space
-abbrev pub cleave_meant : List Given → Option cleave.Options
+abbrev pub cleave_meant : {P : Type 0} → List (GivenOf P) → Option cleave.Options
 cleave_meant given =
     both (λ name new_name. record {
       name = name;
@@ -120,25 +121,34 @@ mint_meant given = record {
 }
 
 -- `-x`, and `-t` or not
-abbrev pub semits_meant : List Given → Option SemitsOptions
+abbrev pub semits_meant : {P : Type 0} → List (GivenOf P) → Option SemitsOptions
 semits_meant given =
     if has (codes "x") given then Some (record { ties_left_out = has (codes "t") given }) else None
 
--- What the options that were given mean together: nothing where one that the command requires is
--- missing. The words of rid are no such options.
-abbrev pub meant : Command → List Given → Option Options
-meant command.Read given = None
-meant command.Assemble given = None
-meant command.Rid given = None
-meant command.Extract given = option_map Extract (choice_meant given)
-meant command.Ditto given = Some (Ditto (ditto_meant given))
-meant command.Timebase given = option_map Timebase (get Duration (codes "t") given)
-meant command.Context given =
+-- `-t`
+abbrev pub pace_meant : {P : Type 0} → List (GivenOf P) → Option Pace
+pace_meant given = get Duration (codes "t") given
+
+-- `-d` and `-c`
+abbrev pub trans_meant : {P : Type 0} → List (GivenOf P) → Option Options
+trans_meant given = both Trans (get Steps (codes "d") given) (get Semitones (codes "c") given)
+
+-- What the options of any command but cleave mean together. The words of rid are no such options.
+abbrev pub meant_by_kind : Command → List Given → Option Options
+meant_by_kind command.Extract given = option_map Extract (choice_meant given)
+meant_by_kind command.Ditto given = Some (Ditto (ditto_meant given))
+meant_by_kind command.Timebase given = option_map Timebase (pace_meant given)
+meant_by_kind command.Context given =
     option_map (λ span. Context span (get Pattern (codes "o") given)) (span_meant given)
-meant command.Trans given =
-    both Trans (get Steps (codes "d") given) (get Semitones (codes "c") given)
-meant command.Semits given = option_map Semits (semits_meant given)
-meant command.Mint given = Some (Mint (mint_meant given))
-meant command.Recip given = Some Recip
-meant command.Yank given = both Yank (markers_meant given) (get Ranges (codes "r") given)
+meant_by_kind command.Trans given = trans_meant given
+meant_by_kind command.Semits given = option_map Semits (semits_meant given)
+meant_by_kind command.Mint given = Some (Mint (mint_meant given))
+meant_by_kind command.Recip given = Some Recip
+meant_by_kind command.Yank given = both Yank (markers_meant given) (get Ranges (codes "r") given)
+meant_by_kind _ given = None
+
+-- What the options that were given mean together: nothing where one that the command requires is
+-- missing.
+abbrev pub meant : Command → List Given → Option Options
 meant command.Cleave given = option_map Cleave (cleave_meant given)
+meant kind given = meant_by_kind kind given

@@ -18,13 +18,13 @@ use Rattle.hum_options.specs.declared.reading.Turn.{Turn}
 use Rattle.hum_options.specs.declared.faults.OptionError.{OptionError}
 use Rattle.hum_options.specs.declared.faults.OptionError.TheVariants as failed
 use Rattle.hum_options.specs.declared.faults.OptionRule.TheVariants.{N10, N12}
-use Rattle.hum_options.specs.Values.{Value, Nothing, Fields, Names, Name, Text, Ranges, Label, Pattern, Count, Steps}
+use Rattle.hum_options.specs.Values.{ValueOf, Nothing, Fields, Names, Name, Text, Ranges, Label, Pattern, Count, Steps}
 use Rattle.hum_options.specs.Values.{Semitones, Duration, value_of, IsSound, IsRefused}
-use Rattle.hum_options.specs.Given.{Given}
+use Rattle.hum_options.specs.Given.{Given, GivenOf}
 use Rattle.hum_options.specs.Answers.{Word, Answer, Answers}
 
 -- a value, wherever its list or its text lies
-abbrev pub seen : WrittenValue → Value
+abbrev pub seen : {P : Type 0} → WrittenValue P → ValueOf P
 seen value.Nothing = Nothing
 seen (value.Fields ranges) = Fields ranges.items
 seen (value.Names names) = Names (texts names.items)
@@ -39,14 +39,14 @@ seen (value.Semitones semitones) = Semitones semitones.number
 seen (value.Duration options) = Duration (pace_of options)
 
 -- what was read is the value of the kind that the text is, unless memory ran out
-abbrev pub GivesValue : ValueKind → List ℕ → Result WrittenValue ValueError → Type 0
+abbrev pub GivesValue : ValueKind → List ℕ → Result (WrittenValue (List ℕ)) ValueError → Type 0
 GivesValue kind text (Ok value) = (value_of kind text ≡ Some (seen value)) × IsSound (seen value)
 GivesValue kind text (Err Grammar) = value_of kind text ≡ None
 GivesValue kind text (Err (Refused refusal)) =
     (value_of kind text ≡ Some (Pattern text)) × IsRefused refusal text
 GivesValue kind text (Err NoMemory) = Unit {0}
 
-abbrev pub given_of : GivenOption WrittenValue → Given
+abbrev pub given_of : {P : Type 0} → GivenOption (WrittenValue P) → GivenOf P
 given_of given = record { letter = given.letter; value = seen given.value }
 
 -- the words up to the next bar, with their numbers

@@ -18,20 +18,24 @@ use Rattle.hum_options.specs.declared.options.ValueKind.TheVariants as kind
 use Rattle.hum_options.specs.declared.faults.PatternRefusal.{PatternRefusal}
 use Rattle.hum_options.specs.declared.faults.PatternRefusal.TheVariants.{NoExpression, TooLarge}
 
--- An option that stands alone has nothing as its value.
-pub data Value : Type 0 where
-  Nothing : Value
-  Fields : List FieldRange → Value
-  Names : List (List ℕ) → Value
-  Name : List ℕ → Value
-  Text : List ℕ → Value
-  Ranges : List YankRange → Value
-  Label : List ℕ → Value
-  Pattern : List ℕ → Value
-  Count : ℕ → Value
-  Steps : ℤ → Value
-  Semitones : ℤ → Value
-  Duration : Pace → Value
+-- An option that stands alone has nothing as its value. P is what a pattern is.
+pub data ValueOf (P : Type 0) : Type 0 where
+  Nothing : ValueOf P
+  Fields : List FieldRange → ValueOf P
+  Names : List (List ℕ) → ValueOf P
+  Name : List ℕ → ValueOf P
+  Text : List ℕ → ValueOf P
+  Ranges : List YankRange → ValueOf P
+  Label : List ℕ → ValueOf P
+  Pattern : P → ValueOf P
+  Count : ℕ → ValueOf P
+  Steps : ℤ → ValueOf P
+  Semitones : ℤ → ValueOf P
+  Duration : Pace → ValueOf P
+
+-- a pattern is its text
+abbrev pub Value : Type 0
+Value = ValueOf (List ℕ)
 
 -- a step with its text
 abbrev pub paced : List ℕ → Ratio → Pace

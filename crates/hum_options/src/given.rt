@@ -1,14 +1,13 @@
 //! The options that were given, each with its value.
 ghost use Rattle.std.specs.Prelude.{◌≡◌, ◌==◌, ◌||◌, ◌++◌, [], ◌∷◌, is_some, position, OnOk};
 ghost use Rattle.std.specs.List.{list_any};
-ghost use Rattle.std.specs.Option.{option_map, option_and_then};
+ghost use Rattle.std.specs.Option.{option_map};
 ghost use Rattle.hum_options.specs.{Options.excludes, Answers.is_barred, Seen.seen};
-ghost use Rattle.hum_options.specs.Given.{value_at, AreKept, as_kind};
+ghost use Rattle.hum_options.specs.Given.{value_at, kind_at, AreKept};
 
 use crate::options::{ValueKind, excludes};
-use crate::values::{Name, Steps, Value};
+use crate::values::{Name, Separator, Steps, Value, of_kind};
 use hum_choices::{FieldRange, TokenCount, YankRange};
-use hum_pattern::Pattern;
 use hum_stage::Command;
 use std::alloc::{AllocError, Global};
 use std::marker::Model;
@@ -36,22 +35,22 @@ fn place_of<V>(entries: &[GivenOption<V>], letter: u8) -> Option<usize>
 
 /// The options that were given, in order.
 #[derive(Drop)]
-pub(crate) struct GivenOptions {
-    entries: Vec<GivenOption<Value>>,
+pub(crate) struct GivenOptions<P> {
+    entries: Vec<GivenOption<Value<P>>>,
 }
 
-impl Model for GivenOptions {
+impl<P> Model for GivenOptions<P> {
     ghost use Rattle.std.specs.Prelude.{List, map};
-    ghost use Rattle.hum_options.specs.{Given.Given, Seen.given_of};
+    ghost use Rattle.hum_options.specs.{Given.GivenOf, Seen.given_of};
 
-    ghost Value = { List Given };
+    ghost Value = { List (GivenOf P) };
 
     ghost view = { λ g. map given_of g.entries.items };
 }
 
-impl GivenOptions {
+impl<P: Drop> GivenOptions<P> {
     /// None so far.
-    pub(crate) fn new(alloc: Global) -> GivenOptions
+    pub(crate) fn new(alloc: Global) -> GivenOptions<P>
         ensures { result ≡ [] }
     {
         GivenOptions {
@@ -60,7 +59,7 @@ impl GivenOptions {
     }
 
     /// One more.
-    pub(crate) fn push(&mut self, letter: u8, value: Value) -> Result<(), AllocError>
+    pub(crate) fn push(&mut self, letter: u8, value: Value<P>) -> Result<(), AllocError>
         ensures { OnOk result (self.new
             ≡ self.old ++ record { letter = letter; value = seen value } ∷ []) }
     {
@@ -83,7 +82,7 @@ impl GivenOptions {
     }
 
     /// Takes out the value of the option of a letter, if it was given.
-    pub(crate) fn take(&mut self, letter: u8) -> Option<Value>
+    pub(crate) fn take(&mut self, letter: u8) -> Option<Value<P>>
         ensures value { option_map seen result ≡ value_at letter self.old }
         ensures others { AreKept letter self.old self.new }
     {
@@ -98,73 +97,57 @@ impl GivenOptions {
 
     /// Takes out the value of the option of a letter, if it was given and is of this kind.
     pub(crate) fn fields(&mut self, letter: u8) -> Option<Vec<FieldRange>>
-        ensures value { option_map (λ ranges. ranges.items) result
-            ≡ option_and_then (as_kind ValueKind.Fields) (value_at letter self.old) }
+        ensures value { option_map (λ ranges. ranges.items) result ≡ kind_at ValueKind.Fields letter self.old }
         ensures others { AreKept letter self.old self.new }
     {
-        match self.take(letter)? {
-            Value::Fields(found) => Some(found),
-            other => other.of_another_kind(),
-        }
+        of_kind!(self.take(letter)?, Fields)
     }
 
     /// Takes out the value of the option of a letter, if it was given and is of this kind.
     pub(crate) fn name(&mut self, letter: u8) -> Option<Name>
-        ensures value { option_map (λ name. name.text.items) result
-            ≡ option_and_then (as_kind ValueKind.Name) (value_at letter self.old) }
+        ensures value { option_map (λ name. name.text.items) result ≡ kind_at ValueKind.Name letter self.old }
         ensures others { AreKept letter self.old self.new }
     {
-        match self.take(letter)? {
-            Value::Name(found) => Some(found),
-            other => other.of_another_kind(),
-        }
+        of_kind!(self.take(letter)?, Name)
+    }
+
+    /// Takes out the value of the option of a letter, if it was given and is of this kind.
+    pub(crate) fn text(&mut self, letter: u8) -> Option<Separator>
+        ensures value { option_map (λ separator. separator.text.items) result ≡ kind_at ValueKind.Text letter self.old }
+        ensures others { AreKept letter self.old self.new }
+    {
+        of_kind!(self.take(letter)?, Text)
     }
 
     /// Takes out the value of the option of a letter, if it was given and is of this kind.
     pub(crate) fn ranges(&mut self, letter: u8) -> Option<Vec<YankRange>>
-        ensures value { option_map (λ ranges. ranges.items) result
-            ≡ option_and_then (as_kind ValueKind.Ranges) (value_at letter self.old) }
+        ensures value { option_map (λ ranges. ranges.items) result ≡ kind_at ValueKind.Ranges letter self.old }
         ensures others { AreKept letter self.old self.new }
     {
-        match self.take(letter)? {
-            Value::Ranges(found) => Some(found),
-            other => other.of_another_kind(),
-        }
+        of_kind!(self.take(letter)?, Ranges)
     }
 
     /// Takes out the value of the option of a letter, if it was given and is of this kind.
-    pub(crate) fn pattern(&mut self, letter: u8) -> Option<Pattern>
-        ensures value { result
-            ≡ option_and_then (as_kind ValueKind.Pattern) (value_at letter self.old) }
+    pub(crate) fn pattern(&mut self, letter: u8) -> Option<P>
+        ensures value { result ≡ kind_at ValueKind.Pattern letter self.old }
         ensures others { AreKept letter self.old self.new }
     {
-        match self.take(letter)? {
-            Value::Pattern(found) => Some(found),
-            other => other.of_another_kind(),
-        }
+        of_kind!(self.take(letter)?, Pattern)
     }
 
     /// Takes out the value of the option of a letter, if it was given and is of this kind.
     pub(crate) fn count(&mut self, letter: u8) -> Option<TokenCount>
-        ensures value { option_map (λ count. count.number) result
-            ≡ option_and_then (as_kind ValueKind.Count) (value_at letter self.old) }
+        ensures value { option_map (λ count. count.number) result ≡ kind_at ValueKind.Count letter self.old }
         ensures others { AreKept letter self.old self.new }
     {
-        match self.take(letter)? {
-            Value::Count(found) => Some(found),
-            other => other.of_another_kind(),
-        }
+        of_kind!(self.take(letter)?, Count)
     }
 
     /// Takes out the value of the option of a letter, if it was given and is of this kind.
     pub(crate) fn steps(&mut self, letter: u8) -> Option<Steps>
-        ensures value { option_map (λ steps. steps.number) result
-            ≡ option_and_then (as_kind ValueKind.Steps) (value_at letter self.old) }
+        ensures value { option_map (λ steps. steps.number) result ≡ kind_at ValueKind.Steps letter self.old }
         ensures others { AreKept letter self.old self.new }
     {
-        match self.take(letter)? {
-            Value::Steps(found) => Some(found),
-            other => other.of_another_kind(),
-        }
+        of_kind!(self.take(letter)?, Steps)
     }
 }

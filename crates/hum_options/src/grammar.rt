@@ -44,7 +44,7 @@ macro_rules! value_if {
     };
 }
 
-fn read_pattern(alloc: Global, text: &str) -> Result<Value, ValueError>
+fn read_pattern(alloc: Global, text: &str) -> Result<Value<Pattern>, ValueError>
     ensures { GivesValue ValueKind.Pattern text.now result }
 {
     match Pattern::new(alloc, text) {
@@ -56,7 +56,11 @@ fn read_pattern(alloc: Global, text: &str) -> Result<Value, ValueError>
 }
 
 /// The value of a kind that a text is.
-pub(crate) fn read_value(alloc: Global, kind: ValueKind, text: &str) -> Result<Value, ValueError>
+pub(crate) fn read_value(
+    alloc: Global,
+    kind: ValueKind,
+    text: &str,
+) -> Result<Value<Pattern>, ValueError>
     ensures { GivesValue kind text.now result }
 {
     let bytes = text.as_bytes();

@@ -58,9 +58,12 @@ fn small_number(text: &[u8], most: u8) -> Option<i32>
 fn read_signed(text: &[u8], most: u8) -> Option<i32>
     ensures { result ≡ signed_of most text.now }
 {
-    match text {
-        [b'+', digits @ ..] => small_number(digits, most),
-        [b'-', digits @ ..] => Some(-small_number(digits, most)?),
+    let [sign, digits @ ..] = text else {
+        return None;
+    };
+    match sign {
+        b'+' => small_number(digits, most),
+        b'-' => Some(-small_number(digits, most)?),
         _ => small_number(text, most),
     }
 }

@@ -1,18 +1,22 @@
 //! The options of each command, and what those that were given are together.
-ghost use Rattle.std.specs.Prelude.{◌≡◌, ◌||◌, IfOk, Some};
+ghost use Rattle.std.specs.Prelude.{◌≡◌, ◌||◌, IfOk, codes};
 ghost use Rattle.std.specs.Option.{option_map};
-ghost use Rattle.hum_choices.specs.Options.{span_of, markers_of, options_of};
+ghost use Rattle.hum_choices.specs.{Extract.choice_of, Timebase.pace_of};
+ghost use Rattle.hum_choices.specs.Options.{Context, Trans, Yank, span_of, markers_of, options_of};
 ghost use Rattle.hum_stage.specs.declared.faults.Command.TheVariants as command;
 ghost use Rattle.hum_options.specs.Answers.{is_alone};
 ghost use Rattle.hum_options.specs.Options.{table, is_spelled, option_of, excludes, are_in};
-ghost use Rattle.hum_options.specs.Options.{span_meant, markers_meant, separator_meant, meant};
+ghost use Rattle.hum_options.specs.Options.{choice_meant, ditto_meant, pace_meant, span_meant, trans_meant};
+ghost use Rattle.hum_options.specs.Options.{semits_meant, mint_meant, markers_meant, separator_meant};
+ghost use Rattle.hum_options.specs.{Options.cleave_meant, Options.meant_by_kind, Options.meant, Given.get};
 
 use crate::given::GivenOptions;
-use crate::values::{Separator, Value};
+use crate::values::{Separator, Value, of_kind};
 use hum_choices::{
     CleaveOptions, CommandOptions, ContextOptions, DittoOptions, ExtractOptions, Markers,
-    MintOptions, RecipOptions, SemitsOptions, Span, TransOptions, YankOptions,
+    MintOptions, RecipOptions, SemitsOptions, Span, TimebaseOptions, TransOptions, YankOptions,
 };
+use hum_pattern::Pattern;
 use hum_stage::Command;
 use std::alloc::{AllocError, Global};
 
@@ -146,38 +150,33 @@ impl ValueKind {
     }
 }
 
-fn extract(given: &mut GivenOptions) -> Option<CommandOptions>
-    ensures { option_map options_of result ≡ meant command.Extract given.old }
+fn extract<P: Drop>(given: &mut GivenOptions<P>) -> Option<ExtractOptions>
+    ensures { option_map choice_of result ≡ choice_meant given.old }
 {
-    match given.fields(b'f') {
-        Some(ranges) => Some(CommandOptions::Extract(ExtractOptions::Fields(ranges))),
-        None => match given.take(b'i')? {
-            Value::Names(names) => Some(CommandOptions::Extract(ExtractOptions::Names(names))),
-            other => other.of_another_kind(),
-        },
+    if let Some(ranges) = given.fields(b'f') {
+        return Some(ExtractOptions::Fields(ranges));
     }
+    let names = of_kind!(given.take(b'i')?, Names)?;
+    Some(ExtractOptions::Names(names))
 }
 
-fn ditto(given: &mut GivenOptions) -> CommandOptions
-    ensures { Some (options_of result) ≡ meant command.Ditto given.old }
+fn ditto(given: &mut GivenOptions<Pattern>) -> DittoOptions
+    ensures { result ≡ ditto_meant given.old }
 {
     let parentheses = given.has(b'p');
-    CommandOptions::Ditto(DittoOptions {
+    DittoOptions {
         skip: given.pattern(b's'),
         parentheses,
-    })
-}
-
-fn timebase(given: &mut GivenOptions) -> Option<CommandOptions>
-    ensures { option_map options_of result ≡ meant command.Timebase given.old }
-{
-    match given.take(b't')? {
-        Value::Duration(options) => Some(CommandOptions::Timebase(options)),
-        other => other.of_another_kind(),
     }
 }
 
-fn span(given: &mut GivenOptions) -> Option<Span>
+fn timebase<P: Drop>(given: &mut GivenOptions<P>) -> Option<TimebaseOptions>
+    ensures { option_map pace_of result ≡ pace_meant given.old }
+{
+    of_kind!(given.take(b't')?, Duration)
+}
+
+fn span(given: &mut GivenOptions<Pattern>) -> Option<Span>
     ensures { option_map span_of result ≡ span_meant given.old }
 {
     if let Some(count) = given.count(b'n') {
@@ -188,51 +187,57 @@ fn span(given: &mut GivenOptions) -> Option<Span>
     Some(Span::Phrase(begin, end))
 }
 
-fn context(given: &mut GivenOptions) -> Option<CommandOptions>
-    ensures { option_map options_of result ≡ meant command.Context given.old }
+fn context(given: &mut GivenOptions<Pattern>) -> Option<ContextOptions>
+    ensures { option_map (λ options. Context (span_of options.span) options.omit) result
+        ≡ meant command.Context given.old }
 {
     let omit = given.pattern(b'o');
     let span = span(given)?;
-    Some(CommandOptions::Context(ContextOptions { span, omit }))
+    Some(ContextOptions { span, omit })
 }
 
-fn trans(given: &mut GivenOptions) -> Option<CommandOptions>
-    ensures { option_map options_of result ≡ meant command.Trans given.old }
+fn trans<P: Drop>(given: &mut GivenOptions<P>) -> Option<TransOptions>
+    ensures { option_map (λ options. Trans options.steps options.semitones) result
+        ≡ trans_meant given.old }
 {
     let steps = given.steps(b'd')?;
-    match given.take(b'c')? {
-        Value::Semitones(semitones) => Some(CommandOptions::Trans(TransOptions {
-            steps: steps.number,
-            semitones: semitones.number,
-        })),
-        other => other.of_another_kind(),
-    }
+    let semitones = of_kind!(given.take(b'c')?, Semitones)?;
+    Some(TransOptions {
+        steps: steps.number,
+        semitones: semitones.number,
+    })
 }
 
-fn semits(given: &GivenOptions) -> Option<CommandOptions>
-    ensures { option_map options_of result ≡ meant command.Semits given.now }
+fn semits<P: Drop>(given: &GivenOptions<P>) -> Option<SemitsOptions>
+    ensures { result ≡ semits_meant given.now }
 {
     if given.has(b'x') {
         let ties_left_out = given.has(b't');
-        Some(CommandOptions::Semits(SemitsOptions { ties_left_out }))
+        Some(SemitsOptions { ties_left_out })
     } else {
         None
     }
 }
 
-fn mint(given: &mut GivenOptions) -> CommandOptions
-    ensures { Some (options_of result) ≡ meant command.Mint given.old }
+fn mint(given: &mut GivenOptions<Pattern>) -> MintOptions
+    ensures { result ≡ mint_meant given.old }
 {
     let signless = given.has(b'a');
     let sizeonly = given.has(b'd');
-    CommandOptions::Mint(MintOptions {
+    MintOptions {
         signless,
         sizeonly,
         breaks: given.pattern(b'b'),
-    })
+    }
 }
 
-fn markers(given: &mut GivenOptions) -> Option<Markers>
+fn label<P: Drop>(given: &mut GivenOptions<P>) -> Option<Vec<u8>>
+    ensures { option_map (λ label. label.items) result ≡ get ValueKind.Label (codes "s") given.old }
+{
+    of_kind!(given.take(b's')?, Label)
+}
+
+fn markers(given: &mut GivenOptions<Pattern>) -> Option<Markers>
     ensures { option_map markers_of result ≡ markers_meant given.old }
 {
     if given.has(b'l') {
@@ -245,31 +250,33 @@ fn markers(given: &mut GivenOptions) -> Option<Markers>
         let ends = given.pattern(b'e');
         return Some(Markers::Occurrences(begins, ends));
     }
-    match given.take(b's')? {
-        Value::Label(label) => Some(Markers::Labels(label)),
-        other => other.of_another_kind(),
-    }
+    let label = label(given)?;
+    Some(Markers::Labels(label))
 }
 
-fn yank(given: &mut GivenOptions) -> Option<CommandOptions>
-    ensures { option_map options_of result ≡ meant command.Yank given.old }
+fn yank(given: &mut GivenOptions<Pattern>) -> Option<YankOptions>
+    ensures { option_map (λ options. Yank (markers_of options.markers) options.ranges.items) result
+        ≡ meant command.Yank given.old }
 {
     let ranges = given.ranges(b'r')?;
     let markers = markers(given)?;
-    Some(CommandOptions::Yank(YankOptions { markers, ranges }))
+    Some(YankOptions { markers, ranges })
 }
 
-fn separator(alloc: Global, given: &mut GivenOptions) -> Result<Separator, AllocError>
+fn separator<P: Drop>(alloc: Global, given: &mut GivenOptions<P>) -> Result<Separator, AllocError>
     ensures { IfOk result (λ separator. separator.text.items ≡ separator_meant given.old) }
 {
-    match given.take(b'd') {
-        Some(Value::Text(separator)) => Ok(separator),
-        _ => Separator::space(alloc),
+    match given.text(b'd') {
+        Some(separator) => Ok(separator),
+        None => Separator::space(alloc),
     }
 }
 
-fn cleave(alloc: Global, given: &mut GivenOptions) -> Result<Option<CommandOptions>, AllocError>
-    ensures { IfOk result (λ found. option_map options_of found ≡ meant command.Cleave given.old) }
+fn cleave<P: Drop>(
+    alloc: Global,
+    given: &mut GivenOptions<P>,
+) -> Result<Option<CleaveOptions>, AllocError>
+    ensures { IfOk result (λ found. found ≡ cleave_meant given.old) }
 {
     let Some(name) = given.name(b'i') else {
         return Ok(None);
@@ -278,28 +285,40 @@ fn cleave(alloc: Global, given: &mut GivenOptions) -> Result<Option<CommandOptio
         return Ok(None);
     };
     let separator = separator(alloc, given)?;
-    Ok(Some(CommandOptions::Cleave(CleaveOptions::new(name.text, new_name.text, separator.text))))
+    Ok(Some(CleaveOptions::new(name.text, new_name.text, separator.text)))
+}
+
+/// What the options of any command but cleave are together, unless one is missing that it requires.
+fn put_by_kind(command: Command, given: &mut GivenOptions<Pattern>) -> Option<CommandOptions>
+    ensures { option_map options_of result ≡ meant_by_kind command given.old }
+{
+    match command {
+        Command::Extract => Some(CommandOptions::Extract(extract(given)?)),
+        Command::Ditto => Some(CommandOptions::Ditto(ditto(given))),
+        Command::Timebase => Some(CommandOptions::Timebase(timebase(given)?)),
+        Command::Context => Some(CommandOptions::Context(context(given)?)),
+        Command::Trans => Some(CommandOptions::Trans(trans(given)?)),
+        Command::Semits => Some(CommandOptions::Semits(semits(given)?)),
+        Command::Mint => Some(CommandOptions::Mint(mint(given))),
+        Command::Recip => Some(CommandOptions::Recip(RecipOptions)),
+        Command::Yank => Some(CommandOptions::Yank(yank(given)?)),
+        _ => None,
+    }
 }
 
 /// What the options that were given are together, unless one is missing that the command requires.
 pub(crate) fn put_together(
     alloc: Global,
     command: Command,
-    given: &mut GivenOptions,
+    given: &mut GivenOptions<Pattern>,
 ) -> Result<Option<CommandOptions>, AllocError>
     ensures { IfOk result (λ found. option_map options_of found ≡ meant command given.old) }
 {
-    match command {
-        Command::Read | Command::Assemble | Command::Rid => Ok(None),
-        Command::Extract => Ok(extract(given)),
-        Command::Ditto => Ok(Some(ditto(given))),
-        Command::Timebase => Ok(timebase(given)),
-        Command::Context => Ok(context(given)),
-        Command::Trans => Ok(trans(given)),
-        Command::Semits => Ok(semits(given)),
-        Command::Mint => Ok(Some(mint(given))),
-        Command::Recip => Ok(Some(CommandOptions::Recip(RecipOptions))),
-        Command::Yank => Ok(yank(given)),
-        Command::Cleave => cleave(alloc, given),
+    if command != Command::Cleave {
+        return Ok(put_by_kind(command, given));
+    }
+    match cleave(alloc, given)? {
+        Some(options) => Ok(Some(CommandOptions::Cleave(options))),
+        None => Ok(None),
     }
 }

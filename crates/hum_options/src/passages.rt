@@ -4,7 +4,7 @@ ghost use Rattle.std.specs.Option.{option_map};
 ghost use Rattle.hum_choices.specs.declared.yank.YankRange.{YankRange};
 ghost use Rattle.hum_options.specs.Numbers.{number_of, positive_of};
 ghost use Rattle.hum_options.specs.Passages.{ArePassages, passages_of, greatest, distance_of};
-ghost use Rattle.hum_options.specs.Passages.{through, by_distance, by_number};
+ghost use Rattle.hum_options.specs.Passages.{through, near_end, by_distance, by_number};
 ghost use Rattle.hum_options.specs.{Items.AreListed, Items.items_of, Read.IsReadAs};
 
 use crate::cutting::cut;
@@ -55,10 +55,22 @@ fn by_number(item: &[u8]) -> Option<YankRange>
     ensures { result ≡ by_number item.now }
 {
     let (before, rest) = cut(item, b'-');
-    let first = passage(before)?;
     match rest {
-        [] => Some(YankRange::Through { first, last: first }),
-        [_, end @ ..] => through(first, end),
+        [] => {
+            let first = passage(before)?;
+            Some(YankRange::Through { first, last: first })
+        }
+        [_, end @ ..] => through(passage(before)?, end),
+    }
+}
+
+/// The passages from so many before the last through what stands behind the dash.
+fn near_end(from: u32, end: &[u8]) -> Option<YankRange>
+    ensures { result ≡ near_end from (distance_of end.now) }
+{
+    match distance(end) {
+        Some(to) if to <= from => Some(YankRange::FromEnd { from, to }),
+        _ => None,
     }
 }
 
@@ -67,13 +79,12 @@ fn by_distance(text: &[u8]) -> Option<YankRange>
     ensures { result ≡ by_distance text.now }
 {
     let (before, rest) = cut(text, b'-');
-    let from = so_many(before)?;
     match rest {
-        [] => Some(YankRange::FromEnd { from, to: from }),
-        [_, end @ ..] => match distance(end) {
-            Some(to) if to <= from => Some(YankRange::FromEnd { from, to }),
-            _ => None,
-        },
+        [] => {
+            let from = so_many(before)?;
+            Some(YankRange::FromEnd { from, to: from })
+        }
+        [_, end @ ..] => near_end(so_many(before)?, end),
     }
 }
 

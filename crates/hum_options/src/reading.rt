@@ -12,6 +12,7 @@ use crate::letters::read_letters;
 use crate::options::{CommandOption, option_of, put_together};
 use crate::values::Value;
 use hum_choices::CommandOptions;
+use hum_pattern::Pattern;
 use hum_stage::Command;
 use hum_words::Piece;
 use std::alloc::Global;
@@ -26,7 +27,11 @@ enum Turn {
 }
 
 /// The option that a word is, if it may come behind those that were given.
-fn next_option(command: Command, given: &GivenOptions, word: &str) -> Option<CommandOption>
+fn next_option<P: Drop>(
+    command: Command,
+    given: &GivenOptions<P>,
+    word: &str,
+) -> Option<CommandOption>
     ensures { result ≡ next_option command given.now word.now }
 {
     let option = option_of(command, word.as_bytes())?;
@@ -57,7 +62,7 @@ fn value_fault(number: u32, error: ValueError) -> OptionError
 /// Takes a word as the value of an option.
 fn at_value(
     alloc: Global,
-    given: &mut GivenOptions,
+    given: &mut GivenOptions<Pattern>,
     option: CommandOption,
     number: u32,
     text: &str,
@@ -77,7 +82,7 @@ fn at_value(
 /// Takes a word as an option.
 fn at_option(
     command: Command,
-    given: &mut GivenOptions,
+    given: &mut GivenOptions<Pattern>,
     number: u32,
     word: &str,
 ) -> Result<Turn, OptionError>
@@ -100,7 +105,7 @@ fn at_option(
 fn at_word(
     alloc: Global,
     command: Command,
-    given: &mut GivenOptions,
+    given: &mut GivenOptions<Pattern>,
     turn: Turn,
     number: u32,
     word: &str,
@@ -118,13 +123,13 @@ fn at_end(
     alloc: Global,
     command: Command,
     number: u32,
-    mut given: GivenOptions,
+    given: &mut GivenOptions<Pattern>,
     turn: Turn,
 ) -> Result<CommandOptions, OptionError>
-    ensures { Tells (Answers command number given turn []) result }
+    ensures { Tells (Answers command number given.old turn []) result }
 {
     match turn {
-        Turn::Free => match put_together(alloc, command, &mut given)? {
+        Turn::Free => match put_together(alloc, command, given)? {
             Some(options) => Ok(options),
             None => Err(OptionError::Fault(OptionFault {
                 word: number,
@@ -154,10 +159,10 @@ fn read_given(
             Piece::Word(place, word) => {
                 turn = at_word(alloc, command, &mut given, turn, *place, word)?;
             }
-            Piece::Bar(_) => return at_end(alloc, command, number, given, turn),
+            Piece::Bar(_) => return at_end(alloc, command, number, &mut given, turn),
         }
     }
-    at_end(alloc, command, number, given, turn)
+    at_end(alloc, command, number, &mut given, turn)
 }
 
 /// The options of a command, as the words behind it give them, up to the next bar or the end. The

@@ -3,7 +3,6 @@ ghost use Rattle.std.specs.Prelude.{◌≡◌, ◌≤◌, None, nat_abs, true, c
 ghost use Rattle.hum_choices.specs.Cleave.{is_name, fits_in_token};
 
 use hum_choices::{FieldRange, TimebaseOptions, TokenCount, YankRange};
-use hum_pattern::Pattern;
 use std::alloc::{AllocError, Global};
 
 /// The name of an exclusive interpretation.
@@ -44,9 +43,10 @@ pub(crate) struct Semitones {
     ghost within: { nat_abs number ≤ 84 },
 }
 
-/// What an option was given.
+/// What an option was given. `P` is what patterns are: what is generic in it is proved without the types
+/// that a compiled pattern is made of.
 #[derive(Drop)]
-pub(crate) enum Value {
+pub(crate) enum Value<P> {
     /// nothing: it stands alone
     Nothing,
     Fields(Vec<FieldRange>),
@@ -55,14 +55,14 @@ pub(crate) enum Value {
     Text(Separator),
     Ranges(Vec<YankRange>),
     Label(Vec<u8>),
-    Pattern(Pattern),
+    Pattern(P),
     Count(TokenCount),
     Steps(Steps),
     Semitones(Semitones),
     Duration(TimebaseOptions),
 }
 
-impl Value {
+impl<P: Drop> Value<P> {
     /// Nothing, since the value is of another kind.
     pub(crate) fn of_another_kind<T>(self) -> Option<T>
         ensures { result ≡ None }
@@ -70,3 +70,15 @@ impl Value {
         None
     }
 }
+
+/// What a value has, if it is of this kind.
+macro_rules! of_kind {
+    ($value:expr, $kind:ident) => {
+        match $value {
+            Value::$kind(found) => Some(found),
+            other => other.of_another_kind(),
+        }
+    };
+}
+
+pub(crate) use of_kind;

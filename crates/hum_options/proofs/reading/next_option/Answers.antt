@@ -2,13 +2,13 @@ use Rattle.std.proofs.Common.{refl}
 use Rattle.hum_options.proofs.reading.next_option.Goals as goal
 
 pub returns-in_err-option : goal.returns-in_err-option
-returns-in_err-option c =
+returns-in_err-option g c =
     let lost = rw c.as_bytes.ensures.value at c.in_err-option.ensures in rw (c.from_residual.ensures, ← lost) refl
 
 pub returns-then-is_barred : goal.returns-then-is_barred
-returns-then-is_barred c =
+returns-then-is_barred g c =
     let found = rw c.as_bytes.ensures.value at c.in_ok-option.ensures in rw (← found, ← c.if-is_barred.ensures) refl
 
 pub returns-else-is_barred : goal.returns-else-is_barred
-returns-else-is_barred c =
+returns-else-is_barred g c =
     let found = rw c.as_bytes.ensures.value at c.in_ok-option.ensures in rw (← found, ← c.if-is_barred.ensures) refl
