@@ -1,6 +1,6 @@
 //! Why words give no options.
 ghost use Rattle.std.specs.Prelude.{◌≡◌};
-ghost use Rattle.hum_options.specs.declared.faults.OptionError.TheVariants.{Memory};
+ghost use Rattle.hum_options.specs.declared.faults.OptionError.TheVariants.{Fault, Memory};
 
 use std::alloc::AllocError;
 use thiserror::Error;
@@ -61,4 +61,11 @@ impl From<AllocError> for OptionError {
     fn from(_e: AllocError) -> OptionError {
         OptionError::Memory
     }
+}
+
+/// A rule that is broken at a word.
+pub(crate) fn broken(word: u32, rule: OptionRule) -> OptionError
+    ensures { result ≡ Fault (record { word = word; rule = rule }) }
+{
+    OptionError::Fault(OptionFault { word, rule })
 }

@@ -86,16 +86,13 @@ impl<P: Drop> GivenOptions<P> {
         ensures value { option_map seen result ≡ value_at letter self.old }
         ensures others { AreKept letter self.old self.new }
     {
-        match place_of(&self.entries, letter) {
-            Some(place) => {
-                let GivenOption { letter: _, value } = self.entries.remove(place);
-                Some(value)
-            }
-            None => None,
-        }
+        let place = place_of(&self.entries, letter)?;
+        let GivenOption { letter: _, value } = self.entries.remove(place);
+        Some(value)
     }
 
-    /// Takes out the value of the option of a letter, if it was given and is of this kind.
+    // Each of these takes out the value of the option of a letter, if it was given and is of the kind.
+
     pub(crate) fn fields(&mut self, letter: u8) -> Option<Vec<FieldRange>>
         ensures value { option_map (λ ranges. ranges.items) result ≡ kind_at ValueKind.Fields letter self.old }
         ensures others { AreKept letter self.old self.new }
@@ -103,7 +100,6 @@ impl<P: Drop> GivenOptions<P> {
         of_kind!(self.take(letter)?, Fields)
     }
 
-    /// Takes out the value of the option of a letter, if it was given and is of this kind.
     pub(crate) fn name(&mut self, letter: u8) -> Option<Name>
         ensures value { option_map (λ name. name.text.items) result ≡ kind_at ValueKind.Name letter self.old }
         ensures others { AreKept letter self.old self.new }
@@ -111,7 +107,6 @@ impl<P: Drop> GivenOptions<P> {
         of_kind!(self.take(letter)?, Name)
     }
 
-    /// Takes out the value of the option of a letter, if it was given and is of this kind.
     pub(crate) fn text(&mut self, letter: u8) -> Option<Separator>
         ensures value { option_map (λ separator. separator.text.items) result ≡ kind_at ValueKind.Text letter self.old }
         ensures others { AreKept letter self.old self.new }
@@ -119,7 +114,6 @@ impl<P: Drop> GivenOptions<P> {
         of_kind!(self.take(letter)?, Text)
     }
 
-    /// Takes out the value of the option of a letter, if it was given and is of this kind.
     pub(crate) fn ranges(&mut self, letter: u8) -> Option<Vec<YankRange>>
         ensures value { option_map (λ ranges. ranges.items) result ≡ kind_at ValueKind.Ranges letter self.old }
         ensures others { AreKept letter self.old self.new }
@@ -127,7 +121,6 @@ impl<P: Drop> GivenOptions<P> {
         of_kind!(self.take(letter)?, Ranges)
     }
 
-    /// Takes out the value of the option of a letter, if it was given and is of this kind.
     pub(crate) fn pattern(&mut self, letter: u8) -> Option<P>
         ensures value { result ≡ kind_at ValueKind.Pattern letter self.old }
         ensures others { AreKept letter self.old self.new }
@@ -135,7 +128,6 @@ impl<P: Drop> GivenOptions<P> {
         of_kind!(self.take(letter)?, Pattern)
     }
 
-    /// Takes out the value of the option of a letter, if it was given and is of this kind.
     pub(crate) fn count(&mut self, letter: u8) -> Option<TokenCount>
         ensures value { option_map (λ count. count.number) result ≡ kind_at ValueKind.Count letter self.old }
         ensures others { AreKept letter self.old self.new }
@@ -143,7 +135,6 @@ impl<P: Drop> GivenOptions<P> {
         of_kind!(self.take(letter)?, Count)
     }
 
-    /// Takes out the value of the option of a letter, if it was given and is of this kind.
     pub(crate) fn steps(&mut self, letter: u8) -> Option<Steps>
         ensures value { option_map (λ steps. steps.number) result ≡ kind_at ValueKind.Steps letter self.old }
         ensures others { AreKept letter self.old self.new }

@@ -2,12 +2,12 @@
 ghost use Rattle.std.specs.Prelude.{◌≡◌, map};
 ghost use Rattle.std.specs.List.{list_all};
 ghost use Rattle.hum_options.specs.Letters.{letters, is_among, is_letter_word};
-ghost use Rattle.hum_options.specs.Letters.{has_letter, drops, dropped};
+ghost use Rattle.hum_options.specs.Letters.{drops, dropped};
 ghost use Rattle.hum_options.specs.Answers.{has_none, word_fault, rid_fault, text_of_word};
 ghost use Rattle.hum_options.specs.Answers.{rid_answer};
 ghost use Rattle.hum_options.specs.Seen.{words_of, Tells};
 
-use crate::faults::{OptionError, OptionFault, OptionRule};
+use crate::faults::{OptionError, OptionFault, OptionRule, broken};
 use hum_choices::{CommandOptions, RidOptions};
 use hum_words::Piece;
 
@@ -33,12 +33,6 @@ fn is_letter_word(word: &[u8]) -> bool
     }
 }
 
-fn has_letter(letter: u8, word: &[u8]) -> bool
-    ensures { result ≡ has_letter letter word.now }
-{
-    word.contains(&letter)
-}
-
 /// The fault of a word, if it has one.
 fn word_fault(is_last: bool, number: u32, word: &[u8]) -> Option<OptionFault>
     ensures { result ≡ word_fault is_last (number, word.now) }
@@ -48,7 +42,7 @@ fn word_fault(is_last: bool, number: u32, word: &[u8]) -> Option<OptionFault>
             word: number,
             rule: OptionRule::N8,
         })
-    } else if !is_last && has_letter(b'I', word) {
+    } else if !is_last && word.contains(&b'I') {
         Some(OptionFault {
             word: number,
             rule: OptionRule::N11,
@@ -82,7 +76,7 @@ fn drops(letter: u8, pieces: &[Piece<'_>]) -> bool
     for piece in pieces {
         match piece {
             Piece::Word(_, word) => {
-                if has_letter(letter, word.as_bytes()) {
+                if word.as_bytes().contains(&letter) {
                     return true;
                 }
             }
@@ -127,10 +121,7 @@ pub(crate) fn read_letters(
     ensures { Tells (λ answer. answer ≡ rid_answer number is_last (words_of pieces.now)) result }
 {
     if has_none(pieces) {
-        return Err(OptionError::Fault(OptionFault {
-            word: number,
-            rule: OptionRule::N9,
-        }));
+        return Err(broken(number, OptionRule::N9));
     }
     match first_fault(is_last, pieces) {
         Some(found) => Err(OptionError::Fault(found)),

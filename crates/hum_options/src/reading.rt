@@ -5,7 +5,7 @@ ghost use Rattle.hum_options.specs.declared.reading.Turn.TheVariants.{Free, Awai
 ghost use Rattle.hum_options.specs.Answers.{next_option, Answers, IsAnswer};
 ghost use Rattle.hum_options.specs.Seen.{words_of, value_fault, Takes, Tells};
 
-use crate::faults::{OptionError, OptionFault, OptionRule};
+use crate::faults::{OptionError, OptionRule, broken};
 use crate::given::GivenOptions;
 use crate::grammar::{ValueError, read_value};
 use crate::letters::read_letters;
@@ -47,14 +47,8 @@ fn value_fault(number: u32, error: ValueError) -> OptionError
     ensures { result ≡ value_fault number error }
 {
     match error {
-        ValueError::Grammar => OptionError::Fault(OptionFault {
-            word: number,
-            rule: OptionRule::N10,
-        }),
-        ValueError::Pattern(refusal) => OptionError::Fault(OptionFault {
-            word: number,
-            rule: OptionRule::N12(refusal),
-        }),
+        ValueError::Grammar => broken(number, OptionRule::N10),
+        ValueError::Pattern(refusal) => broken(number, OptionRule::N12(refusal)),
         ValueError::Memory => OptionError::Memory,
     }
 }
@@ -89,10 +83,7 @@ fn at_option(
     ensures { Takes command number word.now given.old Free given.new result }
 {
     let Some(option) = next_option(command, given, word) else {
-        return Err(OptionError::Fault(OptionFault {
-            word: number,
-            rule: OptionRule::N8,
-        }));
+        return Err(broken(number, OptionRule::N8));
     };
     if option.kind.is_alone() {
         given.push(option.letter, Value::Nothing)?;
@@ -131,15 +122,9 @@ fn at_end(
     match turn {
         Turn::Free => match put_together(alloc, command, given)? {
             Some(options) => Ok(options),
-            None => Err(OptionError::Fault(OptionFault {
-                word: number,
-                rule: OptionRule::N9,
-            })),
+            None => Err(broken(number, OptionRule::N9)),
         },
-        Turn::Awaits(place, _) => Err(OptionError::Fault(OptionFault {
-            word: place,
-            rule: OptionRule::N9,
-        })),
+        Turn::Awaits(place, _) => Err(broken(place, OptionRule::N9)),
     }
 }
 

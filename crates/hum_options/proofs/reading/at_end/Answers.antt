@@ -4,7 +4,7 @@ use Rattle.hum_options.proofs.reading.at_end.Goals as goal
 
 pub returns-in-Awaits : goal.returns-in-Awaits
 unfolding Answers
-returns-in-Awaits c = rw c.in-Awaits.is refl
+returns-in-Awaits c = rw (c.broken-in-Awaits.ensures, c.in-Awaits.is) refl
 
 pub returns-in-Some : goal.returns-in-Some
 unfolding Answers
@@ -16,4 +16,4 @@ pub returns-in-None : goal.returns-in-None
 unfolding Answers
 returns-in-None c =
     let found = rw c.in-None.is at c.in_ok-options-in-Free.ensures in
-    rw c.in-Free.is (ap (together c.args.number) found)
+    rw (c.broken.ensures, c.in-Free.is) (ap (together c.args.number) found)

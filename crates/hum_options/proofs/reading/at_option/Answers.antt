@@ -4,7 +4,7 @@ use Rattle.hum_options.proofs.reading.at_option.Goals as goal
 
 pub returns-in_default : goal.returns-in_default
 unfolding Answers
-returns-in_default c = λ n words. rw (← c.in_default.ensures) refl
+returns-in_default c = λ n words. rw (c.broken.ensures, ← c.in_default.ensures) refl
 
 pub returns-in_ok-push : goal.returns-in_ok-push
 unfolding Answers
