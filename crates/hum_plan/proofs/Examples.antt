@@ -46,10 +46,6 @@ no_words : Breaks (codes "out:") (broken 1 1 N5)
 unfolding LinesAnswer lines_of branches_from trimmed cut
 no_words = (Err (broken 1 1 N5), refl, refl)
 
--- a fault of a first stage
-first_stage : (fault : PlanFault) → Outcome Outline
-first_stage fault = Err fault
-
 mint_first : Breaks (codes "out: mint") (broken 1 2 N6)
 unfolding LinesAnswer lines_of branches_from trimmed cut StagesAnswer command_of
 mint_first = (Err (broken 1 2 N6), (Err (broken 1 2 N6), (Err (broken 1 2 N6), refl, refl), refl), refl)

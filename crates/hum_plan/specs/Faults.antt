@@ -5,6 +5,10 @@ use Rattle.hum_words.specs.declared.text.PlanTextFault.TheVariants.{TooLong, Not
 use Rattle.hum_options.specs.declared.faults.OptionRule.{OptionRule}
 use Rattle.hum_options.specs.declared.faults.OptionRule.TheVariants as option
 use Rattle.hum_options.specs.declared.faults.OptionFault.{OptionFault}
+use Rattle.hum_options.specs.declared.faults.OptionError.{OptionError}
+use Rattle.hum_options.specs.declared.faults.OptionError.TheVariants as failed
+use Rattle.hum_plan.specs.declared.faults.PlanError.{PlanError}
+use Rattle.hum_plan.specs.declared.faults.PlanError.TheVariants.{Fault, Memory}
 use Rattle.hum_plan.specs.declared.faults.PlanRule.{PlanRule}
 use Rattle.hum_plan.specs.declared.faults.PlanRule.TheVariants.{N1, N2, N3, N4, N5, N6, N7, N8}
 use Rattle.hum_plan.specs.declared.faults.PlanRule.TheVariants.{N9, N10, N11, N12}
@@ -46,6 +50,11 @@ rule_of (option.N12 refusal) = N12
 -- a fault of these words, in their line
 abbrev pub in_line : ℕ → OptionFault → PlanFault
 in_line line found = broken line found.word (rule_of found.rule)
+
+-- and so is running out of memory there
+abbrev pub error_in_line : ℕ → OptionError → PlanError
+error_in_line line (failed.Fault found) = Fault (in_line line found)
+error_in_line line failed.Memory = Memory
 
 -- a plan that is too long is broken in its first line
 abbrev pub of_text : PlanTextFault → PlanFault

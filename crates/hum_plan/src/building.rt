@@ -14,7 +14,7 @@ use crate::branches::{Branch, Branches};
 use crate::draft::Draft;
 use crate::faults::{PlanError, PlanRule, broken, in_line};
 use crate::stages::{Options, PlanStage};
-use hum_options::{OptionError, read_options};
+use hum_options::read_options;
 use hum_stage::Command;
 use hum_words::Piece;
 use std::alloc::{AllocError, Global};
@@ -48,6 +48,28 @@ impl StagePlace {
             is_last: is_out && behind.is_none(),
         }
     }
+}
+
+/// The name of the score behind `read`, which is word `number`.
+fn read_name(
+    alloc: Global,
+    line: u32,
+    number: u32,
+    pieces: &[Piece<'_>],
+) -> Result<String, PlanError>
+    ensures { Tells string_bytes
+        (λ answer. answer ≡ name_read line number (words_of pieces.now)) result }
+{
+    let [Piece::Word(place, name), rest @ ..] = pieces else {
+        return Err(broken(line, number, PlanRule::N9));
+    };
+    if name.is_empty() {
+        return Err(broken(line, *place, PlanRule::N10));
+    }
+    if let [Piece::Word(extra, _), ..] = rest {
+        return Err(broken(line, *extra, PlanRule::N8));
+    }
+    Ok(String::from_str(alloc, name)?)
 }
 
 /// Takes a branch, whose last stage is one source more.
@@ -176,30 +198,13 @@ impl<'a> Draft<'a> {
         Ok(())
     }
 
-    /// The name of the score behind `read`, which is word `number`.
-    fn read_name(&self, line: u32, number: u32, pieces: &[Piece<'_>]) -> Result<String, PlanError>
-        ensures { Tells string_bytes
-            (λ answer. answer ≡ name_read line number (words_of pieces.now)) result }
-    {
-        let [Piece::Word(place, name), rest @ ..] = pieces else {
-            return Err(broken(line, number, PlanRule::N9));
-        };
-        if name.is_empty() {
-            return Err(broken(line, *place, PlanRule::N10));
-        }
-        if let [Piece::Word(extra, _), ..] = rest {
-            return Err(broken(line, *extra, PlanRule::N8));
-        }
-        Ok(String::from_str(self.alloc, name)?)
-    }
-
     /// The stage `read`, which is word `number`.
     fn add_read(&mut self, line: u32, number: u32, pieces: &[Piece<'a>]) -> Result<(), PlanError>
         requires { length self.old.stages.items < 64 }
         ensures { Tells (λ _. outline_of self.new) (λ answer. answer
             ≡ with_read (outline_of self.old) (name_read line number (words_of pieces.entry.now))) result }
     {
-        let name = self.read_name(line, number, pieces)?;
+        let name = read_name(self.alloc, line, number, pieces)?;
         self.push(Command::Read, Vec::new(self.alloc), Options::Read(name))?;
         Ok(())
     }
@@ -236,10 +241,7 @@ impl<'a> Draft<'a> {
         let sources = one_source(self.alloc, self.stages.len() as u8)?;
         let options = match read_options(self.alloc, command, number, pieces, place.is_last) {
             Ok(options) => options,
-            Err(OptionError::Fault(found)) => {
-                return Err(PlanError::Fault(in_line(place.line, found)));
-            }
-            Err(OptionError::Memory) => return Err(PlanError::Memory),
+            Err(error) => return Err(in_line(place.line, error)),
         };
         self.push(command, sources, Options::Command(options))?;
         Ok(())
@@ -264,38 +266,24 @@ impl<'a> Draft<'a> {
         }
     }
 
-    /// The stage whose first word, word `number`, should be a command.
-    fn add_word(
-        &mut self,
-        place: StagePlace,
-        number: u32,
-        word: &str,
-        pieces: &[Piece<'a>],
-    ) -> Result<(), PlanError>
-        ensures { Tells (λ _. outline_of self.new) (StageAnswer place.line place.is_first place.is_last
-            (outline_of self.old) ((number, word.now) ∷ words_of pieces.entry.now)) result }
-    {
-        if self.is_full() {
-            return Err(broken(place.line, number, PlanRule::N11));
-        }
-        let Some(command) = Command::of_word(word) else {
-            return Err(broken(place.line, number, PlanRule::N7));
-        };
-        if is_source(command) == place.is_first {
-            self.begin(place, command, number, pieces)
-        } else {
-            Err(broken(place.line, number, PlanRule::N6))
-        }
-    }
-
-    /// The stage that pieces begin with.
+    /// The stage that pieces begin with: its first word should be a command.
     fn add_stage(&mut self, place: StagePlace, pieces: &[Piece<'a>]) -> Result<(), PlanError>
         ensures { Tells (λ _. outline_of self.new) (StageAnswer place.line place.is_first place.is_last
             (outline_of self.old) (words_of pieces.entry.now)) result }
     {
-        match pieces {
-            [Piece::Word(number, word), rest @ ..] => { self.add_word(place, *number, word, rest) }
-            _ => Ok(()),
+        let [Piece::Word(number, word), rest @ ..] = pieces else {
+            return Ok(());
+        };
+        if self.is_full() {
+            return Err(broken(place.line, *number, PlanRule::N11));
+        }
+        let Some(command) = Command::of_word(word) else {
+            return Err(broken(place.line, *number, PlanRule::N7));
+        };
+        if is_source(command) == place.is_first {
+            self.begin(place, command, *number, rest)
+        } else {
+            Err(broken(place.line, *number, PlanRule::N6))
         }
     }
 

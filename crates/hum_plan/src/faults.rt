@@ -1,9 +1,9 @@
 //! The rules of a plan, and where one was broken.
 ghost use Rattle.std.specs.Prelude.{◌≡◌, Some};
 ghost use Rattle.hum_plan.specs.declared.faults.PlanError.TheVariants.{Fault, Memory};
-ghost use Rattle.hum_plan.specs.Faults.{code_of, line_of_fault, rule_of, in_line, of_text, broken};
+ghost use Rattle.hum_plan.specs.Faults.{code_of, line_of_fault, rule_of, error_in_line, of_text, broken};
 
-use hum_options::{OptionFault, OptionRule};
+use hum_options::{OptionError, OptionRule};
 use hum_words::PlanTextFault;
 use std::alloc::AllocError;
 use std::fmt;
@@ -111,14 +111,13 @@ fn rule_of(rule: OptionRule) -> PlanRule
     }
 }
 
-/// The fault of a plan's words in their line.
-pub(crate) fn in_line(line: u32, found: OptionFault) -> PlanFault
-    ensures { result ≡ in_line line found }
+/// Why the words behind a command give no options, in their line.
+pub(crate) fn in_line(line: u32, error: OptionError) -> PlanError
+    ensures { result ≡ error_in_line line error }
 {
-    PlanFault {
-        line,
-        word: found.word,
-        rule: rule_of(found.rule),
+    match error {
+        OptionError::Fault(found) => broken(line, found.word, rule_of(found.rule)),
+        OptionError::Memory => PlanError::Memory,
     }
 }
 

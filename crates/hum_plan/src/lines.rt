@@ -1,13 +1,13 @@
 //! The lines of a plan, one after another.
 ghost use Rattle.std.specs.Prelude.{◌≡◌, ◌≤◌, true, length, OnOk, Some};
-ghost use Rattle.hum_words.specs.{Branches.branches_of, Cutting.cut_line, Names.name_in};
+ghost use Rattle.hum_words.specs.{Branches.branches_of, Cutting.cut_line};
 ghost use Rattle.hum_words.specs.{Pieces.items_of};
 ghost use Rattle.hum_words.specs.Pieces as item;
 ghost use Rattle.hum_plan.specs.{Lines.empty_stage, Tells.Tells, Tells.outline_of};
 ghost use Rattle.hum_plan.specs.Answers.{name_fault, ended, nothing, NameAnswer, BranchAnswer};
 ghost use Rattle.hum_plan.specs.Answers.{CutAnswer, LinesAnswer};
 
-use crate::branches::Branch;
+use crate::branches::{Branch, Branches};
 use crate::draft::Draft;
 use crate::faults::{PlanError, PlanFault, PlanRule, broken};
 use hum_words::{LONGEST_PLAN, Line, Lines, Piece, WordFault, name_of, pieces};
@@ -45,23 +45,26 @@ fn empty_stage(pieces: &[Piece<'_>]) -> Option<u32>
     if lacks { Some(last) } else { None }
 }
 
-impl<'a> Draft<'a> {
-    /// The first of a line's own rules that it breaks behind its name.
-    fn name_fault(&self, line: u32, name: &str, pieces: &[Piece<'_>]) -> Option<PlanFault>
-        ensures { result ≡ name_fault line self.now.branches name.now (items_of pieces.now) }
-    {
-        let (word, rule) = if self.branches.get(OUT).is_some()
-            || self.branches.get(name).is_some()
-        {
-            (1, PlanRule::N4)
-        } else if self.branches.len() >= MOST_BRANCHES {
-            (1, PlanRule::N11)
-        } else {
-            (empty_stage(pieces)?, PlanRule::N5)
-        };
-        Some(PlanFault { line, word, rule })
-    }
+/// The first of a line's own rules that it breaks behind its name.
+fn name_fault(
+    line: u32,
+    branches: &Branches<'_>,
+    name: &str,
+    pieces: &[Piece<'_>],
+) -> Option<PlanFault>
+    ensures { result ≡ name_fault line branches.now name.now (items_of pieces.now) }
+{
+    let (word, rule) = if branches.get(OUT).is_some() || branches.get(name).is_some() {
+        (1, PlanRule::N4)
+    } else if branches.len() >= MOST_BRANCHES {
+        (1, PlanRule::N11)
+    } else {
+        (empty_stage(pieces)?, PlanRule::N5)
+    };
+    Some(PlanFault { line, word, rule })
+}
 
+impl<'a> Draft<'a> {
     /// Ends the branch of a line: its last stage is the last so far.
     fn end(&mut self, line: u32, name: &'a str) -> Result<(), AllocError>
         ensures { OnOk result (outline_of self.new
@@ -80,7 +83,7 @@ impl<'a> Draft<'a> {
         ensures { Tells (λ _. outline_of self.new) (NameAnswer line (outline_of self.old)
             (items_of pieces.entry.now) (Some name.entry.now)) result }
     {
-        if let Some(fault) = self.name_fault(line, name, pieces) {
+        if let Some(fault) = name_fault(line, &self.branches, name, pieces) {
             return Err(PlanError::Fault(fault));
         }
         self.add_stages(line, name == OUT, pieces)?;
@@ -88,24 +91,16 @@ impl<'a> Draft<'a> {
         Ok(())
     }
 
-    /// The branch whose first word should be a name and a colon.
-    fn add_first(&mut self, line: u32, word: &'a str, pieces: &[Piece<'a>]) -> Result<(), PlanError>
-        ensures { Tells (λ _. outline_of self.new) (NameAnswer line (outline_of self.old)
-            (items_of pieces.entry.now) (name_in word.entry.now)) result }
-    {
-        match name_of(word) {
-            Some(name) => self.add_named(line, name, pieces),
-            None => Err(broken(line, 1, PlanRule::N3)),
-        }
-    }
-
-    /// The branch that pieces are.
+    /// The branch that pieces are, whose first word should be a name and a colon.
     fn add_branch(&mut self, line: u32, pieces: &[Piece<'a>]) -> Result<(), PlanError>
         ensures { Tells (λ _. outline_of self.new)
             (BranchAnswer line (outline_of self.old) (items_of pieces.entry.now)) result }
     {
         match pieces {
-            [Piece::Word(_, word), rest @ ..] => self.add_first(line, word, rest),
+            [Piece::Word(_, word), rest @ ..] => match name_of(word) {
+                Some(name) => self.add_named(line, name, rest),
+                None => Err(broken(line, 1, PlanRule::N3)),
+            },
             _ => Err(broken(line, 1, PlanRule::N3)),
         }
     }
