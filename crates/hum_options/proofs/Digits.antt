@@ -15,11 +15,6 @@ use Rattle.hum_record.specs.Spelling.{has_byte}
 use Rattle.hum_options.specs.Numbers.{IsNumber, IsPositive, is_plain, digits_of, number_of, positive_of, above_zero}
 use Rattle.hum_options.proofs.Choices.{chosen}
 
--- a number that is too great
-too_great : (most : ℕ) (text : List ℕ) → most < number_from 0 text → None ≡ digits_of most text
-too_great most text over =
-    rw (and_right (all_ascii_digits text) (nat_le (number_from 0 text) most) (lt-leb _ _ over)) refl
-
 -- one digit more makes it too great, and others don't help
 pub goes_over : (most n : ℕ) (text : List ℕ) (i : ℕ) → i < length text
     → number_from n (drop i text) ≡ number_from 0 text → most < 10 * n + (get_or text i 0 - 48)
@@ -28,7 +23,7 @@ goes_over most n text i within is over =
     let next : drop i text ≡ get_or text i 0 ∷ drop (suc i) text = drop-cons text i 0 within in
     let more = number_from-le (10 * n + (get_or text i 0 - 48)) (drop (suc i) text) in
     let same : number_from n (get_or text i 0 ∷ drop (suc i) text) ≡ number_from 0 text = rw next at is in
-    too_great most text (omega (arith, over, more, same))
+    rw (and_right (all_ascii_digits text) _ (lt-leb (number_from 0 text) most (omega (arith, over, more, same)))) refl
 
 record IsPlain (text : List ℕ) : Type 0 where
   filled : 0 < length text

@@ -1,11 +1,12 @@
 -- Fields, as an item of a list names them.
-use Rattle.std.proofs.Common.{◌≡◌, ◌<◌, ◌==◌, refl, ap, ◌∙◌, ℕ, true, false}
+use Rattle.std.proofs.Common.{◌≡◌, ◌<◌, refl, ◌∙◌, ℕ, true, false}
 use Rattle.std.proofs.Common.{List, [], ◌∷◌, ◌++◌, None, Some, Option, lit<}
 use Rattle.std.specs.Prelude.{nat_le}
 use Rattle.std.specs.Str.{all_ascii_digits, bytes_eq}
 use lib.Chars.{codes}
-use Rattle.std.proofs.lemmas.Bool.{and_parts, eqb-true, leb-true, le-leb}
+use Rattle.std.proofs.lemmas.Bool.{leb-true, le-leb}
 use Rattle.std.proofs.lemmas.List.{append-nil}
+use Rattle.std.proofs.lemmas.Slice.Eq.{bytes_eq-Decides}
 use Rattle.hum_choices.specs.declared.extract.FieldRange.{FieldRange}
 use Rattle.hum_record.specs.Spelling.{has_byte}
 use Rattle.hum_path.proofs.Cases.{by_bool}
@@ -22,11 +23,6 @@ count_is text n e = positive_is (lit< tt) e
 pub count_alone : (text : List ℕ) (n : ℕ) → IsCount text n → count_of text ≡ Some n
 count_alone text n h = positive_alone (lit< tt) h
 
-is_dollar : (text : List ℕ) → bytes_eq text (codes "$") ≡ true → text ≡ codes "$"
-is_dollar [] w = cc
-is_dollar (b ∷ []) w = ap (λ (x : ℕ). x ∷ []) (eqb-true b 36 (and_parts (b == 36) true w).0)
-is_dollar (b ∷ c ∷ text) w = let tests = and_parts (b == 36) false w in let f : false ≡ true = tests.1 in cc
-
 -- behind a dash
 behind_are : (a b : List ℕ) (m : ℕ) (range : FieldRange) → IsCount a m → from_number b (Some m) ≡ Some range
     → AreFields (a ++ (codes "-" ++ b)) range
@@ -36,7 +32,7 @@ behind_are a b m range h e = by_bool (bytes_eq b (codes "$")) to_the_last (λ w.
     to_the_last w =
         let told : Some (onward m) ≡ Some range = rw w at e in
         let same : range ≡ onward m = cc in
-        rw (is_dollar b w, same) (to_last h)
+        rw ((bytes_eq-Decides b (codes "$")).0 w, same) (to_last h)
 
     between : (o : Option ℕ) → count_of b ≡ o → in_order m o ≡ Some range → AreFields (a ++ (codes "-" ++ b)) range
     between None was none = cc
@@ -53,7 +49,7 @@ by_dash_are a [] begins range e = rw append-nil (by_bool (bytes_eq a (codes "$")
     the_last w =
         let told : Some last_field ≡ Some range = rw w at e in
         let same : range ≡ last_field = cc in
-        rw (is_dollar a w, same) last
+        rw ((bytes_eq-Decides a (codes "$")).0 w, same) last
 
     one_field : bytes_eq a (codes "$") ≡ false → AreFields a range
     one_field w =

@@ -4,7 +4,7 @@ use Rattle.std.proofs.Common.{◌++◌, length, Option, None, Some, is_some, is_
 use Rattle.std.proofs.Common.{arith, option_map, slice_index, ◌-◌}
 use Rattle.std.proofs.Math.Bool.{and-false, and-true}
 use Rattle.std.proofs.lemmas.Bool.{eqb-true, and_parts, and_from, or_parts, both_ways}
-use Rattle.std.proofs.lemmas.Bool.{false_from_ne_true, true_from_ne_false}
+use Rattle.std.proofs.lemmas.Bool.{false_from_ne_true, lt-leb, true_from_ne_false}
 use Rattle.std.proofs.lemmas.Bool.Decides.{nat_tests}
 use Rattle.std.proofs.lemmas.List.{append-nil}
 use Rattle.std.proofs.lemmas.Option.{same_Some}
@@ -86,9 +86,6 @@ abbrev StageReads : ℕ → Bool → Bool → Outline → List Word → Outcome 
 StageReads line is_first is_last old words =
     Reads (IsStageOf is_first is_last old words) (StageBreaks line is_first is_last old words)
 
-has_room : {n : ℕ} → n < 64 → nat_le 64 n ≡ false
-has_room less = grind (arith, nat_tests)
-
 module _ (line : ℕ) (is_first is_last : Bool) (old : Outline) where
   fits : (kind : Command) → Decides (beq (is_source kind) is_first) (is_source kind ≡ is_first)
   fits kind = booleans_Decides (is_source kind) is_first
@@ -119,16 +116,16 @@ module _ (line : ℕ) (is_first is_last : Bool) (old : Outline) where
   stage_answers : (words : List Word) {answer : Outcome Outline} → StageReads line is_first is_last old words answer
       → StageAnswer line is_first is_last old words answer
   stage_answers words (gives h) =
-      rw (h.whole, has_room h.room, command_known h.kind, (fits h.kind).1 h.place)
+      rw (h.whole, lt-leb _ _ h.room, command_known h.kind, (fits h.kind).1 h.place)
       (begins_answers line h.number is_last old h.behind h.kind (gives h.adds))
   stage_answers words (refuses (too_many many)) =
       let full : nat_le 64 (length old.stages) ≡ true = grind (arith, nat_tests) in rw full refl
-  stage_answers words (refuses (unknown room none)) = rw (has_room room, not_known none) refl
+  stage_answers words (refuses (unknown room none)) = rw (lt-leb _ _ room, not_known none) refl
   stage_answers words (refuses (misplaced kind room apart)) =
       let place = false_from_ne_true _ (λ w. apart ((fits kind).0 w)) in
-      rw (has_room room, command_known kind, place) refl
+      rw (lt-leb _ _ room, command_known kind, place) refl
   stage_answers words (refuses (behind {n} {words = more} kind room place h)) =
-      rw (has_room room, command_known kind, (fits kind).1 place)
+      rw (lt-leb _ _ room, command_known kind, (fits kind).1 place)
       (begins_answers line n is_last old more kind (refuses h))
 
 -- The stages of a line.
@@ -287,9 +284,6 @@ name_new h = rw (h.goes_on, h.is_new) refl
 abbrev LineReads : Outline → ℕ → List ℕ → Outcome Outline → Type 0
 LineReads old line text = Reads (IsBranch old line text) (LineBreaks old line text)
 
-few : {n : ℕ} → n < 16 → nat_le 16 n ≡ false
-few less = grind (arith, nat_tests)
-
 module _ (line : ℕ) (old : Outline) where
   name_read : {text name : List ℕ} {items : List Item} {answer : Outcome Outline} → IsNamed text name items
       → NameAnswer line old items (Some name) answer → LineReads old line text answer
@@ -345,7 +339,7 @@ module _ (line : ℕ) (old : Outline) where
   line_answers text (gives {given = new} b) =
       let full = stages_filled (is_out b.name) true old b.next (groups b.items) b.stages in
       let none = none_there (lacks_none 1 true b.items ∙ full) in
-      named_answers (Ok new) b.named (rw (name_new b.is_new, few b.room, none)
+      named_answers (Ok new) b.named (rw (name_new b.is_new, lt-leb _ _ b.room, none)
       (Ok b.next, stages_answer line (is_out b.name) true old (groups b.items) (gives b.stages), rw b.ends refl))
   line_answers text (refuses (quotes {k} w)) = rw ((refused_as_wrong text k).0 w) refl
   line_answers text (refuses (nameless items written none)) =
@@ -361,9 +355,9 @@ module _ (line : ℕ) (old : Outline) where
       let v : nat_le 16 (length old.branches) ≡ true = grind (arith, nat_tests) in
       named_answers answer named (rw (name_new new, v) refl)
   line_answers text {answer} (refuses (wordless named new room e)) =
-      named_answers answer named (rw (name_new new, few room, e) refl)
+      named_answers answer named (rw (name_new new, lt-leb _ _ room, e) refl)
   line_answers text {answer} (refuses (at_stage {name} {items} {fault} named new room none b)) =
-      named_answers answer named (rw (name_new new, few room, none)
+      named_answers answer named (rw (name_new new, lt-leb _ _ room, none)
       (Err fault, stages_answer line (is_out name) true old (groups items) (refuses b), refl))
 
 -- The lines of a plan.
