@@ -1,14 +1,13 @@
 //! The net of a plan, moved turn by turn.
 ghost use Rattle.std.specs.Prelude.{◌≡◌, ◌≤◌, ◌<◌, ◌+◌, ◌||◌, ℕ, List, Option, None, length};
 ghost use Rattle.std.specs.Prelude.{IfOk, IfErr, is_some};
-ghost use Rattle.hum_record.specs.Row.{Row};
-ghost use Rattle.hum_turns.specs.Failures.{Now, is_ready, result as ended};
+ghost use Rattle.hum_turns.specs.Failures.{is_ready, result as ended};
 ghost use Rattle.hum_turns.specs.Ordering.{order_of};
 ghost use Rattle.hum_turns.specs.Counts.{most_in_all};
 ghost use Rattle.hum_turns.specs.Holds.{SomeReady};
 ghost use Rattle.hum_plan.specs.Stages.{IsTree, reads_of as read_stages};
 ghost use Rattle.hum_plan.specs.Seen.{stages_of};
-ghost use Rattle.hum_engine.specs.Scene.{Scene, plan_of, held_of, HoldsFew};
+ghost use Rattle.hum_engine.specs.Scene.{plan_of, held_of, HoldsFew};
 ghost use Rattle.hum_engine.specs.Readers.{failed_at, is_read_of, is_write};
 ghost use Rattle.hum_engine.specs.Nets.{NetAt, Tells, HasTurned, RunsBy, WroteFront};
 ghost use Rattle.hum_engine.specs.Nets.{CallsSink, AtEach, HadFewEach, IsLinked};
@@ -21,6 +20,7 @@ use crate::nodes::plan_nodes;
 use hum_commands::CommandStage;
 use hum_engine::Net as Engine;
 use hum_plan::{Plan, PlanStage};
+use hum_stage::Stage;
 use hum_text::calls::{Sink, Source};
 use hum_turns::{Order, RunResult};
 use std::alloc::Global;
@@ -29,23 +29,22 @@ use std::marker::Model;
 /// The stages of a plan over readers, the links between them, and the writer behind the last.
 ///
 /// Actor `k`, from 0, is stage `k + 1`; the last actor is the sink, which writes. However the bytes go
-/// on that its readers still have, it stands for a moment of the plan's run over them.
+/// on that its readers still have, it stands for a moment of the plan's run over them. What a net is
+/// asked is the same whatever its commands do.
 #[derive(Drop)]
-pub struct Net<R: Source, W: Sink> {
-    engine: Engine<CommandStage, R, W>,
+pub struct Net<R: Source, W: Sink, S: Stage = CommandStage> {
+    engine: Engine<S, R, W>,
 }
 
-impl<R: Source, W: Sink> Model for Net<R, W> {
-    ghost use Rattle.hum_commands.specs.declared.stages.CommandStage.{CommandStage};
+impl<R: Source, W: Sink, S: Stage> Model for Net<R, W, S> {
     ghost use Rattle.hum_engine.specs.declared.net.Net.{Net as Engine};
     ghost use Rattle.hum_engine.specs.Nets.{IsNet};
-    ghost use Rattle.hum_net.specs.Scenes.{commands};
 
-    ghost Value = { Engine CommandStage R W };
+    ghost Value = { Engine S R W };
 
     ghost view = { λ net. net.engine };
 
-    ghost invariant = { λ net. IsNet commands W.Sink net.engine };
+    ghost invariant = { λ net. IsNet S.Stage W.Sink net.engine };
 }
 
 impl<R: Source + Drop, W: Sink> Net<R, W> {
@@ -108,11 +107,13 @@ impl<R: Source + Drop, W: Sink> Net<R, W> {
         let engine = Engine::of_nodes(alloc, nodes, link, writer)?;
         Ok(Net { engine })
     }
+}
 
+impl<R: Source + Drop, W: Sink, S: Stage + Drop> Net<R, W, S> {
     /// How many actors there are: the stages and the sink.
     pub fn actors(&self) -> usize
         ensures count { result ≡ length self.now.actors.items }
-        ensures stages { AtEach commands W.Sink self.now (λ start s now. result ≡ s.count + 1) }
+        ensures stages { AtEach S.Stage W.Sink self.now (λ start s now. result ≡ s.count + 1) }
     {
         self.engine.actors()
     }
@@ -120,7 +121,7 @@ impl<R: Source + Drop, W: Sink> Net<R, W> {
     /// Whether an actor is ready: it may have a turn. Once the run has ended none is.
     pub fn ready(&self, k: usize) -> bool
         requires { k < length self.now.actors.items }
-        ensures { AtEach commands W.Sink self.now (λ start s now. result ≡ is_ready (plan_of s) s.size now k) }
+        ensures { AtEach S.Stage W.Sink self.now (λ start s now. result ≡ is_ready (plan_of s) s.size now k) }
     {
         self.engine.ready(k)
     }
@@ -128,10 +129,10 @@ impl<R: Source + Drop, W: Sink> Net<R, W> {
     /// One turn of an actor that is ready, and whether the run is over then.
     pub fn turn(&mut self, k: usize) -> bool
         requires within { k < length self.old.actors.items }
-        requires ready { IsReadyNow commands W.Sink k self.old }
+        requires ready { IsReadyNow S.Stage W.Sink k self.old }
 
         // It is one turn of this actor, whatever comes of the bytes that are still to be read.
-        ensures turned { HasTurned commands R.Source W.Sink k self.old self.new result }
+        ensures turned { HasTurned S.Stage R.Source W.Sink k self.old self.new result }
         ensures turns { self.new.turns ≡ self.old.turns + 1 }
         ensures actors { self.new.actors ≡ self.old.actors }
 
@@ -142,7 +143,7 @@ impl<R: Source + Drop, W: Sink> Net<R, W> {
 
         // The writer is asked for no write but those of the record that the sink takes, or for one flush
         // at the end.
-        ensures asked { AtEach commands W.Sink self.old
+        ensures asked { AtEach S.Stage W.Sink self.old
             (λ start s now. k ≡ s.count → CallsSink (W.calls self.old.sink) (W.calls self.new.sink)
             (now.links (last (plan_of s))).waiting) }
     {
@@ -151,16 +152,16 @@ impl<R: Source + Drop, W: Sink> Net<R, W> {
 
     /// Whether the run is over. Until then some actor is ready.
     pub fn over(&self) -> bool
-        ensures progress { AtEach commands W.Sink self.now
+        ensures progress { AtEach S.Stage W.Sink self.now
             (λ start s now. ended (plan_of s) now ≡ None → SomeReady (plan_of s) s.size now.links) }
-        ensures over { AtEach commands W.Sink self.now (λ start s now. result ≡ is_some (ended (plan_of s) now)) }
+        ensures over { AtEach S.Stage W.Sink self.now (λ start s now. result ≡ is_some (ended (plan_of s) now)) }
     {
         self.engine.over()
     }
 
     /// How the run ended, once it has.
     pub fn result(&self) -> Option<RunResult>
-        ensures { AtEach commands W.Sink self.now (λ start s now. result ≡ ended (plan_of s) now) }
+        ensures { AtEach S.Stage W.Sink self.now (λ start s now. result ≡ ended (plan_of s) now) }
     {
         self.engine.result()
     }
@@ -169,23 +170,23 @@ impl<R: Source + Drop, W: Sink> Net<R, W> {
     /// that were moved allow.
     pub fn turns(&self) -> u64
         ensures turns { result ≡ self.now.turns }
-        ensures most { AtEach commands W.Sink self.now
+        ensures most { AtEach S.Stage W.Sink self.now
             (λ start s now. now.failure ≡ None → result ≤ most_in_all (plan_of s) now.links) }
 
         // Each actor has had no more of them than what it moved allows.
-        ensures each { HadFewEach commands W.Sink self.now }
+        ensures each { HadFewEach S.Stage W.Sink self.now }
     {
         self.engine.turns()
     }
 
     /// How many records wait inside an actor: none in a source or the sink.
     pub fn held(&self, k: usize) -> usize
-        ensures held { AtEach commands W.Sink self.now
+        ensures held { AtEach S.Stage W.Sink self.now
             (λ start s now. now.failure ≡ None → k ≤ s.count → result ≡ held_of s now.links k) }
 
         // In a stage of one input at most one more than the greatest lag of its records, in assemble
         // at most one of each source.
-        ensures few { AtEach commands W.Sink self.now
+        ensures few { AtEach S.Stage W.Sink self.now
             (λ start s now. now.failure ≡ None → HoldsFew s now.links k result) }
     {
         self.engine.held(k)
@@ -194,7 +195,7 @@ impl<R: Source + Drop, W: Sink> Net<R, W> {
     /// How many records lie on the link of an actor: those that it gave, less those taken. The sink has
     /// no link.
     pub fn linked(&self, k: usize) -> usize
-        ensures { AtEach commands W.Sink self.now (λ start s now. IsLinked s now k result) }
+        ensures { AtEach S.Stage W.Sink self.now (λ start s now. IsLinked s now k result) }
     {
         self.engine.linked(k)
     }
@@ -203,14 +204,14 @@ impl<R: Source + Drop, W: Sink> Net<R, W> {
     /// the bytes go on that are still to come.
     pub fn into_writer(self) -> W
         ensures sink { result ≡ self.sink }
-        ensures front { AtEach commands W.Sink self (λ start s now. WroteFront s start (W.contents result)) }
+        ensures front { AtEach S.Stage W.Sink self (λ start s now. WroteFront s start (W.contents result)) }
     {
         self.engine.into_writer()
     }
 
     /// Makes the turns that the order picks, to the end of the run.
     pub fn run<O: Order>(&mut self, order: &mut O) -> RunResult
-        ensures { RunsBy commands R.Source W.Sink (order_of O.Order) order.old order.new self.old self.new result }
+        ensures { RunsBy S.Stage R.Source W.Sink (order_of O.Order) order.old order.new self.old self.new result }
     {
         self.engine.run(order)
     }

@@ -2,7 +2,7 @@ use Rattle.std.proofs.Common.{◌<◌, arith}
 use Rattle.hum_plan.specs.Seen.{stages_of}
 use Rattle.hum_net.specs.Scenes.{commands, scene_of}
 use Rattle.hum_net.proofs.Going.{all_begun, all_tell, few_nodes, net_at, sound_from}
-use Rattle.hum_net.proofs.net.Net.of_stages.Goals as goal
+use Rattle.hum_net.proofs.net.Net+R+W.of_stages.Goals as goal
 
 pub of_nodes-requires : goal.of_nodes-requires
 of_nodes-requires g c =
