@@ -9,6 +9,7 @@ mod bundles;
 mod net;
 mod nodes;
 mod outcome;
+mod plans;
 mod running;
 
 pub use bundles::{plan_stages, run_bundle};

@@ -5,7 +5,7 @@ ghost use Rattle.hum_turns.specs.Failures.{is_ready, result as ended};
 ghost use Rattle.hum_turns.specs.Ordering.{order_of};
 ghost use Rattle.hum_turns.specs.Counts.{most_in_all};
 ghost use Rattle.hum_turns.specs.Holds.{SomeReady};
-ghost use Rattle.hum_plan.specs.Stages.{IsTree, reads_of as read_stages};
+ghost use Rattle.hum_plan.specs.Stages.{IsTree};
 ghost use Rattle.hum_plan.specs.Seen.{stages_of};
 ghost use Rattle.hum_engine.specs.Scene.{plan_of, held_of, HoldsFew};
 ghost use Rattle.hum_engine.specs.Readers.{failed_at, is_read_of, is_write};
@@ -14,12 +14,12 @@ ghost use Rattle.hum_engine.specs.Nets.{CallsSink, AtEach, HadFewEach, IsLinked}
 ghost use Rattle.hum_turns.specs.Plan.{last};
 ghost use Rattle.hum_net.specs.Nodes.{AreTold, reads_of};
 ghost use Rattle.hum_net.specs.Parts.{AreSoundFrom};
-ghost use Rattle.hum_net.specs.Scenes.{commands, scene_of, first_now, IsReadyNow};
+ghost use Rattle.hum_net.specs.Scenes.{scene_of, first_now, IsReadyNow};
 
-use crate::nodes::plan_nodes;
+use crate::nodes::{OfOptions, plan_nodes};
 use hum_commands::CommandStage;
 use hum_engine::Net as Engine;
-use hum_plan::{Plan, PlanStage};
+use hum_plan::PlanStage;
 use hum_stage::Stage;
 use hum_text::calls::{Sink, Source};
 use hum_turns::{Order, RunResult};
@@ -47,51 +47,21 @@ impl<R: Source, W: Sink, S: Stage> Model for Net<R, W, S> {
     ghost invariant = { λ net. IsNet S.Stage W.Sink net.engine };
 }
 
-impl<R: Source + Drop, W: Sink> Net<R, W> {
-    /// The net of a plan, with a reader for each stage that reads a score, in their order, and links
-    /// that hold so many records.
-    ///
-    /// # Errors
-    /// Out of memory, which hands the writer back.
-    pub fn new(
-        alloc: Global,
-        plan: Plan,
-        readers: Vec<R>,
-        writer: W,
-        link: u16,
-    ) -> Result<Net<R, W>, W>
-        requires readers { length (read_stages plan) ≡ length readers.items }
-        requires link { 1 ≤ link }
-        requires room { link ≤ 4096 }
-
-        // Whatever bytes the readers have, it stands for the plan over them before the first turn.
-        ensures opens { IfOk result (λ net. (bytes : ℕ → List ℕ)
-            → NetAt commands W.Sink (W.contents writer) (scene_of bytes bytes plan link) net first_now) }
-
-        // Where the readers tell their bytes, so do its sources.
-        ensures tells { IfOk result (λ net. (bytes : ℕ → List ℕ) → AreTold R.remaining bytes 0 plan readers.items
-            → Tells R.Source net.web.nodes.items bytes) }
-        ensures sink { IfOk result (λ net. net.sink ≡ writer) }
-        ensures failure { IfOk result (λ net. net.failure ≡ None) }
-        ensures err { IfErr result (λ back. back ≡ writer) }
-    {
-        Net::of_stages(alloc, plan.into_stages(), readers, writer, link)
-    }
-
-    /// The same of the stages of a plan.
+impl<R: Source + Drop, W: Sink, S: OfOptions + Drop> Net<R, W, S> {
+    /// The net of a plan's stages, as [`Net::new`] makes it.
     pub(crate) fn of_stages(
         alloc: Global,
         stages: Vec<PlanStage>,
         readers: Vec<R>,
         writer: W,
         link: u16,
-    ) -> Result<Net<R, W>, W>
+    ) -> Result<Net<R, W, S>, W>
         requires tree { IsTree (stages_of stages.items) }
         requires readers { reads_of (stages_of stages.items) ≡ length readers.items }
         requires link { 1 ≤ link }
         requires room { link ≤ 4096 }
         ensures opens { IfOk result (λ net. (bytes : ℕ → List ℕ)
-            → NetAt commands W.Sink (W.contents writer) (scene_of bytes bytes (stages_of stages.items) link) net
+            → NetAt S.Stage W.Sink (W.contents writer) (scene_of bytes bytes (stages_of stages.items) link) net
             first_now) }
         ensures tells { IfOk result (λ net. (bytes : ℕ → List ℕ)
             → AreTold R.remaining bytes 0 (stages_of stages.items) readers.items

@@ -1,17 +1,37 @@
 //! The stages of a plan as nodes of a net.
 ghost use Rattle.std.specs.Prelude.{◌≡◌, ◌≤◌, ◌<◌, ◌+◌, ℕ, pred, List, ◌∷◌, map, length, IfOk};
-ghost use Rattle.hum_plan.specs.Stages.{Stage, IsTree};
+ghost use Rattle.hum_plan.specs.Stages.{Stage as TreeStage, IsTree};
 ghost use Rattle.hum_plan.specs.Seen.{options_of, stage_of, stages_of};
 ghost use Rattle.hum_net.specs.Parts.{first_of};
-ghost use Rattle.hum_net.specs.Scenes.{commands};
+ghost use Rattle.hum_stage.specs.Meaning.{opening, KeepsScore};
+ghost use Rattle.hum_commands.specs.Meaning.{meaning, MakesScores};
 ghost use Rattle.hum_net.specs.Nodes.{AllFrom, Fits, Tells, AreTold, reads_by, reads_of};
 
+use hum_choices::CommandOptions;
 use hum_commands::CommandStage;
 use hum_nodes::Node;
 use hum_plan::{Options, PlanStage};
+use hum_stage::Stage;
 use hum_text::calls::Source;
 use std::alloc::{AllocError, Global};
 use std::collections::VecDeque;
+
+/// Stages of commands, by what these are told.
+pub(crate) trait OfOptions: Stage {
+    /// The stage of this number, from 1, that is told to do so.
+    fn of_options(alloc: Global, number: u8, options: CommandOptions) -> Self
+        // It stands for what the options say, with nothing put yet.
+        ensures stands { Self.stands result (opening (meaning number options)) }
+
+        // Of scores it makes scores.
+        ensures keeps { MakesScores options → KeepsScore (meaning number options).outcomes };
+}
+
+impl OfOptions for CommandStage {
+    fn of_options(alloc: Global, number: u8, options: CommandOptions) -> CommandStage {
+        CommandStage::new(alloc, number, options)
+    }
+}
 
 /// A stage's number, counted from 0 in place of 1.
 fn from_zero(number: u8) -> usize
@@ -39,19 +59,19 @@ fn first_from_zero(numbers: &[u8]) -> usize
 }
 
 /// The node of stage `k`, from 0, whose reader comes first among those that are left.
-fn plan_node<R: Source + Drop>(
+fn plan_node<S: OfOptions + Drop, R: Source + Drop>(
     alloc: Global,
     k: usize,
     stage: PlanStage,
     readers: &mut VecDeque<R>,
-) -> Result<Node<CommandStage, R>, AllocError>
+) -> Result<Node<S, R>, AllocError>
     requires few { k < 64 }
     requires narrow { length stage.sources.items ≤ 15 }
     requires reader { reads_by (options_of stage.options) ≤ length readers.old.items }
     ensures left { length readers.new.items + reads_by (options_of stage.options)
         ≡ length readers.old.items }
-    ensures fits { IfOk result (Fits commands k stage) }
-    ensures told { IfOk result (λ made. (bytes : ℕ → List ℕ) (stages : List Stage)
+    ensures fits { IfOk result (Fits S.Stage k stage) }
+    ensures told { IfOk result (λ made. (bytes : ℕ → List ℕ) (stages : List TreeStage)
         → AreTold R.remaining bytes k (stage_of stage ∷ stages) readers.old.items
         → Tells R.remaining bytes k stage made
         × AreTold R.remaining bytes (k + 1) stages readers.new.items) }
@@ -68,21 +88,21 @@ fn plan_node<R: Source + Drop>(
             Node::assemble(alloc, number, sources)
         }
         Options::Command(options) => {
-            let stage = CommandStage::new(alloc, number, options);
+            let stage = S::of_options(alloc, number, options);
             Ok(Node::command(stage, first_from_zero(&sources)))
         }
     }
 }
 
 /// The nodes of a plan's stages, with a reader for each that reads a score, in their order.
-pub(crate) fn plan_nodes<R: Source + Drop>(
+pub(crate) fn plan_nodes<S: OfOptions + Drop, R: Source + Drop>(
     alloc: Global,
     stages: Vec<PlanStage>,
     readers: Vec<R>,
-) -> Result<Vec<Node<CommandStage, R>>, AllocError>
+) -> Result<Vec<Node<S, R>>, AllocError>
     requires tree { IsTree (stages_of stages.items) }
     requires readers { reads_of (stages_of stages.items) ≡ length readers.items }
-    ensures fits { IfOk result (λ nodes. AllFrom (Fits commands) 0 stages.items nodes.items) }
+    ensures fits { IfOk result (λ nodes. AllFrom (Fits S.Stage) 0 stages.items nodes.items) }
     ensures told { IfOk result (λ nodes. (bytes : ℕ → List ℕ)
         → AreTold R.remaining bytes 0 (stages_of stages.items) readers.items
         → AllFrom (Tells R.remaining bytes) 0 stages.items nodes.items) }

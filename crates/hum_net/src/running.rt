@@ -80,7 +80,7 @@ pub fn run_stages<R: Source + Drop, O: Order, W: Sink + Drop>(
         → (k : ℕ) → is_read_of k (Some result.0) ≡ false }
 {
     all_keep_records(&stages);
-    match Net::of_stages(alloc, stages, readers, sink, link) {
+    match <Net<R, W>>::of_stages(alloc, stages, readers, sink, link) {
         Ok(mut net) => {
             let result = net.run(order);
             (result, net.into_writer())

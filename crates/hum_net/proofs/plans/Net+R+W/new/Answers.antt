@@ -1,7 +1,7 @@
 use Rattle.std.proofs.Common.{◌∙◌, ap, sym}
 use Rattle.hum_net.specs.Nodes.{reads_of}
 use Rattle.hum_net.proofs.Planning.{counted}
-use Rattle.hum_net.proofs.net.Net+R+W.new.Goals as goal
+use Rattle.hum_net.proofs.plans.Net+R+W.new.Goals as goal
 
 pub of_stages-requires-clause-readers : goal.of_stages-requires-clause-readers
 of_stages-requires-clause-readers g c =

@@ -1,8 +1,8 @@
 use Rattle.std.proofs.Common.{◌<◌, arith}
 use Rattle.hum_plan.specs.Seen.{stages_of}
-use Rattle.hum_net.specs.Scenes.{commands, scene_of}
+use Rattle.hum_net.specs.Scenes.{scene_of}
 use Rattle.hum_net.proofs.Going.{all_begun, all_tell, few_nodes, net_at, sound_from}
-use Rattle.hum_net.proofs.net.Net+R+W.of_stages.Goals as goal
+use Rattle.hum_net.proofs.net.Net.of_stages.Goals as goal
 
 pub of_nodes-requires : goal.of_nodes-requires
 of_nodes-requires g c =
@@ -26,4 +26,4 @@ returns-clause-tells g c bytes told = rw c.in_ok-engine.ensures.nodes
 
 pub returns-clause-valid : goal.returns-clause-valid
 returns-clause-valid g c =
-    sound_from commands 0 c.args.stages.items c.in-Ok.nodes.items c.in-Ok.ensures.fits
+    sound_from g.S.Stage 0 c.args.stages.items c.in-Ok.nodes.items c.in-Ok.ensures.fits
