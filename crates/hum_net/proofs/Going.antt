@@ -5,28 +5,24 @@ use Rattle.std.proofs.lemmas.Bool.{cases_Bool}
 use Rattle.std.specs.Prelude.{Option, Some, None, slice_get}
 use Rattle.std.proofs.lemmas.Bool.{false≢true}
 use Rattle.std.proofs.lemmas.Option.{same_Some}
-use Rattle.hum_record.specs.Row.{Row}
 use Rattle.hum_stage.specs.declared.faults.End.{End}
 use Rattle.hum_turns.specs.declared.result.RunResult.{RunResult}
 use Rattle.hum_turns.specs.declared.result.RunResult.TheVariants as ends
 use Rattle.hum_turns.specs.Orders.{Order}
-use Rattle.hum_turns.specs.Failures.{Now, IsFirst}
+use Rattle.hum_turns.specs.Failures.{IsFirst}
 use Rattle.hum_nodes.specs.At.{fresh}
 use Rattle.hum_nodes.specs.declared.node.Node.{Node}
 use Rattle.hum_nodes.specs.Nodes.{is_source, remaining_of, ended_of, failed_of, StandsAs}
 use Rattle.hum_nodes.proofs.Standing.{never_failed, no_end}
 use Rattle.hum_engine.specs.Readers.{or_none, failed_at}
 use Rattle.hum_engine.specs.declared.net.Net.{Net}
-use Rattle.hum_engine.specs.Scene.{Scene, IsBegun, IsNetPlan}
 use Rattle.hum_engine.specs.Nets.{AreBegun}
 use Rattle.hum_engine.specs.Nets as net
-use Rattle.hum_nodes.specs.Trees.{Part, kind_of, part_at, plan_of, meaning_of, IsLawfulTree}
+use Rattle.hum_nodes.specs.Trees.{Part, kind_of, part_at, plan_of, meaning_of, ending_of}
 use Rattle.hum_plan.specs.Stages as plan
-use Rattle.hum_plan.specs.Seen.{stages_of, stage_of, options_of}
-use Rattle.hum_plan.specs.declared.stages.Options.{Options}
-use Rattle.hum_plan.specs.declared.stages.Options.TheVariants as told
+use Rattle.hum_plan.specs.Seen.{stages_of, stage_of}
 use Rattle.hum_plan.specs.declared.stages.PlanStage.{PlanStage}
-use Rattle.hum_net.specs.Parts.{part_by, part_of, parts_of, AreSoundFrom, AllGiveScores, AllKeepRecords}
+use Rattle.hum_net.specs.Parts.{part_of, parts_of, AreSoundFrom, AllGiveScores, AllKeepRecords}
 use Rattle.hum_net.specs.Nodes.{AllFrom, Fits, Tells}
 use Rattle.hum_engine.proofs.Appending.{appends_none}
 use Rattle.hum_valid.specs.Records.{AreRecords}
@@ -48,85 +44,25 @@ use Rattle.hum_text.specs.declared.calls.Sink.{Ghosts as Sink}
 pub is_first : IsFirst first_now
 is_first = record { links = λ k. refl; part = refl; failure = refl }
 
--- Only what a source reads counts.
-
-abbrev pub SameBy : Options → List ℕ → List ℕ → Type 0
-SameBy (told.Read name) a b = a ≡ b
-SameBy told.Assemble a b = Unit {0}
-SameBy (told.Command options) a b = Unit {0}
-
-pub same_self : (options : Options) (a : List ℕ) → SameBy options a a
-same_self (told.Read name) a = refl
-same_self told.Assemble a = tt
-same_self (told.Command options) a = tt
-
-same_part : (k : ℕ) (sources a b : List ℕ) (options : Options) → SameBy options a b
-    → part_by k a sources (options_of options) ≡ part_by k b sources (options_of options)
-same_part k sources a b (told.Read name) e = rw e refl
-same_part k sources a b told.Assemble e = refl
-same_part k sources a b (told.Command options) e = refl
-
--- the same of each stage
-abbrev pub AreSame : (ℕ → List ℕ) → (ℕ → List ℕ) → List PlanStage → Type 0
-AreSame a b stages = (i : ℕ) (stage : PlanStage) → slice_get stages i ≡ Some stage
-    → SameBy stage.options (a i) (b i)
-
-pub record Pair {N : Type 0} (Holds : ℕ → PlanStage → N → Type 0) (k : ℕ) (stages : List PlanStage) (i : ℕ) (node : N)
-    : Type 0 where
-  pub stage : PlanStage
-  pub is : slice_get stages i ≡ Some stage
-  pub holds : Holds (k + i) stage node
-
+-- The stage of a node.
 pair_from : {N : Type 0} (Holds : ℕ → PlanStage → N → Type 0) (k : ℕ) (stages : List PlanStage) (nodes : List N)
-    → AllFrom Holds k stages nodes → (i : ℕ) (node : N) → slice_get nodes i ≡ Some node → Pair Holds k stages i node
-pair_from Holds k [] [] h i node e = cc
-pair_from Holds k [] (n ∷ nodes) h i node e = absurd h
-pair_from Holds k (stage ∷ stages) [] h i node e = absurd h
-pair_from {N} Holds k (stage ∷ stages) (n ∷ nodes) h zero node e =
+    → AllFrom Holds k stages nodes → (i j : ℕ) → j ≡ k + i → (node : N) → slice_get nodes i ≡ Some node
+    → (stage : PlanStage) × (slice_get stages i ≡ Some stage) × Holds j stage node
+pair_from Holds k [] [] h i j at node e = cc
+pair_from Holds k [] (n ∷ nodes) h i j at node e = absurd h
+pair_from Holds k (stage ∷ stages) [] h i j at node e = absurd h
+pair_from Holds k (stage ∷ stages) (n ∷ nodes) h zero j at node e =
     let here : n ≡ node = cc in
-    let zeros : k ≡ k + 0 = omega arith in
-    record {
-      stage = stage;
-      is = refl;
-      holds = subst (λ (j : ℕ). Holds j stage node) zeros (subst (λ (x : N). Holds k stage x) here h.0);
-    }
-pair_from Holds k (stage ∷ stages) (n ∷ nodes) h (suc i) node e =
-    let rest = pair_from Holds (suc k) stages nodes h.1 i node e in
-    let next : suc k + i ≡ k + suc i = omega arith in
-    record {
-      stage = rest.stage;
-      is = rest.is;
-      holds = subst (λ (j : ℕ). Holds j rest.stage node) next rest.holds;
-    }
-
-pub pair_at : {N : Type 0} (Holds : ℕ → PlanStage → N → Type 0) (stages : List PlanStage) (nodes : List N)
-    → AllFrom Holds 0 stages nodes → (i : ℕ) (node : N) → slice_get nodes i ≡ Some node
-    → (stage : PlanStage) × (slice_get stages i ≡ Some stage) × Holds i stage node
-pair_at Holds stages nodes h i node e =
-    let p = pair_from Holds 0 stages nodes h i node e in
-    let zeros : 0 + i ≡ i = omega arith in
-    (p.stage, p.is, subst (λ (j : ℕ). Holds j p.stage node) zeros p.holds)
+    let is : k ≡ j = omega (arith, at) in
+    (stage, refl, subst (λ (i : ℕ). Holds i stage node) is (subst (Holds k stage) here h.0))
+pair_from Holds k (stage ∷ stages) (n ∷ nodes) h (suc i) j at node e =
+    pair_from Holds (suc k) stages nodes h.1 i j (omega (arith, at)) node e
 
 part_there : (bytes : ℕ → List ℕ) (stages : List PlanStage) (i : ℕ) (stage : PlanStage)
     → slice_get stages i ≡ Some stage
     → part_at (parts_of bytes (stages_of stages)) i ≡ part_of i (bytes i) (stage_of stage)
 part_there bytes stages i stage e =
     part_here bytes (stages_of stages) i (stage_of stage) (stage_there stages i stage e)
-
-pub begun : {S R : Type 0} {commands : Commands S} (bytes rests : ℕ → List ℕ) (stages : List PlanStage)
-    (nodes : List (Node S R)) (size : ℕ) → AllFrom (Fits commands) 0 stages nodes → AreSame rests bytes stages
-    → IsBegun commands size nodes (scene_of bytes rests (stages_of stages) size)
-begun {commands = commands} bytes rests stages nodes size h same = record {
-  of_size = refl;
-  count = all_length (Fits commands) 0 stages nodes h
-      ∙ sym (parts_length 0 bytes (stages_of stages) ∙ length-map stages stage_of);
-  stand = λ k node e.
-      let p = pair_at (Fits commands) stages nodes h k node e in
-      let part : part_of k (rests k) (stage_of p.0) ≡ part_at (parts_of bytes (stages_of stages)) k =
-      same_part k p.0.sources.items (rests k) (bytes k) p.0.options (same k p.0 p.1)
-      ∙ sym (part_there bytes stages k p.0 p.1) in
-      subst (λ (x : Part). StandsAs commands.stands node (rests k) (fresh (kind_of (k + 1) x))) part (p.2.0 (rests k));
-}
 
 pub sound_from : {S R : Type 0} (commands : Commands S) (k : ℕ) (stages : List PlanStage) (nodes : List (Node S R))
     → AllFrom (Fits commands) k stages nodes → AreSoundFrom k (stages_of stages)
@@ -147,7 +83,7 @@ all_tell {S} {R} reader bytes stages nodes h = record {
   where
     at : (i : ℕ) (node : Node S R) → slice_get nodes i ≡ Some node → is_source node ≡ true
         → (remaining_of reader.remaining node ≡ Some (bytes i)) × (ended_of node ≡ false)
-    at i node e is = (pair_at (Tells reader.remaining bytes) stages nodes h i node e).2 is
+    at i node e is = (pair_from (Tells reader.remaining bytes) 0 stages nodes h i i (omega arith) node e).2 is
 
     by : (i : ℕ) (o : Option (Node S R)) → slice_get nodes i ≡ o → or_none false ended_of o ≡ true
         → bytes i ≡ []
@@ -166,8 +102,15 @@ pub all_begun : {S R : Type 0} {commands : Commands S} (stages : List PlanStage)
 all_begun {commands = commands} stages nodes size tree some fits = record {
   rests = λ rests. refl;
   plan = λ rests. is_net_plan rests (stages_of stages) size tree (sound_from commands 0 stages nodes fits) some;
-  begun = λ rests. begun rests rests stages nodes size fits
-      (λ i stage e. same_self stage.options (rests i));
+  begun = λ rests. record {
+    of_size = refl;
+    count = all_length (Fits commands) 0 stages nodes fits
+        ∙ sym (parts_length 0 rests (stages_of stages) ∙ length-map stages stage_of);
+    stand = λ k node e.
+        let p = pair_from (Fits commands) 0 stages nodes fits k k (omega arith) node e in
+        subst (λ (x : Part). StandsAs commands.stands node (rests k) (fresh (kind_of (k + 1) x)))
+        (sym (part_there rests stages k p.0 p.1)) (p.2.0 (rests k));
+  };
 }
 
 -- How its run has ended.
@@ -189,8 +132,9 @@ ended_so run = record {
 
 -- What its run has written.
 
--- its records are lawful, and unless interpretations are dropped it is valid
+-- it ends by the lowest-numbered fault, its records are lawful, and unless interpretations are dropped it is valid
 pub record MeansValid (bytes : ℕ → List ℕ) (stages : List plan.Stage) : Type 0 where
+  pub end : (meaning_of (parts_of bytes stages)).end ≡ Some (ending_of (parts_of bytes stages))
   pub records : AreRecords (meaning_of (parts_of bytes stages)).items
   pub valid : AllGiveScores stages → IsValid (meaning_of (parts_of bytes stages))
 
@@ -201,6 +145,7 @@ means_valid bytes stages tree sound keeps =
     let is = is_tree bytes stages tree sound in
     let records = plan_records bytes stages is keeps in
     record {
+      end = whose_fault _ (is_plan parts is) (is_numbered parts is);
       records = records;
       valid = λ all.
           is_valid (meaning_of parts) records
@@ -208,56 +153,30 @@ means_valid bytes stages tree sound keeps =
           (meaning_fine (plan_of parts) (is_plan parts is) (last_keeps bytes stages tree sound all)));
     }
 
-whole_of : (bytes rests : ℕ → List ℕ) (stages : List plan.Stage) (size : ℕ) (start held : Option (List ℕ))
-    (flushed : Bool) (end : End) → IsLawfulTree (parts_of bytes stages) → MeansValid bytes stages
-    → net.WroteAll (scene_of bytes rests stages size) start held flushed end
-    → WroteAll bytes stages start held flushed end
-whole_of bytes rests stages size start held flushed end law valid o = record {
-  wrote = o.appends;
-  is_flushed = o.is_flushed;
-  means = o.end;
-  first = same_Some _ _ (sym o.end ∙ law.end);
-  records = valid.records;
-  valid = valid.valid;
-}
+module _ {bytes : ℕ → List ℕ} {stages : List plan.Stage} (is : MeansValid bytes stages) (rests : ℕ → List ℕ) (size : ℕ)
+    (start held : Option (List ℕ)) (flushed : Bool) where
+  whole_of : (end : End) → net.WroteAll (scene_of bytes rests stages size) start held flushed end
+      → WroteAll bytes stages start held flushed end
+  whole_of end o = record {
+    wrote = o.appends;
+    is_flushed = o.is_flushed;
+    means = o.end;
+    first = same_Some _ _ (sym o.end ∙ is.end);
+    records = is.records;
+    valid = is.valid;
+  }
 
-front_of : (bytes rests : ℕ → List ℕ) (stages : List plan.Stage) (size : ℕ) (start held : Option (List ℕ))
-    → net.WroteFront (scene_of bytes rests stages size) start held
-    → WroteFront (parts_of bytes stages) start held
-front_of bytes rests stages size start held o =
-    record { part = o.part; front = o.front; wrote = o.appends }
-
-pub has_written : (bytes rests : ℕ → List ℕ) (stages : List plan.Stage) (size : ℕ)
-    (start held : Option (List ℕ)) (flushed : Bool) (by : RunResult) → IsLawfulTree (parts_of bytes stages)
-    → MeansValid bytes stages → net.Outcome (scene_of bytes rests stages size) start held flushed by
-    → HasWritten bytes stages start held flushed by
-has_written bytes rests stages size start held flushed ends.Finished law valid o =
-    whole_of bytes rests stages size start held flushed _ law valid o
-has_written bytes rests stages size start held flushed (ends.Fault f) law valid o =
-    whole_of bytes rests stages size start held flushed _ law valid o
-has_written bytes rests stages size start held flushed (ends.Read k) law valid o =
-    front_of bytes rests stages size start held o
-has_written bytes rests stages size start held flushed ends.Write law valid o =
-    front_of bytes rests stages size start held o
-has_written bytes rests stages size start held flushed ends.Memory law valid o =
-    front_of bytes rests stages size start held o
+  pub has_written : (by : RunResult) → net.Outcome (scene_of bytes rests stages size) start held flushed by
+      → HasWritten bytes stages start held flushed by
+  has_written ends.Finished o = whole_of _ o
+  has_written (ends.Fault f) o = whole_of _ o
+  has_written _ o = record { part = o.part; front = o.front; wrote = o.appends }
 
 -- where no turn was made, nothing was written
 pub nothing_written : (bytes : ℕ → List ℕ) (stages : List plan.Stage) (held : Option (List ℕ)) (flushed : Bool)
     → HasWritten bytes stages held held flushed ends.Memory
 nothing_written bytes stages held flushed =
     record { part = []; front = (_, refl); wrote = appends_none held }
-
-pub lawful_tree : (bytes : ℕ → List ℕ) (stages : List plan.Stage) → plan.IsTree stages
-    → AreSoundFrom 0 stages → IsLawfulTree (parts_of bytes stages)
-lawful_tree bytes stages tree sound =
-    let parts = parts_of bytes stages in
-    let is = is_tree bytes stages tree sound in
-    record {
-      plan = is_plan parts is;
-      numbered = is_numbered parts is;
-      end = whose_fault _ (is_plan parts is) (is_numbered parts is);
-    }
 
 -- fewer stages than a byte can count
 pub few_nodes : {N : Type 0} (Holds : ℕ → PlanStage → N → Type 0) (stages : List PlanStage) (nodes : List N)
@@ -266,22 +185,6 @@ few_nodes Holds stages nodes tree fits =
     let count = all_length Holds 0 stages nodes fits in
     let bound : length stages ≤ 64 = rw (length-map stages stage_of) at tree.bound in
     omega (arith, count, bound)
-
--- the net that is made commands for the plan's beginning
-pub net_at : {S R W : Type 0} {commands : Commands S} {writer : Sink W} (bytes : ℕ → List ℕ) (stages : List PlanStage) (nodes : List (Node S R)) (size : ℕ)
-    (start : Option (List ℕ)) (made : Net S R W)
-    → ((s : Scene) (now : Now Row) → IsFirst now → IsNetPlan s.count s.kinds s.size
-    → IsBegun commands size nodes s → net.NetAt commands writer start s made now)
-    → plan.IsTree (stages_of stages) → 0 < size → AllFrom (Fits commands) 0 stages nodes
-    → net.NetAt commands writer start (scene_of bytes bytes (stages_of stages) size) made first_now
-    × AreSoundFrom 0 (stages_of stages)
-net_at {commands = commands} bytes stages nodes size start made ok tree some fits =
-    let sound = sound_from commands 0 stages nodes fits in (
-      ok (scene_of bytes bytes (stages_of stages) size) first_now is_first
-          (is_net_plan bytes (stages_of stages) size tree sound some)
-          (begun bytes bytes stages nodes size fits (λ i stage e. same_self stage.options (bytes i))),
-      sound,
-    )
 
 -- Where no source can fail, none has failed, and no failed read is told.
 none_failed : {S R : Type 0} (reader : Source R) → ((r : R) → reader.failed r ≡ false) → (nodes : List (Node S R)) (k : ℕ)

@@ -3,7 +3,7 @@ use Rattle.std.proofs.Common.{◌≡◌, refl, ap, subst, ℕ, zero, suc, pred, 
 use Rattle.std.proofs.Common.{List, [], ◌∷◌, ◌++◌, length, map, arith, cond}
 use Rattle.std.specs.Prelude.{◌==◌, Some, slice_get, option_map}
 use Rattle.std.specs.List.{AllByRecursion}
-use Rattle.std.proofs.lemmas.Option.{slice_get-map}
+use Rattle.std.proofs.lemmas.Option.{slice_get-map, slice_get_within}
 use Rattle.std.proofs.lemmas.Bool.Decides.{nat_tests}
 use Rattle.std.proofs.lemmas.List.{length-map}
 use Rattle.hum_turns.specs.Plan.{KeepsFine}
@@ -148,20 +148,10 @@ found_among n (stage ∷ stages) h =
 
 -- Places in lists.
 
-pub record There {A : Type 0} (xs : List A) (k : ℕ) : Type 0 where
-  pub item : A
-  pub is : slice_get xs k ≡ Some item
-
-pub there : {A : Type 0} (xs : List A) (k : ℕ) → k < length xs → There xs k
+there : {A : Type 0} (xs : List A) (k : ℕ) → k < length xs → (x : A) × (slice_get xs k ≡ Some x)
 there [] k less = absurd (omega arith)
-there (x ∷ xs) zero less = record { item = x; is = refl }
-there (x ∷ xs) (suc k) less =
-    let rest = there xs k (omega arith) in record { item = rest.item; is = rest.is }
-
-within : {A : Type 0} (xs : List A) (k : ℕ) (x : A) → slice_get xs k ≡ Some x → k < length xs
-within [] k x e = cc
-within (y ∷ xs) zero x e = omega arith
-within (y ∷ xs) (suc k) x e = let ih = within xs k x e in omega arith
+there (x ∷ xs) zero less = (x, refl)
+there (x ∷ xs) (suc k) less = there xs k (omega arith)
 
 -- Parts of stages.
 
@@ -170,43 +160,33 @@ pub parts_length : (k : ℕ) (bytes : ℕ → List ℕ) (stages : List Stage)
 parts_length k bytes [] = refl
 parts_length k bytes (stage ∷ stages) = ap suc (parts_length (suc k) bytes stages)
 
-pub part_is : (k : ℕ) (bytes : ℕ → List ℕ) (stages : List Stage) (i : ℕ) (stage : Stage)
-    → slice_get stages i ≡ Some stage
-    → part_at (parts_from k bytes stages) i ≡ part_of (k + i) (bytes (k + i)) stage
-part_is k bytes [] i stage e = cc
-part_is k bytes (first ∷ stages) zero stage e =
+part_is : (k : ℕ) (bytes : ℕ → List ℕ) (stages : List Stage) (i j : ℕ) (stage : Stage) → j ≡ k + i
+    → slice_get stages i ≡ Some stage → part_at (parts_from k bytes stages) i ≡ part_of j (bytes j) stage
+part_is k bytes [] i j stage at e = cc
+part_is k bytes (first ∷ stages) zero j stage at e =
     let same : first ≡ stage = cc in
-    let zeros : k ≡ k + 0 = omega arith in
-    subst (λ (n : ℕ). part_of k (bytes k) first ≡ part_of n (bytes n) stage) zeros (ap (part_of k (bytes k)) same)
-part_is k bytes (first ∷ stages) (suc i) stage e =
-    let next : suc k + i ≡ k + suc i = omega arith in
-    subst (λ (n : ℕ). part_at (parts_from (suc k) bytes stages) i ≡ part_of n (bytes n) stage) next
-    (part_is (suc k) bytes stages i stage e)
+    let is : k ≡ j = omega (arith, at) in
+    subst (λ (n : ℕ). part_of k (bytes k) first ≡ part_of n (bytes n) stage) is (ap (part_of k (bytes k)) same)
+part_is k bytes (first ∷ stages) (suc i) j stage at e =
+    part_is (suc k) bytes stages i j stage (omega (arith, at)) e
 
 pub part_here : (bytes : ℕ → List ℕ) (stages : List Stage) (k : ℕ) (stage : Stage)
     → slice_get stages k ≡ Some stage → part_at (parts_of bytes stages) k ≡ part_of k (bytes k) stage
-part_here bytes stages k stage e =
-    let zeros : 0 + k ≡ k = omega arith in
-    subst (λ (n : ℕ). part_at (parts_of bytes stages) k ≡ part_of n (bytes n) stage) zeros
-    (part_is 0 bytes stages k stage e)
+part_here bytes stages k stage e = part_is 0 bytes stages k k stage (omega arith) e
 
-sound_from : (k : ℕ) (stages : List Stage) (i : ℕ) (stage : Stage) → AreSoundFrom k stages
-    → slice_get stages i ≡ Some stage → IsSoundBy (k + i + 1) stage.options
-sound_from k [] i stage h e = cc
-sound_from k (first ∷ stages) zero stage h e =
+sound_from : (k : ℕ) (stages : List Stage) (i j : ℕ) (stage : Stage) → j ≡ k + i + 1 → AreSoundFrom k stages
+    → slice_get stages i ≡ Some stage → IsSoundBy j stage.options
+sound_from k [] i j stage at h e = cc
+sound_from k (first ∷ stages) zero j stage at h e =
     let same : first ≡ stage = cc in
-    let zeros : k + 1 ≡ k + 0 + 1 = omega arith in
-    subst (λ (n : ℕ). IsSoundBy n stage.options) zeros
-    (subst (λ (s : Stage). IsSoundBy (k + 1) s.options) same h.0)
-sound_from k (first ∷ stages) (suc i) stage h e =
-    let next : suc k + i + 1 ≡ k + suc i + 1 = omega arith in
-    subst (λ (n : ℕ). IsSoundBy n stage.options) next (sound_from (suc k) stages i stage h.1 e)
+    let is : k + 1 ≡ j = omega (arith, at) in
+    subst (λ (n : ℕ). IsSoundBy n stage.options) is (subst (λ (s : Stage). IsSoundBy (k + 1) s.options) same h.0)
+sound_from k (first ∷ stages) (suc i) j stage at h e =
+    sound_from (suc k) stages i j stage (omega (arith, at)) h.1 e
 
-pub sound_at : (stages : List Stage) (k : ℕ) (stage : Stage) → AreSoundFrom 0 stages
+sound_at : (stages : List Stage) (k : ℕ) (stage : Stage) → AreSoundFrom 0 stages
     → slice_get stages k ≡ Some stage → IsSoundBy (k + 1) stage.options
-sound_at stages k stage h e =
-    let zeros : 0 + k + 1 ≡ k + 1 = omega arith in
-    subst (λ (n : ℕ). IsSoundBy n stage.options) zeros (sound_from 0 stages k stage h e)
+sound_at stages k stage h e = sound_from 0 stages k (k + 1) stage (omega arith) h e
 
 below_all : (k : ℕ) (xs : List ℕ) → AllByRecursion (λ s. (1 ≤ s) × (s ≤ k)) xs
     → AllByRecursion (λ s. s < k) (map pred xs)
@@ -266,9 +246,9 @@ is_tree bytes stages h sound = record {
     each : (k : ℕ) → k < length stages → IsPart (length (parts_of bytes stages)) k (part_at (parts_of bytes stages) k)
     each k less =
         let s = there stages k less in
-        rw (part k s.item s.is) (is_part _ k (bytes k) s.item.sources s.item.options
-        (h.counts k s.item s.is) (h.lower k s.item s.is) (sound_at stages k s.item sound s.is)
-        (λ more. h.scores k s.item s.is (rw count at more)))
+        rw (part k s.0 s.1) (is_part _ k (bytes k) s.0.sources s.0.options
+        (h.counts k s.0 s.1) (h.lower k s.0 s.1) (sound_at stages k s.0 sound s.1)
+        (λ more. h.scores k s.0 s.1 (rw count at more)))
 
     sources : (k : ℕ) (stage : Stage) → slice_get stages k ≡ Some stage
         → sources_of (part_at (parts_of bytes stages) k) ≡ map pred stage.sources
@@ -279,7 +259,7 @@ is_tree bytes stages h sound = record {
     read k less =
         let counted : times (k + 1) (all_sources stages) ≡ 1 = h.once (k + 1) (omega arith) less in
         let found = found_among (k + 1) stages (omega arith) in
-        let inside : found.reader < length stages = within stages found.reader found.at.stage found.at.is in
+        let inside : found.reader < length stages = slice_get_within stages found.reader found.at.stage found.at.is in
         record {
           reader = found.reader;
           place = found.place;
@@ -295,10 +275,10 @@ is_tree bytes stages h sound = record {
     stands i p k a =
         let inside : i < length stages = rw count at a.within in
         let s = there stages i inside in
-        let mapped_source : option_map pred (slice_get s.item.sources p) ≡ Some k =
-        rw (sources i s.item s.is, slice_get-map pred s.item.sources p) at a.source in
-        let found = source_of s.item.sources p k i (h.lower i s.item s.is) mapped_source in
-        (record { stage = s.item; is = s.is; source = found.0 }, omega arith)
+        let mapped_source : option_map pred (slice_get s.0.sources p) ≡ Some k =
+        rw (sources i s.0 s.1, slice_get-map pred s.0.sources p) at a.source in
+        let found = source_of s.0.sources p k i (h.lower i s.0 s.1) mapped_source in
+        (record { stage = s.0; is = s.1; source = found.0 }, omega arith)
 
     once : (i p j q k : ℕ) → IsReadAt (parts_of bytes stages) i p k
         → IsReadAt (parts_of bytes stages) j q k → (i ≡ j) × (p ≡ q)
@@ -319,12 +299,12 @@ pub few_sources : (bytes : ℕ → List ℕ) (stages : List Stage) → plan.IsTr
     → length (sources_of (part_at (parts_of bytes stages) k)) ≤ 15
 few_sources bytes stages h k less =
     let s = there stages k (rw (parts_length 0 bytes stages) at less) in
-    let may = h.counts k s.item s.is in
+    let may = h.counts k s.0 s.1 in
     rw (
-      part_here bytes stages k s.item s.is,
-      sources_are k (bytes k) s.item.sources s.item.options may,
-      length-map s.item.sources pred,
-    ) (narrow s.item.options (length s.item.sources) may)
+      part_here bytes stages k s.0 s.1,
+      sources_are k (bytes k) s.0.sources s.0.options may,
+      length-map s.0.sources pred,
+    ) (narrow s.0.options (length s.0.sources) may)
 
 pub stage_there : (stages : List PlanStage) (k : ℕ) (stage : PlanStage) → slice_get stages k ≡ Some stage
     → slice_get (stages_of stages) k ≡ Some (stage_of stage)
@@ -357,5 +337,5 @@ last_keeps bytes stages h sound all =
     let k = pred (length stages) in
     let few = h.some in
     let s = there stages k (omega arith) in
-    rw (parts_length 0 bytes stages, part_here bytes stages k s.item s.is)
-    (keeps k (bytes k) s.item.sources s.item.options (sound_at stages k s.item sound s.is) (all k s.item s.is))
+    rw (parts_length 0 bytes stages, part_here bytes stages k s.0 s.1)
+    (keeps k (bytes k) s.0.sources s.0.options (sound_at stages k s.0 sound s.1) (all k s.0 s.1))

@@ -1,14 +1,13 @@
-use Rattle.std.proofs.Common.{◌∙◌, ap, subst, length, length-append, arith}
-use Rattle.std.proofs.lemmas.List.{length-map, nil_from_length}
+use Rattle.std.proofs.Common.{ap, length, length-append, arith}
+use Rattle.std.proofs.lemmas.List.{length-map}
 use Rattle.hum_plan.specs.Seen.{stage_of, stages_of}
-use Rattle.hum_net.specs.Nodes.{AllFrom, Fits, Tells, reads_of}
+use Rattle.hum_net.specs.Nodes.{reads_of}
 use Rattle.hum_net.proofs.Building.{none_built, one_built, all_built, all_length}
 use Rattle.hum_net.proofs.Treeing.{are_narrow}
 use Rattle.hum_net.proofs.nodes.plan_nodes.Goals as goal
 
 pub stages-init : goal.stages-init
-stages-init g c = rw c.new-nodes.ensures.items (none_built (Fits g.S.Stage) (Tells g.R.Source.remaining)
-    g.R.Source.remaining c.from-coming.result.items c.from-left.result.items
+stages-init g c = rw c.new-nodes.ensures.items (none_built
     (rw (c.from-coming.ensures.0, c.from-left.ensures.0) c.requires.readers)
     (rw c.from-coming.ensures.0 (are_narrow c.args.stages.items c.requires.tree)))
 
@@ -34,22 +33,20 @@ plan_node-requires-clause-reader g c =
     omega (arith, many, sum)
 
 pub stages-preserved : goal.stages-preserved
-stages-preserved g c = rw c.in_ok-push.ensures.items
-    (one_built (Fits g.S.Stage) (Tells g.R.Source.remaining) g.R.Source.remaining
-    c.from-coming.result.items c.in-Some.stage _ c.from-left.result.items c.stages.left.items _ c.stages.nodes.items c.in_ok-node.node
-    c.len.result (rw c.in-Some.ensures.items at c.stages.invariant)
+stages-preserved g c =
+    let before = rw c.in-Some.ensures.items at c.stages.invariant in
+    rw c.in_ok-push.ensures.items (one_built before
     (let k = c.len.ensures in let o = c.stages.nodes.ok.0 in omega (arith, k, o)) c.in_ok-node.ensures.fits
     c.in_ok-node.ensures.told c.plan_node.ensures.left)
 
 pub returns-in_default-clause-fits : goal.returns-in_default-clause-fits
 returns-in_default-clause-fits g c =
-    let b = c.stages.invariant in
-    subst (λ l. AllFrom (Fits g.S.Stage) 0 l c.stages.nodes.items)
-    (all_built _ _ _ _ _ _ _ _ b (nil_from_length _ (let len = c.in_default.ensures.cases.0 in let is = c.stages.coming.ok.0 in omega (arith, len, is))) ∙ c.from-coming.ensures.0) b.made
+    let len = c.in_default.ensures.cases.0 in
+    let is = c.stages.coming.ok.0 in
+    rw (← c.from-coming.ensures.0) (all_built c.stages.invariant (omega (arith, len, is))).0
 
 pub returns-in_default-clause-told : goal.returns-in_default-clause-told
-returns-in_default-clause-told g c bytes t =
-    let b = c.stages.invariant in
-    subst (λ l. AllFrom (Tells g.R.Source.remaining bytes) 0 l c.stages.nodes.items)
-    (all_built _ _ _ _ _ _ _ _ b (nil_from_length _ (let len = c.in_default.ensures.cases.0 in let is = c.stages.coming.ok.0 in omega (arith, len, is))) ∙ c.from-coming.ensures.0)
-    (b.told bytes (rw (c.from-coming.ensures.0, c.from-left.ensures.0) t)).0
+returns-in_default-clause-told g c =
+    let len = c.in_default.ensures.cases.0 in
+    let is = c.stages.coming.ok.0 in
+    rw (← c.from-coming.ensures.0, ← c.from-left.ensures.0) (all_built c.stages.invariant (omega (arith, len, is))).1

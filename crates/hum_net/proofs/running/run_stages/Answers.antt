@@ -1,7 +1,7 @@
 use Rattle.std.proofs.Common.{◌≡◌, ◌||◌, ◌++◌, ℕ, List, true, false, refl, inl, inr}
 use Rattle.hum_engine.specs.Readers.{ended_at}
 use Rattle.hum_net.specs.Scenes.{scene_of, first_now}
-use Rattle.hum_net.proofs.Going.{ended_so, has_written, means_valid, nothing_written, lawful_tree, no_read_failed}
+use Rattle.hum_net.proofs.Going.{ended_so, has_written, means_valid, nothing_written, no_read_failed}
 use Rattle.hum_plan.specs.Seen.{stages_of}
 use Rattle.hum_net.proofs.running.run_stages.Goals as goal
 
@@ -10,10 +10,9 @@ returns-in-Ok-clause-wrote g c bytes told =
     let stages = stages_of c.args.stages.items in
     let ran = c.run-result.ensures.whole _ (scene_of bytes bytes stages c.args.link) first_now
     (c.in-Ok.ensures.tells bytes told) (c.in-Ok.ensures.opens bytes) in
-    rw c.into_writer.ensures.sink
-    (has_written bytes ran.left stages c.args.link _ _ _ _
-    (lawful_tree bytes stages c.requires.tree c.in-Ok.ensures.valid)
-    (means_valid bytes stages c.requires.tree c.in-Ok.ensures.valid (rw (← c.deref.ensures.value) c.all_keep_records.ensures)) ran.runs.outcome)
+    let is = means_valid bytes stages c.requires.tree c.in-Ok.ensures.valid
+    (rw (← c.deref.ensures.value) c.all_keep_records.ensures) in
+    rw c.into_writer.ensures.sink (has_written is ran.left c.args.link _ _ _ _ ran.runs.outcome)
 
 pub returns-in-Ok-clause-picked : goal.returns-in-Ok-clause-picked
 returns-in-Ok-clause-picked g c bytes told =

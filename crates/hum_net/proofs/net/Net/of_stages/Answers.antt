@@ -1,7 +1,6 @@
 use Rattle.std.proofs.Common.{◌<◌, arith}
-use Rattle.hum_plan.specs.Seen.{stages_of}
-use Rattle.hum_net.specs.Scenes.{scene_of}
-use Rattle.hum_net.proofs.Going.{all_begun, all_tell, few_nodes, net_at, sound_from}
+use Rattle.hum_net.specs.Scenes.{first_now}
+use Rattle.hum_net.proofs.Going.{is_first, all_begun, all_tell, few_nodes, sound_from}
 use Rattle.hum_net.proofs.net.Net.of_stages.Goals as goal
 
 pub of_nodes-requires : goal.of_nodes-requires
@@ -11,14 +10,15 @@ of_nodes-requires g c =
 pub invariant_of-result : goal.invariant_of-result
 invariant_of-result g c =
     let some : 0 < c.args.link = let l = c.requires.link in omega (arith, l) in
-    c.in_ok-engine.ensures.runs (λ rests. scene_of rests rests (stages_of c.args.stages.items) c.args.link)
+    c.in_ok-engine.ensures.runs _
     (all_begun c.args.stages.items c.in-Ok.nodes.items c.args.link c.requires.tree some c.in-Ok.ensures.fits)
 
 pub returns-clause-opens : goal.returns-clause-opens
 returns-clause-opens g c bytes =
     let some : 0 < c.args.link = let l = c.requires.link in omega (arith, l) in
-    (net_at bytes c.args.stages.items c.in-Ok.nodes.items c.args.link _ c.in_ok-engine.engine
-    c.in_ok-engine.ensures.ok c.requires.tree some c.in-Ok.ensures.fits).0
+    let begun =
+    all_begun c.args.stages.items c.in-Ok.nodes.items c.args.link c.requires.tree some c.in-Ok.ensures.fits in
+    c.in_ok-engine.ensures.ok _ first_now is_first (begun.plan bytes) (begun.begun bytes)
 
 pub returns-clause-tells : goal.returns-clause-tells
 returns-clause-tells g c bytes told = rw c.in_ok-engine.ensures.nodes
