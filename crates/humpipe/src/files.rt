@@ -5,7 +5,7 @@ ghost use Rattle.hum_plan.specs.Stages.{IsTree, reads_of};
 ghost use Rattle.hum_net.specs.Bundles.{is_refused, is_failed_write};
 ghost use Rattle.humpipe.specs.Files.{IsOneShut, MayCome, Picks};
 
-use hum_net::{Net, Order, Outcome, Plan, PlanError, RunResult, parse_plan};
+use hum_net::{Order, Outcome, Plan, PlanError, RunResult, parse_plan, run_stages};
 use hum_text::calls::{Marked, Sink};
 use std::fs::{self, File};
 
@@ -63,11 +63,6 @@ pub fn run_files<O: Order, W: Sink + Drop>(
         Ok(readers) => readers,
         Err(outcome) => return (outcome, writer),
     };
-    match Net::new(rt.alloc(), plan, readers, writer, link) {
-        Ok(mut net) => {
-            let end = net.run(order);
-            (Outcome::Run(end), net.into_writer())
-        }
-        Err(writer) => (Outcome::Run(RunResult::Memory), writer),
-    }
+    let (end, writer) = run_stages(rt.alloc(), plan.into_stages(), readers, link, order, writer);
+    (Outcome::Run(end), writer)
 }

@@ -15,7 +15,7 @@ use crate::ending::Ending;
 use crate::files::run_files;
 use hum_line::{Choice, LineFault, Side, read_line};
 use hum_net::{Leftmost, Order, Rightmost, run_bundle};
-use hum_text::calls::LARGEST_READ;
+use hum_text::calls::{LARGEST_READ, Sink};
 use hum_text::gathered::Gathered;
 use hum_words::{LARGEST_BUNDLE, LONGEST_PLAN};
 use std::alloc::Global;
@@ -38,8 +38,19 @@ fn read_up_to<R: Read + Drop>(alloc: Global, reader: R, most: u64) -> io::Result
     Ok(bytes)
 }
 
+/// The bytes of a plan's file.
+fn read_plan(rt: &HostRuntime, plan: &str) -> io::Result<Vec<u8>> {
+    let file = fs::open(rt, plan)?;
+    read_up_to(rt.alloc(), file, LONGEST_PLAN as u64)
+}
+
 /// Runs standard input as a bundle.
-fn run_input<O: Order>(rt: &HostRuntime, link: u16, order: &mut O) -> io::Result<Ending>
+fn run_input<O: Order, W: Sink + Drop>(
+    rt: &HostRuntime,
+    link: u16,
+    order: &mut O,
+    writer: W,
+) -> io::Result<Ending>
     requires link { 1 ≤ link }
     requires room { link ≤ 4096 }
 
@@ -50,27 +61,29 @@ fn run_input<O: Order>(rt: &HostRuntime, link: u16, order: &mut O) -> io::Result
         Ok(bundle) => bundle,
         Err(error) => return unread(error),
     };
-    let (outcome, _writer) = run_bundle(rt.alloc(), &bundle, link, order, output(rt)?);
+    let (outcome, _writer) = run_bundle(rt.alloc(), &bundle, link, order, writer);
     Ok(Ending::Outcome(outcome))
 }
 
 /// Runs the plan of a file.
-fn run_plan<O: Order>(rt: &HostRuntime, plan: &str, link: u16, order: &mut O) -> io::Result<Ending>
+fn run_plan<O: Order, W: Sink + Drop>(
+    rt: &HostRuntime,
+    plan: &str,
+    link: u16,
+    order: &mut O,
+    writer: W,
+) -> io::Result<Ending>
     requires link { 1 ≤ link }
     requires room { link ≤ 4096 }
 
     // The turns are those that the order picked, over links of this size.
     ensures picked { IfOk result (Drives (order_of O.Order) link order.old order.new) }
 {
-    let plan = match fs::open(rt, plan) {
-        Ok(file) => read_up_to(rt.alloc(), file, LONGEST_PLAN as u64),
-        Err(error) => Err(error),
-    };
-    let plan = match plan {
+    let plan = match read_plan(rt, plan) {
         Ok(plan) => plan,
         Err(error) => return unread(error),
     };
-    let (outcome, _writer) = run_files(rt, &plan, link, order, output(rt)?);
+    let (outcome, _writer) = run_files(rt, &plan, link, order, writer);
     Ok(Ending::Outcome(outcome))
 }
 
@@ -93,9 +106,10 @@ fn run_choice<O: Order>(rt: &HostRuntime, choice: Choice<'_>, order: &mut O) -> 
     // The turns are those that the order picked, over links of this size.
     ensures picked { IfOk result (Drives (order_of O.Order) choice.entry.link order.old order.new) }
 {
+    let writer = output(rt)?;
     match choice.file {
-        None => run_input(rt, choice.link, order),
-        Some(plan) => run_plan(rt, plan, choice.link, order),
+        None => run_input(rt, choice.link, order, writer),
+        Some(plan) => run_plan(rt, plan, choice.link, order, writer),
     }
 }
 

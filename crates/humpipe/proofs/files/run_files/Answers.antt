@@ -1,24 +1,21 @@
-use Rattle.std.proofs.Common.{ℕ, List, [], ◌++◌, refl, inl}
-use Rattle.hum_net.specs.Scenes.{scene_of, first_now}
-use Rattle.hum_net.proofs.Going.{is_first}
+use Rattle.std.proofs.Common.{◌∙◌, refl, ap, sym, subst, [], inl, inr, ⊎_elim}
+use Rattle.hum_plan.specs.Grammar.{IsPlanOf}
+use Rattle.hum_net.specs.Nodes.{reads_of}
+use Rattle.hum_net.proofs.Planning.{counted}
 use Rattle.humpipe.proofs.files.run_files.Goals as goal
 
+pub run_stages-end-requires-clause-readers : goal.run_stages-end-requires-clause-readers
+run_stages-end-requires-clause-readers g c =
+    ap reads_of c.into_stages.ensures.stages ∙ sym (counted c.in-Ok.plan) ∙ c.in-Ok-open_all.ensures.count
+
 -- what was read is all that the files gave
-pub returns-in-Ok-new-clause-picked : goal.returns-in-Ok-new-clause-picked
-returns-in-Ok-new-clause-picked g c =
-    let bytes : ℕ → List ℕ = λ k. c.run-end.ensures.ran.reads k ++ [] in
-    let runs = c.run-end.ensures.ran.runs _ (scene_of bytes (λ k. []) _ c.args.link) first_now
-    (λ k e. refl) (c.in-Ok-new.ensures.opens bytes) in
-    inl (record {
+pub returns-clause-picked : goal.returns-clause-picked
+returns-clause-picked g c = ⊎_elim
+    (λ run. inl (record {
       stages = _;
-      plan = c.in-Ok.ensures.written;
-      bytes = bytes;
-      picked = record {
-        turns = runs.leads.turns;
-        first = first_now;
-        last = runs.leads.to;
-        is_first = is_first;
-        driven = runs.leads.driven;
-        over = runs.over;
-      };
-    })
+      plan = subst (IsPlanOf c.args.plan.now) (sym c.into_stages.ensures.stages) c.in-Ok.ensures.written;
+      bytes = _;
+      picked = (run.ends (λ k. []) (λ k e. refl)).picked;
+    }))
+    (λ unasked. inr unasked)
+    c.run_stages-end.ensures.driven
