@@ -26,7 +26,7 @@ use Rattle.hum_net.specs.Parts.{part_of, parts_of, AreSoundFrom, AllGiveScores, 
 use Rattle.hum_net.specs.Nodes.{AllFrom, Fits, Tells}
 use Rattle.hum_engine.proofs.Appending.{appends_none}
 use Rattle.hum_valid.specs.Records.{AreRecords}
-use Rattle.hum_net.specs.Runs.{HasWritten, HasEnded, WroteAll, WroteFront, IsValid}
+use Rattle.hum_net.specs.Runs.{HasWritten, HasEnded, WroteAll, IsValid}
 use Rattle.hum_net.specs.Scenes.{scene_of, first_now}
 use Rattle.hum_turns.proofs.Against.{meaning_fine}
 use Rattle.hum_nodes.proofs.Fining.{fine_is}
@@ -187,15 +187,13 @@ few_nodes Holds stages nodes tree fits =
     omega (arith, count, bound)
 
 -- Where no source can fail, none has failed, and no failed read is told.
-none_failed : {S R : Type 0} (reader : Source R) → ((r : R) → reader.failed r ≡ false) → (nodes : List (Node S R)) (k : ℕ)
-    → failed_at reader k nodes ≡ false
-none_failed {S} {R} reader never nodes k = by (slice_get nodes k)
-  where
-    by : (o : Option (Node S R)) → or_none false (failed_of reader.failed) o ≡ false
-    by None = refl
-    by (Some node) = never_failed reader.failed never node
+none_failed : {S R : Type 0} (reader : Source R) → ((r : R) → reader.failed r ≡ false) → (o : Option (Node S R))
+    → or_none false (failed_of reader.failed) o ≡ false
+none_failed reader never None = refl
+none_failed reader never (Some node) = never_failed reader.failed never node
 
 pub no_read_failed : {S R : Type 0} (reader : Source R) → ((r : R) → reader.failed r ≡ false) → (old new : List (Node S R))
     (k : ℕ) (told : Bool) → failed_at reader k new ≡ (failed_at reader k old || told) → told ≡ false
 no_read_failed reader never old new k told e =
-    ap (λ b. b || told) (sym (none_failed reader never old k)) ∙ sym e ∙ none_failed reader never new k
+    ap (λ b. b || told) (sym (none_failed reader never (slice_get old k))) ∙ sym e
+    ∙ none_failed reader never (slice_get new k)

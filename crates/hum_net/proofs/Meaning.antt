@@ -13,7 +13,7 @@ use Rattle.hum_nodes.specs.Trees.{kind_of}
 use Rattle.hum_nodes.specs.Single.{single}
 use Rattle.hum_nodes.specs.Merging.{merging}
 use Rattle.hum_choices.specs.Options.{options_of}
-use Rattle.hum_plan.specs.Stages.{Takes}
+use Rattle.hum_plan.specs.Stages as plan
 use Rattle.hum_plan.specs.Seen.{options_of as said_by}
 use Rattle.hum_plan.specs.declared.stages.Options.{Options}
 use Rattle.hum_plan.specs.declared.stages.Options.TheVariants as said
@@ -27,10 +27,23 @@ numbered n _ = refl
 
 is_sound : (n : ℕ) (options : CommandOptions) → IsLawful (meaning n options)
     → (MakesScores options → KeepsScore (meaning n options).outcomes)
-    → IsSoundBy n (Takes (options_of options))
+    → IsSoundBy n (plan.Takes (options_of options))
 is_sound n options lawful keeps = (lawful, numbered n options, keeps)
 
+-- what fits a stage of these sources and options
+abbrev FitsBy : {S R : Type 0} → Commands S → ℕ → List ℕ → plan.Options → Node S R → Type 0
+FitsBy commands k sources options node =
+    ((bytes : List ℕ)
+    → StandsAs commands.stands node bytes (fresh (kind_of (k + 1) (part_by k bytes sources options))))
+    × IsSoundBy (k + 1) options
+
 module _ {S R : Type 0} (commands : Commands S) (k number : ℕ) (stage : PlanStage) where
+  by_parts : (sources : List ℕ) (options : Options) (node : Node S R) → stage.options ≡ options
+      → stage.sources.items ≡ sources → FitsBy commands k sources (said_by options) node → Fits commands k stage node
+  by_parts sources options node told at fits =
+      subst (λ (o : Options). FitsBy commands k stage.sources.items (said_by o) node) (sym told)
+      (subst (λ (l : List ℕ). FitsBy commands k l (said_by options) node) (sym at) fits)
+
   -- of a command
   pub command_fits : (sources : List ℕ) (options : CommandOptions) (source : ℕ) (node : Node S R)
       → stage.options ≡ said.Command options → stage.sources.items ≡ sources → source ≡ first_of sources
@@ -39,18 +52,11 @@ module _ {S R : Type 0} (commands : Commands S) (k number : ℕ) (stage : PlanSt
       → (MakesScores options → KeepsScore (meaning number options).outcomes) → number ≡ k + 1
       → Fits commands k stage node
   command_fits sources options source node told at first fits lawful keeps is =
-      let says = Takes (options_of options) in (
-        λ bytes.
-            let now = subst (λ (s : ℕ). StandsAs commands.stands node bytes (fresh (single s (meaning number options)))) first (fits bytes) in
-            let here = subst
-            (λ (n : ℕ). StandsAs commands.stands node bytes (fresh (single (first_of sources) (meaning n options)))) is now in
-            let by = subst (λ (l : List ℕ). StandsAs commands.stands node bytes (fresh (kind_of (k + 1) (part_by k bytes l says))))
-            (sym at) here in
-            subst
-            (λ (o : Options). StandsAs commands.stands node bytes (fresh (kind_of (k + 1) (part_by k bytes stage.sources.items (said_by o)))))
-            (sym told) by,
-        subst (λ (o : Options). IsSoundBy (k + 1) (said_by o)) (sym told)
-            (subst (λ (n : ℕ). IsSoundBy n says) is (is_sound number options lawful keeps)),
+      let At : ℕ → List ℕ → ℕ → Type 0 = λ s rest n.
+      StandsAs commands.stands node rest (fresh (single s (meaning n options))) in
+      by_parts sources (said.Command options) node told at (
+        λ bytes. subst (λ s. At s bytes (k + 1)) first (subst (At source bytes) is (fits bytes)),
+        subst (λ n. IsSoundBy n (plan.Takes (options_of options))) is (is_sound number options lawful keeps),
       )
 
   -- of assemble
@@ -58,12 +64,8 @@ module _ {S R : Type 0} (commands : Commands S) (k number : ℕ) (stage : PlanSt
       → sources ≡ map pred stage.sources.items
       → ((rest : List ℕ) → StandsAs commands.stands node rest (fresh (merging number sources))) → number ≡ k + 1
       → Fits commands k stage node
-  assemble_fits sources node told at fits is = (
-    λ bytes.
-        let here = subst (λ (l : List ℕ). StandsAs commands.stands node bytes (fresh (merging number l))) at (fits bytes) in
-        let by = subst (λ (n : ℕ). StandsAs commands.stands node bytes (fresh (merging n (map pred stage.sources.items)))) is here in
-        subst
-        (λ (o : Options). StandsAs commands.stands node bytes (fresh (kind_of (k + 1) (part_by k bytes stage.sources.items (said_by o)))))
-        (sym told) by,
-    subst (λ (o : Options). IsSoundBy (k + 1) (said_by o)) (sym told) tt,
-  )
+  assemble_fits sources node told at fits is =
+      let At : List ℕ → ℕ → List ℕ → Type 0 = λ rest n from.
+      StandsAs commands.stands node rest (fresh (merging n from)) in
+      by_parts stage.sources.items said.Assemble node told refl
+      (λ bytes. subst (At bytes (k + 1)) at (subst (λ n. At bytes n sources) is (fits bytes)), tt)

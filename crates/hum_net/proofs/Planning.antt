@@ -65,9 +65,9 @@ is_net_plan bytes stages size h sound some =
 
 count_by : (k : ℕ) (options : plan.Options) (rest : List plan.ReadStage) (n : ℕ) → length rest ≡ n
     → length (plan.with_read_stage k options rest) ≡ reads_by options + n
-count_by k (plan.Read name) rest n h = let e = h in omega (arith, e)
-count_by k plan.Assemble rest n h = let e = h in omega (arith, e)
-count_by k (plan.Takes options) rest n h = let e = h in omega (arith, e)
+count_by k (plan.Read name) rest n h = omega (arith, h)
+count_by k plan.Assemble rest n h = omega (arith, h)
+count_by k (plan.Takes options) rest n h = omega (arith, h)
 
 counted_from : (k : ℕ) (stages : List plan.Stage) → length (plan.reads_behind k stages) ≡ reads_of stages
 counted_from k [] = refl

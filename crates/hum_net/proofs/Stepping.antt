@@ -1,5 +1,5 @@
 -- What a net that lasts may be asked, and that it lasts.
-use Rattle.std.proofs.Common.{refl, ℕ, ◌<◌, ◌≤◌, List, [], length, Option, Bool, arith}
+use Rattle.std.proofs.Common.{refl, ℕ, ◌<◌, ◌≤◌, [], length, Bool, arith}
 use Rattle.hum_text.specs.declared.calls.Source.{Ghosts as Source}
 use Rattle.hum_text.specs.declared.calls.Sink.{Ghosts as Sink}
 use Rattle.hum_stage.specs.declared.contract.Stage.{Ghosts as Commands}

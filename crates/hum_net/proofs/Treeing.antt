@@ -27,10 +27,7 @@ same_true : (n : ℕ) → (n == n) ≡ true
 same_true n = grind (arith, nat_tests)
 
 times_more : (n x : ℕ) (xs : List ℕ) → times n xs ≤ times n (x ∷ xs)
-times_more n x xs = elim (x == n) as (λ b. times n xs ≤ cond b 1 0 + times n xs) [
-  | true ↦ omega arith
-  | false ↦ omega arith
-]
+times_more n x xs = grind arith
 
 times_here : (n x : ℕ) (xs : List ℕ) → x ≡ n → times n (x ∷ xs) ≡ suc (times n xs)
 times_here n x xs e = rw (e, same_true n) (omega arith)
@@ -38,11 +35,7 @@ times_here n x xs e = rw (e, same_true n) (omega arith)
 times_append : (n : ℕ) (xs ys : List ℕ) → times n (xs ++ ys) ≡ times n xs + times n ys
 times_append n [] ys = omega arith
 times_append n (x ∷ xs) ys =
-    let ih = times_append n xs ys in
-    elim (x == n) as (λ b. cond b 1 0 + times n (xs ++ ys) ≡ cond b 1 0 + times n xs + times n ys) [
-      | true ↦ omega arith
-      | false ↦ omega arith
-    ]
+    let ih = times_append n xs ys in grind (arith, ih)
 
 -- one that stands somewhere is counted
 counted : (n : ℕ) (xs : List ℕ) (p : ℕ) → slice_get xs p ≡ Some n → 1 ≤ times n xs
@@ -78,67 +71,55 @@ stands_at n (x ∷ xs) h = stands_first n x xs (x == n) refl h (λ k. stands_at 
 
 -- The same among the sources of all stages.
 
-pub record StandsAt (stages : List Stage) (i p n : ℕ) : Type 0 where
-  pub stage : Stage
-  pub is : slice_get stages i ≡ Some stage
-  pub source : slice_get stage.sources p ≡ Some n
-
-counted_among : (n : ℕ) (stages : List Stage) (i p : ℕ) → StandsAt stages i p n
-    → 1 ≤ times n (all_sources stages)
-counted_among n [] i p h = let e = h.is in cc
-counted_among n (stage ∷ stages) zero p h =
-    let e = h.is in let same : stage ≡ h.stage = cc in
-    let here = counted n stage.sources p (rw same h.source) in
-    rw (times_append n stage.sources (all_sources stages)) (omega arith)
-counted_among n (stage ∷ stages) (suc i) p h =
-    let ih = counted_among n stages i p (record { stage = h.stage; is = h.is; source = h.source }) in
-    rw (times_append n stage.sources (all_sources stages)) (omega arith)
+abbrev StandsAt : List Stage → ℕ → ℕ → ℕ → Type 0
+StandsAt stages i p n =
+    (stage : Stage) × (slice_get stages i ≡ Some stage) × (slice_get stage.sources p ≡ Some n)
 
 front : (n : ℕ) (stage : Stage) (stages : List Stage) (p : ℕ) → StandsAt (stage ∷ stages) 0 p n
     → slice_get stage.sources p ≡ Some n
-front n stage stages p h = let e = h.is in let same : stage ≡ h.stage = cc in rw same h.source
+front n stage stages p h = let e = h.1 in let same : stage ≡ h.0 = cc in rw same h.2
 
-behind : (n : ℕ) (stage : Stage) (stages : List Stage) (i p : ℕ) → StandsAt (stage ∷ stages) (suc i) p n
-    → StandsAt stages i p n
-behind n stage stages i p h = record { stage = h.stage; is = h.is; source = h.source }
+counted_among : (n : ℕ) (stages : List Stage) (i p : ℕ) → StandsAt stages i p n
+    → 1 ≤ times n (all_sources stages)
+counted_among n [] i p h = let e = h.1 in cc
+counted_among n (stage ∷ stages) zero p h =
+    let here = counted n stage.sources p (front n stage stages p h) in
+    rw (times_append n stage.sources (all_sources stages)) (omega arith)
+counted_among n (stage ∷ stages) (suc i) p h =
+    let ih = counted_among n stages i p h in
+    rw (times_append n stage.sources (all_sources stages)) (omega arith)
 
 same_among : (n : ℕ) (stages : List Stage) (i p j q : ℕ) → StandsAt stages i p n
     → StandsAt stages j q n → times n (all_sources stages) ≤ 1 → (i ≡ j) × (p ≡ q)
-same_among n [] i p j q h k few = let e = h.is in cc
+same_among n [] i p j q h k few = let e = h.1 in cc
 same_among n (stage ∷ stages) zero p zero q h k few =
     let all = times_append n stage.sources (all_sources stages) in
     (refl, same_place n stage.sources p q (front n stage stages p h) (front n stage stages q k) (omega arith))
 same_among n (stage ∷ stages) zero p (suc j) q h k few =
     let all = times_append n stage.sources (all_sources stages) in
     let a = counted n stage.sources p (front n stage stages p h) in
-    let b = counted_among n stages j q (behind n stage stages j q k) in absurd (omega arith)
+    let b = counted_among n stages j q k in absurd (omega arith)
 same_among n (stage ∷ stages) (suc i) p zero q h k few =
     let all = times_append n stage.sources (all_sources stages) in
     let a = counted n stage.sources q (front n stage stages q k) in
-    let b = counted_among n stages i p (behind n stage stages i p h) in absurd (omega arith)
+    let b = counted_among n stages i p h in absurd (omega arith)
 same_among n (stage ∷ stages) (suc i) p (suc j) q h k few =
     let all = times_append n stage.sources (all_sources stages) in
-    let ih = same_among n stages i p j q (behind n stage stages i p h) (behind n stage stages j q k) (omega arith) in
-    (ap suc ih.0, ih.1)
+    let ih = same_among n stages i p j q h k (omega arith) in (ap suc ih.0, ih.1)
 
-pub record Found (stages : List Stage) (n : ℕ) : Type 0 where
-  pub reader : ℕ
-  pub place : ℕ
-  pub at : StandsAt stages reader place n
+record Found (stages : List Stage) (n : ℕ) : Type 0 where
+  reader : ℕ
+  place : ℕ
+  at : StandsAt stages reader place n
 
 found_first : (n : ℕ) (stage : Stage) (stages : List Stage) (t : ℕ) → times n stage.sources ≡ t
     → 1 ≤ times n stage.sources + times n (all_sources stages)
     → (1 ≤ times n (all_sources stages) → Found stages n) → Found (stage ∷ stages) n
 found_first n stage stages zero e k rest =
-    let ih = rest (omega arith) in
-    record {
-      reader = suc ih.reader;
-      place = ih.place;
-      at = record { stage = ih.at.stage; is = ih.at.is; source = ih.at.source };
-    }
+    let ih = rest (omega arith) in record { reader = suc ih.reader; place = ih.place; at = ih.at }
 found_first n stage stages (suc t) e k rest =
     let here = stands_at n stage.sources (omega arith) in
-    record { reader = 0; place = here.0; at = record { stage = stage; is = refl; source = here.1 } }
+    record { reader = 0; place = here.0; at = (stage, refl, here.1) }
 
 found_among : (n : ℕ) (stages : List Stage) → 1 ≤ times n (all_sources stages) → Found stages n
 found_among n [] h = absurd (omega arith)
@@ -239,34 +220,30 @@ is_tree bytes stages h sound = record {
     count : length (parts_of bytes stages) ≡ length stages
     count = parts_length 0 bytes stages
 
-    part : (k : ℕ) (stage : Stage) → slice_get stages k ≡ Some stage
-        → part_at (parts_of bytes stages) k ≡ part_of k (bytes k) stage
-    part k stage e = part_here bytes stages k stage e
-
     each : (k : ℕ) → k < length stages → IsPart (length (parts_of bytes stages)) k (part_at (parts_of bytes stages) k)
     each k less =
         let s = there stages k less in
-        rw (part k s.0 s.1) (is_part _ k (bytes k) s.0.sources s.0.options
+        rw (part_here bytes stages k s.0 s.1) (is_part _ k (bytes k) s.0.sources s.0.options
         (h.counts k s.0 s.1) (h.lower k s.0 s.1) (sound_at stages k s.0 sound s.1)
         (λ more. h.scores k s.0 s.1 (rw count at more)))
 
     sources : (k : ℕ) (stage : Stage) → slice_get stages k ≡ Some stage
         → sources_of (part_at (parts_of bytes stages) k) ≡ map pred stage.sources
     sources k stage e =
-        rw (part k stage e) (sources_are k (bytes k) stage.sources stage.options (h.counts k stage e))
+        rw (part_here bytes stages k stage e) (sources_are k (bytes k) stage.sources stage.options (h.counts k stage e))
 
     read : (k : ℕ) → k + 1 < length stages → IsRead (parts_of bytes stages) k
     read k less =
         let counted : times (k + 1) (all_sources stages) ≡ 1 = h.once (k + 1) (omega arith) less in
         let found = found_among (k + 1) stages (omega arith) in
-        let inside : found.reader < length stages = slice_get_within stages found.reader found.at.stage found.at.is in
+        let inside : found.reader < length stages = slice_get_within stages found.reader found.at.0 found.at.1 in
         record {
           reader = found.reader;
           place = found.place;
           read = record {
             within = rw count inside;
-            source = rw (sources found.reader found.at.stage found.at.is)
-                (rw (slice_get-map pred found.at.stage.sources found.place, found.at.source) (ap Some (omega arith)));
+            source = rw (sources found.reader found.at.0 found.at.1)
+                (rw (slice_get-map pred found.at.0.sources found.place, found.at.2) (ap Some (omega arith)));
           };
         }
 
@@ -278,7 +255,7 @@ is_tree bytes stages h sound = record {
         let mapped_source : option_map pred (slice_get s.0.sources p) ≡ Some k =
         rw (sources i s.0 s.1, slice_get-map pred s.0.sources p) at a.source in
         let found = source_of s.0.sources p k i (h.lower i s.0 s.1) mapped_source in
-        (record { stage = s.0; is = s.1; source = found.0 }, omega arith)
+        ((s.0, s.1, found.0), omega arith)
 
     once : (i p j q k : ℕ) → IsReadAt (parts_of bytes stages) i p k
         → IsReadAt (parts_of bytes stages) j q k → (i ≡ j) × (p ≡ q)
