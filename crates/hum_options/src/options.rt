@@ -302,7 +302,7 @@ fn put_by_kind(command: Command, given: &mut GivenOptions<Pattern>) -> Option<Co
         Command::Mint => Some(CommandOptions::Mint(mint(given))),
         Command::Recip => Some(CommandOptions::Recip(RecipOptions)),
         Command::Yank => Some(CommandOptions::Yank(yank(given)?)),
-        _ => None,
+        Command::Read | Command::Assemble | Command::Rid | Command::Cleave => None,
     }
 }
 
