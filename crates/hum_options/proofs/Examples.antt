@@ -193,7 +193,8 @@ unfolding Answers
 phrase a b = inl (a, inl (b, inl (b, refl)))
 
 occurrences : IsExpression (codes "a") → IsExpression (codes "b")
-    → Gives command.Yank (codes "-e b -o a -r $") (is.Yank (is.Occurrences (codes "a") (Some (codes "b"))) (FromEnd 0 0 ∷ []))
+    → Gives command.Yank (codes "-e b -o a -r $")
+    (is.Yank (is.Occurrences (codes "a") (Some (codes "b"))) (FromEnd 0 0 ∷ []))
 unfolding Answers
 occurrences a b = inl (b, inl (a, refl))
 

@@ -5,7 +5,7 @@ use Rattle.hum_words.specs.Branches.{lines_of, branches_from, branches_of}
 use Rattle.hum_words.specs.Characters.{trimmed}
 use Rattle.hum_words.specs.Cutting.{cut}
 use Rattle.hum_stage.specs.declared.faults.Command.TheVariants as command
-use Rattle.hum_options.specs.Answers.{Answers}
+use Rattle.hum_options.specs.Answers.{Answer, Answers}
 use Rattle.hum_options.specs.declared.faults.OptionRule.TheVariants as option
 use Rattle.hum_plan.specs.declared.faults.PlanRule.TheVariants.{N2, N3, N4, N5, N6, N7, N9, N11}
 use Rattle.hum_plan.specs.declared.faults.PlanFault.{PlanFault}
@@ -62,13 +62,15 @@ semits_without_x : Breaks (codes "out: read a | semits") (broken 1 4 N9)
 unfolding LinesAnswer lines_of branches_from trimmed cut StagesAnswer command_of Answers
 semits_without_x =
     let fault : Outcome Outline = Err (broken 1 4 N9) in
-    (fault, (fault, (Ok reads_a, refl, (fault, (Err (record { word = 4; rule = option.N9 }), refl, refl), refl)), refl), refl)
+    let found : Answer = Err (record { word = 4; rule = option.N9 }) in
+    (fault, (fault, (Ok reads_a, refl, (fault, (found, refl, refl), refl)), refl), refl)
 
 rid_before_mint : Breaks (codes "out: read a | rid -I | mint") (broken 1 5 N11)
 unfolding LinesAnswer lines_of branches_from trimmed cut StagesAnswer command_of Answers
 rid_before_mint =
     let fault : Outcome Outline = Err (broken 1 5 N11) in
-    (fault, (fault, (Ok reads_a, refl, (fault, (Err (record { word = 5; rule = option.N11 }), refl, refl), refl)), refl), refl)
+    let found : Answer = Err (record { word = 5; rule = option.N11 }) in
+    (fault, (fault, (Ok reads_a, refl, (fault, (found, refl, refl), refl)), refl), refl)
 
 one_score : Says (codes "out: read a") (Ok (ended 1 (codes "out") reads_a))
 unfolding LinesAnswer lines_of branches_from trimmed cut StagesAnswer command_of
