@@ -2,6 +2,8 @@
 
     rm -rf crates/hum_path/out/incremental; (cd crates/hum_path && rt check --jobs 1); python3 bench/proofs.py hum_path
 
+`rt check` begins with what a check of the same text in another checkout on the machine has kept, so a check is from nothing only where there is none.
+
 A folder stands for a crate too: while the gate tries a crate's edits, `/tmp/rt-edits-*/seed` is what such a check has left.
 
 A check writes each module of its proof once it is checked, so the time between two files is what the later one took. Tells the
