@@ -5,11 +5,11 @@ use Rattle.std.proofs.Common.{arith, length-append, replicate}
 use Rattle.std.specs.Prelude.{Option, None, Some}
 use Rattle.std.specs.List.{list_any}
 use lib.Chars.{codes}
-use Rattle.hum_record.specs.declared.SpinedKind.{SpinedKind}
-use Rattle.hum_record.specs.declared.SpinedKind.TheVariants.{Local, Interpretation, Values}
-use Rattle.hum_record.specs.Row.{Row, Comment, Spined, tokens_of}
-use Rattle.hum_path.specs.Rules.{fault_of}
-use Rattle.hum_path.specs.Spines.{Path, Unopened, Spines, exclusives, width, after}
+use Rattle.hum_score.specs.declared.records.SpinedKind.{SpinedKind}
+use Rattle.hum_score.specs.declared.records.SpinedKind.TheVariants.{Local, Interpretation, Values}
+use Rattle.hum_score.specs.Row.{Row, Comment, Spined, tokens_of}
+use Rattle.hum_score.specs.Rules.{fault_of}
+use Rattle.hum_score.specs.Spines.{Path, Unopened, Spines, exclusives, width, after}
 use Rattle.hum_assemble.specs.declared.places.Place.{Place}
 use Rattle.hum_assemble.specs.Source.{Source, is_inside}
 use Rattle.hum_assemble.specs.Head.{is_opened}
@@ -22,7 +22,7 @@ use Rattle.hum_assemble.proofs.Sides.{IsSound, taker, taken_path}
 use Rattle.hum_assemble.proofs.Sides.{early_inside}
 use Rattle.hum_assemble.proofs.Rounds.{AllSound, NoneInside, AllSettled}
 use Rattle.hum_assemble.proofs.Rounds.{names_of, opened_taker}
-use Rattle.hum_record.specs.Spelling.{is_empty}
+use Rattle.hum_score.specs.Spelling.{is_empty}
 use Rattle.hum_assemble.proofs.Beside.{Leads, own_leads, left_of, right_of, stars}
 
 -- The spines of each source.

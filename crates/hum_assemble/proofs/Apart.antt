@@ -5,9 +5,9 @@ use Rattle.std.proofs.Common.{false, ◌||◌, List, [], ◌∷◌, ◌++◌, le
 use Rattle.std.proofs.Common.{map, length-append}
 use Rattle.std.specs.Prelude.{Option, None, Some, ◌==◌, replicate}
 use Rattle.std.specs.List.{list_any}
-use Rattle.hum_record.specs.Row.{Row}
-use Rattle.hum_path.specs.Spines.{Path, after}
-use Rattle.hum_stage.specs.Score.{Follow}
+use Rattle.hum_score.specs.Row.{Row}
+use Rattle.hum_score.specs.Spines.{Path, after}
+use Rattle.hum_score.specs.InOrder.{Follow}
 use Rattle.hum_stage.specs.declared.faults.End as end
 use Rattle.hum_assemble.specs.declared.places.Place.{Place}
 use Rattle.hum_assemble.specs.Source.{Source, place, is_inside}

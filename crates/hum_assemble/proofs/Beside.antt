@@ -7,17 +7,17 @@ use Rattle.std.specs.List.{list_any, find}
 use Rattle.std.specs.Str.{bytes_eq}
 use Rattle.std.proofs.lemmas.List.{length-map}
 use lib.Chars.{codes}
-use Rattle.hum_record.specs.Spelling.{is_empty}
-use Rattle.hum_path.specs.declared.signs.Sign.{Sign}
-use Rattle.hum_path.specs.declared.signs.Sign.TheVariants.{Plain}
-use Rattle.hum_path.specs.Sign.{sign_of, is_join, is_exchange, is_exclusive, is_path_indicator}
-use Rattle.hum_path.specs.Rules.{breaks, in_order, has_unnamed, stays_unnamed, has_bare}
-use Rattle.hum_path.specs.Rules.{names_and_steers, has_lone_join, is_pair_or_none, has_mixed_join}
-use Rattle.hum_path.specs.Rules.{mixes_join}
-use Rattle.hum_path.specs.Spines.{Spines, exchanges, names_after}
+use Rattle.hum_score.specs.Spelling.{is_empty}
+use Rattle.hum_score.specs.declared.spines.Sign.{Sign}
+use Rattle.hum_score.specs.declared.spines.Sign.TheVariants.{Plain}
+use Rattle.hum_score.specs.Sign.{sign_of, is_join, is_exchange, is_exclusive, is_path_indicator}
+use Rattle.hum_score.specs.Rules.{breaks, in_order, has_unnamed, stays_unnamed, has_bare}
+use Rattle.hum_score.specs.Rules.{names_and_steers, has_lone_join, is_pair_or_none, has_mixed_join}
+use Rattle.hum_score.specs.Rules.{mixes_join}
+use Rattle.hum_score.specs.Spines.{Spines, exchanges, names_after}
 use Rattle.hum_path.specs.Onward.{beginnings, onward, onward_one, at_next, put_next, swapped}
 use Rattle.hum_path.specs.Onward.{renamed_each}
-use Rattle.hum_path.proofs.Cases.{by_bool}
+use Rattle.hum_score.proofs.Cases.{by_bool}
 use Rattle.hum_path.proofs.Obeyed.{obeys}
 use Rattle.hum_path.proofs.Onwards.{names_onward, swapped_none, swapped_length}
 use Rattle.hum_path.proofs.Onwards.{each_length}

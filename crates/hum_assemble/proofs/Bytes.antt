@@ -6,16 +6,16 @@ use Rattle.std.proofs.Common.{arith, map, replicate}
 use Rattle.std.specs.Prelude.{nat_lt, Option, None, Some}
 use Rattle.std.specs.List.{join_with_byte}
 use Rattle.std.proofs.lemmas.List.{length-map}
-use Rattle.hum_record.specs.declared.SpinedKind.{SpinedKind}
-use Rattle.hum_record.specs.declared.Kind.TheVariants.{Global}
-use Rattle.hum_record.specs.Row.{Row, Comment, Spined, kind_of, tokens_of, text_of}
-use Rattle.hum_record.specs.Spelling.{IsTextOf}
-use Rattle.hum_path.specs.declared.signs.Sign.{Sign}
-use Rattle.hum_path.specs.declared.signs.Sign.TheVariants.{Split, Join, Exchange, Add, End}
-use Rattle.hum_path.specs.declared.signs.Sign.TheVariants.{Exclusive, Plain}
-use Rattle.hum_path.specs.Sign.{sign_of, is_join}
-use Rattle.hum_path.specs.Spines.{Spines, width, heirs, heirs_from, exchanges}
-use Rattle.hum_path.specs.Spines.{renamed, moves_under, names_after}
+use Rattle.hum_score.specs.declared.records.SpinedKind.{SpinedKind}
+use Rattle.hum_score.specs.declared.records.Kind.TheVariants.{Global}
+use Rattle.hum_score.specs.Row.{Row, Comment, Spined, kind_of, tokens_of, text_of}
+use Rattle.hum_score.specs.Spelling.{IsTextOf}
+use Rattle.hum_score.specs.declared.spines.Sign.{Sign}
+use Rattle.hum_score.specs.declared.spines.Sign.TheVariants.{Split, Join, Exchange, Add, End}
+use Rattle.hum_score.specs.declared.spines.Sign.TheVariants.{Exclusive, Plain}
+use Rattle.hum_score.specs.Sign.{sign_of, is_join}
+use Rattle.hum_score.specs.Spines.{Spines, width, heirs, heirs_from, exchanges}
+use Rattle.hum_score.specs.Spines.{renamed, moves_under, names_after}
 use Rattle.hum_assemble.specs.Sizes.{width_under, heirs_count, tokens_len}
 use Rattle.hum_assemble.specs.declared.places.Place.{Place}
 use Rattle.hum_assemble.specs.Source.{Source}

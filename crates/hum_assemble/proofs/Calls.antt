@@ -6,9 +6,9 @@ use Rattle.std.proofs.Common.{arith, map, get_or, set, take, replicate}
 use Rattle.std.specs.Prelude.{IfSome, Option}
 use Rattle.std.specs.Prelude.{None, Some, nat_lt, nat_le}
 use Rattle.std.specs.Prelude.{slice_get}
-use Rattle.hum_record.specs.Row.{Row, text_of}
-use Rattle.hum_path.specs.Spines.{Path, Unopened, after as path_of}
-use Rattle.hum_path.specs.Rules.{fault_of}
+use Rattle.hum_score.specs.Row.{Row, text_of}
+use Rattle.hum_score.specs.Spines.{Path, Unopened, after as path_of}
+use Rattle.hum_score.specs.Rules.{fault_of}
 use Rattle.hum_stage.specs.declared.faults.End as end
 use Rattle.hum_assemble.specs.declared.places.Place.{Place}
 use Rattle.hum_assemble.specs.declared.places.Next as next
@@ -29,7 +29,7 @@ use Rattle.hum_assemble.specs.Round.{any_due, takes, still_free, earliest}
 use Rattle.hum_assemble.specs.Places.{is_over}
 use Rattle.hum_assemble.specs.Meaning.{opening, begun, ends, Moment, after, after_take, all_of}
 use Rattle.hum_assemble.specs.Meaning.{wants_of, put_of, MayPut, MayEnd, empty_moment, is_stopped}
-use Rattle.hum_stage.specs.Score.{Follow, through}
+use Rattle.hum_score.specs.InOrder.{Follow, through}
 use Rattle.hum_assemble.specs.Standing.{Reaches, Standing, wants_by}
 use Rattle.hum_assemble.proofs.Steps.{is_giving, lost_given}
 use Rattle.hum_assemble.proofs.Growing.{changed_in}

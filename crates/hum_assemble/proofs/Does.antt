@@ -4,7 +4,7 @@ use Rattle.std.proofs.Common.{false, ◌||◌, cond, List, [], ◌∷◌, ◌++�
 use Rattle.std.proofs.Common.{map, append-nil}
 use Rattle.std.specs.Prelude.{Option, None, is_some}
 use Rattle.std.specs.List.{list_any}
-use Rattle.hum_record.specs.Row.{Row}
+use Rattle.hum_score.specs.Row.{Row}
 use Rattle.hum_assemble.specs.declared.places.Place.{Place}
 use Rattle.hum_assemble.specs.Source.{Source}
 use Rattle.hum_assemble.specs.Head.{first_of}

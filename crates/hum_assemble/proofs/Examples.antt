@@ -2,9 +2,9 @@
 use Rattle.std.proofs.Common.{◌≡◌, ℕ, List, [], ◌∷◌, refl}
 use Rattle.std.specs.Prelude.{None, Some}
 use lib.Chars.{codes}
-use Rattle.hum_record.specs.declared.SpinedKind.TheVariants.{Local, Interpretation, Values}
-use Rattle.hum_record.specs.Row.{Row, Comment, Spined}
-use Rattle.hum_stage.specs.declared.faults.Command.TheVariants.{Read}
+use Rattle.hum_score.specs.declared.records.SpinedKind.TheVariants.{Local, Interpretation, Values}
+use Rattle.hum_score.specs.Row.{Row, Comment, Spined}
+use Rattle.hum_words.specs.declared.commands.Command.TheVariants.{Read}
 use Rattle.hum_stage.specs.declared.faults.Rule.TheVariants.{P8}
 use Rattle.hum_stage.specs.declared.faults.Fault.{Fault}
 use Rattle.hum_stage.specs.declared.faults.End.TheVariants.{Closed, Broken}

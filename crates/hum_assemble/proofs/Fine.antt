@@ -4,11 +4,11 @@ use Rattle.std.proofs.Common.{Bool, true, false, ◌||◌, List, [], ◌∷◌, 
 use Rattle.std.proofs.Common.{arith}
 use Rattle.std.specs.Prelude.{None, Some}
 use Rattle.std.specs.List.{list_any, find}
-use Rattle.hum_record.specs.declared.SpinedKind.{SpinedKind}
-use Rattle.hum_record.specs.declared.SpinedKind.TheVariants.{Local, Interpretation, Values}
-use Rattle.hum_record.specs.Row.{Row, Comment, Spined}
-use Rattle.hum_path.specs.Rules.{fault_of, breaks_as_text, in_order}
-use Rattle.hum_path.specs.Spines.{Path, Unopened, Spines, after}
+use Rattle.hum_score.specs.declared.records.SpinedKind.{SpinedKind}
+use Rattle.hum_score.specs.declared.records.SpinedKind.TheVariants.{Local, Interpretation, Values}
+use Rattle.hum_score.specs.Row.{Row, Comment, Spined}
+use Rattle.hum_score.specs.Rules.{fault_of, breaks_as_text, in_order}
+use Rattle.hum_score.specs.Spines.{Path, Unopened, Spines, after}
 use Rattle.hum_path.proofs.Plain.{plain_stays}
 use Rattle.hum_assemble.specs.declared.places.Place.{Place}
 use Rattle.hum_assemble.specs.declared.places.Place.TheVariants.{Aside, Begins, Front, Opening}
@@ -24,8 +24,8 @@ use Rattle.hum_assemble.specs.Taking.{is_at}
 use Rattle.hum_assemble.proofs.Sides.{IsSound, taker, taken_path}
 use Rattle.hum_assemble.proofs.Rounds.{AllSound, AllShow, IsSettled, AllSettled, IsQuiet}
 use Rattle.hum_assemble.proofs.Rounds.{names_of, opened_taker, taken_by, all_wide}
-use Rattle.hum_record.specs.Spelling.{is_empty}
-use Rattle.hum_path.specs.Spines.{names_after}
+use Rattle.hum_score.specs.Spelling.{is_empty}
+use Rattle.hum_score.specs.Spines.{names_after}
 use Rattle.hum_assemble.specs.Round.{any_due}
 use Rattle.hum_assemble.specs.Merge.{made, spines}
 use Rattle.hum_assemble.proofs.Rounds.{none_inside, all_sound, names_spines}

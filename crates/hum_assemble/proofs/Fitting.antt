@@ -3,16 +3,16 @@ use Rattle.std.proofs.Common.{◌≡◌, ◌∙◌, refl, sym, ap, ℕ, true, fa
 use Rattle.std.proofs.Common.{cond, List, [], ◌∷◌, length, map}
 use Rattle.std.specs.Prelude.{◌==◌, Option, None, Some}
 use Rattle.std.specs.List.{list_any, list_all, find, AllByRecursion}
-use Rattle.hum_record.specs.declared.SpinedKind.{SpinedKind}
-use Rattle.hum_record.specs.declared.SpinedKind.TheVariants.{Local, Interpretation, Values}
-use Rattle.hum_record.specs.declared.Kind.TheVariants.{Interpretation as AnyInterpretation}
-use Rattle.hum_record.specs.Row.{Row, Comment, Spined, kind_of, tokens_of, text_of}
-use Rattle.hum_record.specs.Spelling.{IsTextOf, IsToken, is_empty}
-use Rattle.hum_path.specs.declared.signs.Sign.{Sign}
-use Rattle.hum_path.specs.declared.PathFault.TheVariants.{P1, P2, P3, P4, P5, P6, P7, P9, P10, P11}
-use Rattle.hum_path.specs.Sign.{sign_of, is_plain}
-use Rattle.hum_path.specs.Rules.{fault_of, breaks_as_text, in_order}
-use Rattle.hum_path.specs.Spines.{Path, Unopened, Spines, width, after}
+use Rattle.hum_score.specs.declared.records.SpinedKind.{SpinedKind}
+use Rattle.hum_score.specs.declared.records.SpinedKind.TheVariants.{Local, Interpretation, Values}
+use Rattle.hum_score.specs.declared.records.Kind.TheVariants.{Interpretation as AnyInterpretation}
+use Rattle.hum_score.specs.Row.{Row, Comment, Spined, kind_of, tokens_of, text_of}
+use Rattle.hum_score.specs.Spelling.{IsTextOf, IsToken, is_empty}
+use Rattle.hum_score.specs.declared.spines.Sign.{Sign}
+use Rattle.hum_score.specs.declared.spines.PathFault.TheVariants.{P1, P2, P3, P4, P5, P6, P7, P9, P10, P11}
+use Rattle.hum_score.specs.Sign.{sign_of, is_plain}
+use Rattle.hum_score.specs.Rules.{fault_of, breaks_as_text, in_order}
+use Rattle.hum_score.specs.Spines.{Path, Unopened, Spines, width, after}
 use Rattle.hum_path.proofs.Plain.{find_head, sound_width}
 use Rattle.hum_assemble.specs.declared.places.Place.{Place}
 use Rattle.hum_assemble.specs.declared.places.Place.TheVariants.{Aside, Begins, Front, Opening}

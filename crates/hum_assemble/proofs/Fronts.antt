@@ -4,16 +4,16 @@ use Rattle.std.proofs.Common.{false, not, cond, List, [], ◌∷◌, length, ari
 use Rattle.std.proofs.Common.{map}
 use Rattle.std.specs.Prelude.{Option, None, Some, is_some, ◌==◌, nat_lt, slice_get}
 use Rattle.std.specs.List.{list_all}
-use Rattle.hum_record.specs.Row.{Row, Comment, Spined}
-use Rattle.hum_path.specs.Spines.{Path, Unopened, Spines}
-use Rattle.hum_stage.specs.Score.{Follow}
+use Rattle.hum_score.specs.Row.{Row, Comment, Spined}
+use Rattle.hum_score.specs.Spines.{Path, Unopened, Spines}
+use Rattle.hum_score.specs.InOrder.{Follow}
 use Rattle.hum_stage.specs.Meaning.{fault_at, resting_state}
 use Rattle.hum_stage.specs.declared.faults.Fault.{Fault}
 use Rattle.hum_stage.specs.declared.faults.State.TheVariants.{Gives}
 use Rattle.hum_assemble.specs.Meaning.{inputs_end, ends}
 use Rattle.hum_assemble.specs.Groups.{fault_by_groups}
 use Rattle.hum_stage.specs.declared.faults.Rule.{Rule}
-use Rattle.hum_stage.specs.declared.faults.Command.TheVariants.{Assemble}
+use Rattle.hum_words.specs.declared.commands.Command.TheVariants.{Assemble}
 use Rattle.hum_stage.specs.declared.faults.End as end
 use Rattle.hum_assemble.specs.declared.places.Place.{Place}
 use Rattle.hum_assemble.specs.declared.places.Place.TheVariants.{Front, Opening, Tail}

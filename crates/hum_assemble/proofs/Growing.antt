@@ -3,7 +3,7 @@ use Rattle.std.proofs.Common.{◌≡◌, ◌∙◌, refl, sym, ap, ℕ, ◌+◌,
 use Rattle.std.proofs.Common.{false, cond, List, [], ◌∷◌, length}
 use Rattle.std.specs.Prelude.{None, Some}
 use Rattle.std.specs.List.{list_any, position_from}
-use Rattle.hum_record.specs.Row.{Row, text_of}
+use Rattle.hum_score.specs.Row.{Row, text_of}
 use Rattle.hum_assemble.specs.declared.places.Place.{Place}
 use Rattle.hum_assemble.specs.declared.places.Next as next
 use Rattle.hum_assemble.specs.declared.places.Next.TheVariants.{Gives, Refused, Wants}

@@ -2,8 +2,8 @@
 use Rattle.std.proofs.Common.{◌≡◌, refl, ap, Bool, true}
 use Rattle.std.proofs.Common.{false, List, [], ◌∷◌}
 use Rattle.std.specs.Prelude.{Option, None}
-use Rattle.hum_record.specs.Row.{Row}
-use Rattle.hum_path.specs.Spines.{Path}
+use Rattle.hum_score.specs.Row.{Row}
+use Rattle.hum_score.specs.Spines.{Path}
 use Rattle.hum_stage.specs.declared.faults.End as end
 use Rattle.hum_assemble.specs.Source.{Source}
 use Rattle.hum_assemble.specs.Change.{Change, More, Ends, changed}

@@ -3,8 +3,8 @@ use Rattle.std.proofs.Common.{◌≡◌, refl, ap, ℕ, zero, suc, ◌+◌, Bool
 use Rattle.std.proofs.Common.{false, ◌&&◌, ◌||◌, cond, List, [], ◌∷◌}
 use Rattle.std.specs.Prelude.{Option, None, is_none, is_some, ◌==◌, if◌then◌else◌}
 use Rattle.std.specs.List.{list_any}
-use Rattle.hum_record.specs.Row.{Row}
-use Rattle.hum_path.specs.Spines.{Path, width}
+use Rattle.hum_score.specs.Row.{Row}
+use Rattle.hum_score.specs.Spines.{Path, width}
 use Rattle.hum_stage.specs.declared.faults.End as end
 use Rattle.hum_assemble.specs.declared.places.Place.{Place}
 use Rattle.hum_assemble.specs.Source.{Source}

@@ -3,13 +3,13 @@ use Rattle.std.proofs.Common.{◌≡◌, ◌∙◌, refl, sym, ap, subst, ℕ, �
 use Rattle.std.proofs.lemmas.Bool.{le-leb, ne_eqb, eq-eqb}
 use Rattle.std.proofs.Common.{List, [], ◌∷◌, ◌++◌, length, arith, append-nil}
 use Rattle.std.specs.Prelude.{◌==◌, nat_le, Option, None, Some}
-use Rattle.hum_record.specs.declared.SpinedKind.{SpinedKind}
-use Rattle.hum_record.specs.Row.{Row, Comment, Spined, text_of, tokens_of}
-use Rattle.hum_path.specs.Rules.{fault_of}
-use Rattle.hum_path.specs.Spines.{Path, Unopened, after}
-use Rattle.hum_stage.specs.Score.{Follow}
+use Rattle.hum_score.specs.declared.records.SpinedKind.{SpinedKind}
+use Rattle.hum_score.specs.Row.{Row, Comment, Spined, text_of, tokens_of}
+use Rattle.hum_score.specs.Rules.{fault_of}
+use Rattle.hum_score.specs.Spines.{Path, Unopened, after}
+use Rattle.hum_score.specs.InOrder.{Follow}
 use Rattle.hum_stage.specs.declared.faults.Rule.{Rule}
-use Rattle.hum_stage.specs.declared.faults.Command.TheVariants.{Assemble}
+use Rattle.hum_words.specs.declared.commands.Command.TheVariants.{Assemble}
 use Rattle.hum_stage.specs.declared.faults.End as end
 use Rattle.hum_stage.specs.Meaning.{fault_at}
 use Rattle.hum_assemble.specs.declared.places.Place.{Place}

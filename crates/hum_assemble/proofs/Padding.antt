@@ -3,12 +3,12 @@ use Rattle.std.proofs.Common.{◌≡◌, ◌∙◌, refl, ap, ℕ, zero, suc, �
 use Rattle.std.proofs.Common.{false, List, [], ◌∷◌, ◌++◌, length, arith}
 use Rattle.std.proofs.Common.{replicate}
 use Rattle.std.specs.List.{list_any}
-use Rattle.hum_path.specs.declared.signs.Sign.{Sign}
-use Rattle.hum_path.specs.declared.signs.Sign.TheVariants.{Plain}
-use Rattle.hum_path.specs.Sign.{is_join}
-use Rattle.hum_path.specs.Rules.{has_lone_join, first_is}
-use Rattle.hum_path.specs.Rules.{has_mixed_join}
-use Rattle.hum_path.specs.Spines.{exchanges}
+use Rattle.hum_score.specs.declared.spines.Sign.{Sign}
+use Rattle.hum_score.specs.declared.spines.Sign.TheVariants.{Plain}
+use Rattle.hum_score.specs.Sign.{is_join}
+use Rattle.hum_score.specs.Rules.{has_lone_join, first_is}
+use Rattle.hum_score.specs.Rules.{has_mixed_join}
+use Rattle.hum_score.specs.Spines.{exchanges}
 
 abbrev pub plains : ℕ → List Sign
 plains n = replicate n Plain

@@ -4,8 +4,8 @@ use Rattle.std.proofs.Common.{false, not, ◌&&◌, List, [], ◌∷◌, length,
 use Rattle.std.proofs.Common.{map}
 use Rattle.std.specs.Prelude.{Option, is_some}
 use Rattle.std.specs.List.{list_any, list_all}
-use Rattle.hum_record.specs.Row.{Row}
-use Rattle.hum_stage.specs.Score.{Follow}
+use Rattle.hum_score.specs.Row.{Row}
+use Rattle.hum_score.specs.InOrder.{Follow}
 use Rattle.hum_assemble.specs.Source.{Source}
 use Rattle.hum_assemble.specs.Places.{rank}
 use Rattle.hum_assemble.specs.Round.{is_missing, place_at}

@@ -5,11 +5,11 @@ use Rattle.std.proofs.Common.{true, false, ◌&&◌, ◌||◌, cond, List, [], �
 use Rattle.std.proofs.Common.{length-append, replicate}
 use Rattle.std.specs.Prelude.{nat_le, None, Some}
 use Rattle.std.specs.List.{AllByRecursion}
-use Rattle.hum_record.specs.declared.SpinedKind.{SpinedKind}
-use Rattle.hum_record.specs.declared.SpinedKind.TheVariants.{Local, Interpretation, Values}
-use Rattle.hum_record.specs.Row.{Row, Comment, Spined, tokens_of}
-use Rattle.hum_path.specs.Rules.{fault_of}
-use Rattle.hum_path.specs.Spines.{Path, Unopened, Spines, exclusives, width, after}
+use Rattle.hum_score.specs.declared.records.SpinedKind.{SpinedKind}
+use Rattle.hum_score.specs.declared.records.SpinedKind.TheVariants.{Local, Interpretation, Values}
+use Rattle.hum_score.specs.Row.{Row, Comment, Spined, tokens_of}
+use Rattle.hum_score.specs.Rules.{fault_of}
+use Rattle.hum_score.specs.Spines.{Path, Unopened, Spines, exclusives, width, after}
 use Rattle.hum_path.proofs.Plain.{sound_width}
 use Rattle.hum_path.proofs.Widths.{text_width}
 use Rattle.hum_stage.specs.declared.faults.End.TheVariants.{Closed}

@@ -5,11 +5,11 @@ use Rattle.std.proofs.Common.{Bool, true, false, ◌&&◌, cond, List, [], ◌�
 use Rattle.std.proofs.Common.{arith, map}
 use Rattle.std.specs.Prelude.{Option, None, Some}
 use Rattle.std.specs.List.{list_any, list_all, AllByRecursion, position_from}
-use Rattle.hum_record.specs.declared.SpinedKind.TheVariants.{Local, Interpretation, Values}
-use Rattle.hum_record.specs.Row.{Row, Comment, Spined}
-use Rattle.hum_path.specs.Sign.{sign_of, all_plain}
-use Rattle.hum_path.specs.Rules.{is_unfinished}
-use Rattle.hum_path.specs.Spines.{Path, Unopened, Spines, exclusives, after}
+use Rattle.hum_score.specs.declared.records.SpinedKind.TheVariants.{Local, Interpretation, Values}
+use Rattle.hum_score.specs.Row.{Row, Comment, Spined}
+use Rattle.hum_score.specs.Sign.{sign_of, all_plain}
+use Rattle.hum_score.specs.Rules.{is_unfinished}
+use Rattle.hum_score.specs.Spines.{Path, Unopened, Spines, exclusives, after}
 use Rattle.hum_stage.specs.declared.faults.End as end
 use Rattle.hum_stage.specs.declared.faults.End.TheVariants.{Closed, Broken}
 use Rattle.hum_assemble.specs.declared.places.Place.{Place}
@@ -22,12 +22,12 @@ use Rattle.hum_assemble.proofs.Sides.{IsSound}
 use Rattle.hum_assemble.proofs.Rounds.{AllSound}
 use Rattle.hum_assemble.proofs.Rounds.{names_of, earlier_le}
 use Rattle.std.specs.Prelude.{nat_lt, nat_le, is_some}
-use Rattle.hum_record.specs.Row.{text_of}
-use Rattle.hum_record.specs.Spelling.{is_empty}
-use Rattle.hum_stage.specs.Score.{Follow, IsScore, IsClosed, through}
+use Rattle.hum_score.specs.Row.{text_of}
+use Rattle.hum_score.specs.Spelling.{is_empty}
+use Rattle.hum_score.specs.InOrder.{Follow, IsScore, IsClosed, through}
 use Rattle.hum_stage.specs.declared.faults.Rule.{Rule}
 use Rattle.hum_stage.specs.declared.faults.Rule.TheVariants.{A1, L1, L2}
-use Rattle.hum_stage.specs.declared.faults.Command.TheVariants.{Assemble}
+use Rattle.hum_words.specs.declared.commands.Command.TheVariants.{Assemble}
 use Rattle.hum_stage.specs.Meaning.{fault_at}
 use Rattle.hum_assemble.specs.declared.places.Next as next
 use Rattle.hum_assemble.specs.declared.places.Next.TheVariants.{Gives, Refused, Wants}

@@ -1,9 +1,9 @@
 -- The spines that a record of one source exchanges it exchanges beside other sources too, some places further right.
 use Rattle.std.proofs.Common.{◌≡◌, ◌∙◌, refl, ap, ℕ, ◌+◌, true}
 use Rattle.std.proofs.Common.{false, cond, List, [], ◌∷◌, arith, map}
-use Rattle.hum_path.specs.declared.signs.Sign.{Sign}
-use Rattle.hum_path.specs.Sign.{is_exchange}
-use Rattle.hum_path.specs.Spines.{exchanges}
+use Rattle.hum_score.specs.declared.spines.Sign.{Sign}
+use Rattle.hum_score.specs.Sign.{is_exchange}
+use Rattle.hum_score.specs.Spines.{exchanges}
 
 abbrev pub further : ℕ → List ℕ → List ℕ
 further n = map (λ j. j + n)

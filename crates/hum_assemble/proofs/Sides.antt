@@ -4,12 +4,12 @@ use Rattle.std.proofs.lemmas.Bool.{eqb-false, eqb-true, eq-eqb}
 use Rattle.std.proofs.Common.{true, false, ◌&&◌, ◌||◌, cond, List, [], ◌∷◌, arith, map}
 use Rattle.std.specs.Prelude.{◌==◌, Option, None, Some}
 use Rattle.std.specs.List.{list_all}
-use Rattle.hum_record.specs.declared.SpinedKind.TheVariants.{Local, Interpretation, Values}
-use Rattle.hum_record.specs.Row.{Row, Comment, Spined}
-use Rattle.hum_path.specs.Sign.{sign_of, is_plain}
-use Rattle.hum_path.specs.Rules.{fault_of, is_unfinished}
-use Rattle.hum_path.specs.Spines.{Path, Unopened, Spines, after}
-use Rattle.hum_stage.specs.Score.{through, Follow}
+use Rattle.hum_score.specs.declared.records.SpinedKind.TheVariants.{Local, Interpretation, Values}
+use Rattle.hum_score.specs.Row.{Row, Comment, Spined}
+use Rattle.hum_score.specs.Sign.{sign_of, is_plain}
+use Rattle.hum_score.specs.Rules.{fault_of, is_unfinished}
+use Rattle.hum_score.specs.Spines.{Path, Unopened, Spines, after}
+use Rattle.hum_score.specs.InOrder.{through, Follow}
 use Rattle.hum_stage.specs.declared.faults.End as end
 use Rattle.hum_stage.specs.declared.faults.End.TheVariants.{Closed}
 use Rattle.hum_assemble.specs.declared.places.Place.{Place}

@@ -5,18 +5,18 @@ use Rattle.std.proofs.Common.{map}
 use Rattle.std.specs.Prelude.{None, ◌==◌}
 use Rattle.std.specs.List.{list_any, list_all, find}
 use Rattle.std.proofs.lemmas.List.{length-map}
-use Rattle.hum_record.specs.declared.SpinedKind.TheVariants.{Local, Interpretation, Values}
-use Rattle.hum_record.specs.Row.{Row, Comment, Spined, tokens_of}
-use Rattle.hum_record.specs.Spelling.{is_empty}
-use Rattle.hum_path.specs.declared.PathFault.TheVariants.{P1, P2, P3, P4, P5, P6, P7, P9, P10, P11}
-use Rattle.hum_path.specs.declared.signs.Sign.{Sign}
-use Rattle.hum_path.specs.declared.signs.Sign.TheVariants.{Split, Join, Exchange, Add, End}
-use Rattle.hum_path.specs.declared.signs.Sign.TheVariants.{Exclusive, Plain}
-use Rattle.hum_path.specs.Sign.{sign_of, is_exclusive, is_exchange, is_join, is_plain, all_plain}
-use Rattle.hum_path.specs.Sign.{is_path_indicator}
-use Rattle.hum_path.specs.Spines.{Path, Unopened, Spines, after, names_after}
-use Rattle.hum_path.specs.Rules.{fault_of, breaks, breaks_as_text, in_order, has_unnamed}
-use Rattle.hum_path.specs.Rules.{stays_unnamed}
+use Rattle.hum_score.specs.declared.records.SpinedKind.TheVariants.{Local, Interpretation, Values}
+use Rattle.hum_score.specs.Row.{Row, Comment, Spined, tokens_of}
+use Rattle.hum_score.specs.Spelling.{is_empty}
+use Rattle.hum_score.specs.declared.spines.PathFault.TheVariants.{P1, P2, P3, P4, P5, P6, P7, P9, P10, P11}
+use Rattle.hum_score.specs.declared.spines.Sign.{Sign}
+use Rattle.hum_score.specs.declared.spines.Sign.TheVariants.{Split, Join, Exchange, Add, End}
+use Rattle.hum_score.specs.declared.spines.Sign.TheVariants.{Exclusive, Plain}
+use Rattle.hum_score.specs.Sign.{sign_of, is_exclusive, is_exchange, is_join, is_plain, all_plain}
+use Rattle.hum_score.specs.Sign.{is_path_indicator}
+use Rattle.hum_score.specs.Spines.{Path, Unopened, Spines, after, names_after}
+use Rattle.hum_score.specs.Rules.{fault_of, breaks, breaks_as_text, in_order, has_unnamed}
+use Rattle.hum_score.specs.Rules.{stays_unnamed}
 use Rattle.hum_path.specs.Onward.{beginnings, onward, onward_one, swapped, at_next, put_next}
 use Rattle.hum_path.specs.Onward.{renamed_each}
 use Rattle.hum_path.proofs.Obeyed.{opens, obeys}

@@ -5,14 +5,14 @@ use Rattle.std.proofs.Common.{not, ◌||◌, List, [], ◌∷◌, length, map}
 use Rattle.std.specs.Prelude.{◌==◌, nat_lt, None}
 use Rattle.std.specs.List.{list_any, list_all, find}
 use Rattle.std.proofs.lemmas.List.{length-map}
-use Rattle.hum_record.specs.Spelling.{is_empty}
-use Rattle.hum_path.specs.declared.signs.Sign.{Sign}
-use Rattle.hum_path.specs.declared.signs.Sign.TheVariants.{Split, Join, Exchange, Add, End}
-use Rattle.hum_path.specs.declared.signs.Sign.TheVariants.{Exclusive, Plain}
-use Rattle.hum_path.specs.Sign.{sign_of, is_exclusive, all_plain}
-use Rattle.hum_path.specs.Rules.{breaks, breaks_as_text, in_order, has_unnamed, has_bare}
-use Rattle.hum_path.specs.Rules.{has_lone_join, is_pair_or_none, has_mixed_join}
-use Rattle.hum_path.specs.Spines.{Unopened, Spines, exchanges, moves_under, renamed}
+use Rattle.hum_score.specs.Spelling.{is_empty}
+use Rattle.hum_score.specs.declared.spines.Sign.{Sign}
+use Rattle.hum_score.specs.declared.spines.Sign.TheVariants.{Split, Join, Exchange, Add, End}
+use Rattle.hum_score.specs.declared.spines.Sign.TheVariants.{Exclusive, Plain}
+use Rattle.hum_score.specs.Sign.{sign_of, is_exclusive, all_plain}
+use Rattle.hum_score.specs.Rules.{breaks, breaks_as_text, in_order, has_unnamed, has_bare}
+use Rattle.hum_score.specs.Rules.{has_lone_join, is_pair_or_none, has_mixed_join}
+use Rattle.hum_score.specs.Spines.{Unopened, Spines, exchanges, moves_under, renamed}
 use Rattle.hum_path.specs.Onward.{beginnings, onward}
 use Rattle.hum_path.proofs.Onwards.{names_onward}
 use Rattle.hum_path.proofs.Staying.{plain_breaks}

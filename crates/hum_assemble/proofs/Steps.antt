@@ -5,8 +5,8 @@ use Rattle.std.proofs.Common.{false, not, ◌||◌, cond, List, [], ◌∷◌, l
 use Rattle.std.specs.Prelude.{Option, None, Some, ◌==◌}
 use Rattle.std.specs.Prelude.{nat_lt, nat_le}
 use Rattle.std.specs.List.{list_any, position_from}
-use Rattle.hum_record.specs.Row.{Row, text_of}
-use Rattle.hum_path.specs.Spines.{Path}
+use Rattle.hum_score.specs.Row.{Row, text_of}
+use Rattle.hum_score.specs.Spines.{Path}
 use Rattle.hum_stage.specs.declared.faults.Rule.{Rule}
 use Rattle.hum_stage.specs.declared.faults.Rule.TheVariants.{A1, L1, L2}
 use Rattle.hum_stage.specs.declared.faults.End as end

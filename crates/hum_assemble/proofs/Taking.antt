@@ -5,10 +5,10 @@ use Rattle.std.proofs.Common.{Bool, true, false, not, ◌&&◌, ◌||◌, cond, 
 use Rattle.std.proofs.Common.{append-nil, arith, replicate}
 use Rattle.std.specs.Prelude.{nat_le, ◌==◌, Option, None, Some}
 use Rattle.std.specs.List.{list_any, AllByRecursion}
-use Rattle.hum_record.specs.declared.SpinedKind.{SpinedKind}
-use Rattle.hum_record.specs.Row.{Row, Comment, Spined, text_of, tokens_of}
-use Rattle.hum_record.specs.Spelling.{IsTextOf, IsToken}
-use Rattle.hum_path.specs.Spines.{Path, width}
+use Rattle.hum_score.specs.declared.records.SpinedKind.{SpinedKind}
+use Rattle.hum_score.specs.Row.{Row, Comment, Spined, text_of, tokens_of}
+use Rattle.hum_score.specs.Spelling.{IsTextOf, IsToken}
+use Rattle.hum_score.specs.Spines.{Path, width}
 use Rattle.hum_stage.specs.declared.faults.End as end
 use Rattle.hum_stage.specs.declared.faults.End.TheVariants.{Closed, Broken}
 use Rattle.hum_assemble.specs.declared.places.Place.{Place}

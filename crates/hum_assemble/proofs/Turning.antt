@@ -8,12 +8,12 @@ use Rattle.std.specs.List.{list_any, list_all, AllByRecursion}
 use Rattle.std.proofs.lemmas.Bool.Decides.{nat_tests}
 use Rattle.std.specs.Str.{bytes_eq}
 use lib.Chars.{codes}
-use Rattle.hum_record.specs.declared.SpinedKind.TheVariants.{Local, Interpretation, Values}
-use Rattle.hum_record.specs.Row.{Row, Comment, Spined, tokens_of}
-use Rattle.hum_path.specs.declared.signs.Sign.{Sign}
-use Rattle.hum_path.specs.Sign.{sign_of, is_exclusive, all_plain}
-use Rattle.hum_path.specs.Rules.{fault_of, has_bare, is_unfinished}
-use Rattle.hum_path.specs.Spines.{Path, Unopened, Spines, exclusives, after}
+use Rattle.hum_score.specs.declared.records.SpinedKind.TheVariants.{Local, Interpretation, Values}
+use Rattle.hum_score.specs.Row.{Row, Comment, Spined, tokens_of}
+use Rattle.hum_score.specs.declared.spines.Sign.{Sign}
+use Rattle.hum_score.specs.Sign.{sign_of, is_exclusive, all_plain}
+use Rattle.hum_score.specs.Rules.{fault_of, has_bare, is_unfinished}
+use Rattle.hum_score.specs.Spines.{Path, Unopened, Spines, exclusives, after}
 use Rattle.hum_path.proofs.Obeyed.{opens, obeys}
 use Rattle.hum_stage.specs.declared.faults.End as end
 use Rattle.hum_stage.specs.declared.faults.End.TheVariants.{Closed, Broken}
@@ -30,7 +30,7 @@ use Rattle.hum_assemble.proofs.Fitting.{spined_of}
 use Rattle.hum_assemble.proofs.Sides.{IsSound, taker, taken_path}
 use Rattle.hum_assemble.proofs.Rounds.{AllSound, AllShow, AllSettled}
 use Rattle.hum_assemble.proofs.Rounds.{names_of, opened_taker}
-use Rattle.hum_record.specs.Spelling.{is_empty}
+use Rattle.hum_score.specs.Spelling.{is_empty}
 use Rattle.hum_path.proofs.Onwards.{names_onward}
 use Rattle.hum_assemble.proofs.Quiet.{closing_ends}
 use Rattle.hum_assemble.proofs.Sounding.{all_ends}

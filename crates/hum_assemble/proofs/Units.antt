@@ -5,9 +5,9 @@ use Rattle.std.proofs.Common.{false, not, ◌||◌, List, [], ◌∷◌, ◌++�
 use Rattle.std.proofs.Common.{map}
 use Rattle.std.specs.Prelude.{Option, None, Some, ◌==◌}
 use Rattle.std.specs.List.{list_any}
-use Rattle.hum_record.specs.Row.{Row}
-use Rattle.hum_path.specs.Spines.{Path, Spines, after}
-use Rattle.hum_stage.specs.Score.{Follow}
+use Rattle.hum_score.specs.Row.{Row}
+use Rattle.hum_score.specs.Spines.{Path, Spines, after}
+use Rattle.hum_score.specs.InOrder.{Follow}
 use Rattle.hum_stage.specs.declared.faults.End as end
 use Rattle.hum_assemble.specs.declared.places.Place.{Place}
 use Rattle.hum_assemble.specs.declared.places.Place.TheVariants.{Remark, Change}

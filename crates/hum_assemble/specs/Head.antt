@@ -1,9 +1,9 @@
 -- A source's next record, as it is kept.
 use Rattle.std.specs.Prelude.{◌≡◌, Bool, true, false, List, [], ◌∷◌, Option, None, Some}
-use Rattle.hum_record.specs.Row.{Row, text_of}
-use Rattle.hum_record.specs.Spelling.{IsTextOf}
-use Rattle.hum_path.specs.Spines.{Path, Unopened, Spines, width, after}
-use Rattle.hum_path.specs.Rules.{fault_of}
+use Rattle.hum_score.specs.Row.{Row, text_of}
+use Rattle.hum_score.specs.Spelling.{IsTextOf}
+use Rattle.hum_score.specs.Spines.{Path, Unopened, Spines, width, after}
+use Rattle.hum_score.specs.Rules.{fault_of}
 use Rattle.hum_assemble.specs.declared.source_head.Head.{Head}
 use Rattle.std.specs.List.{AllByRecursion}
 use Rattle.hum_assemble.specs.Source.{Source, place, is_inside}

@@ -3,16 +3,16 @@ use Rattle.std.specs.Prelude.{◌≡◌, ℕ, zero, suc, ◌+◌, ◌<◌, nat_l
 use Rattle.std.specs.Prelude.{List, [], ◌∷◌, ◌++◌, map, length, replicate, if◌then◌else◌}
 use Rattle.std.specs.Prelude.{Option, None, Some, is_none, MatchOption, slice_get}
 use Rattle.std.specs.List.{AllByRecursion, position_from}
-use Rattle.hum_record.specs.Row.{Row}
+use Rattle.hum_score.specs.Row.{Row}
 use Rattle.hum_stage.specs.declared.faults.Rule.{Rule}
 use Rattle.hum_stage.specs.declared.faults.Fault.{Fault}
-use Rattle.hum_stage.specs.declared.faults.Command.TheVariants.{Assemble}
+use Rattle.hum_words.specs.declared.commands.Command.TheVariants.{Assemble}
 use Rattle.hum_stage.specs.declared.faults.End as end
 use Rattle.hum_stage.specs.declared.faults.End.TheVariants.{Closed, Broken}
 use Rattle.hum_stage.specs.declared.faults.State as state
 use Rattle.hum_stage.specs.declared.faults.State.TheVariants.{Gives}
 use Rattle.hum_stage.specs.Meaning.{fault_at, resting_state}
-use Rattle.hum_stage.specs.Score.{IsScore, IsClosed}
+use Rattle.hum_score.specs.InOrder.{IsScore, IsClosed}
 use Rattle.hum_assemble.specs.declared.places.Next as next
 use Rattle.hum_assemble.specs.declared.places.Next.TheVariants.{Gives as GivesAt, Refused}
 use Rattle.hum_assemble.specs.declared.places.Next.TheVariants.{Wants as WantsOf, Over}

@@ -2,8 +2,8 @@
 use Rattle.std.specs.Prelude.{◌≡◌, ◌==◌, Bool, false, not, ◌&&◌, ◌||◌, if◌then◌else◌}
 use Rattle.std.specs.Prelude.{List, [], ◌∷◌, Option, None, Some, is_some, is_none}
 use Rattle.std.specs.List.{list_any, AllByRecursion}
-use Rattle.hum_record.specs.Row.{Row}
-use Rattle.hum_path.specs.Spines.{Path}
+use Rattle.hum_score.specs.Row.{Row}
+use Rattle.hum_score.specs.Spines.{Path}
 use Rattle.hum_stage.specs.declared.faults.End as end
 use Rattle.hum_stage.specs.declared.faults.End.TheVariants.{Closed}
 use Rattle.hum_assemble.specs.declared.places.Place.{Place}

@@ -1,9 +1,9 @@
 -- How many spines come of those under some tokens, and how many bytes tokens have.
 use Rattle.std.specs.Prelude.{ℕ, ◌+◌, Bool, true, false, List, [], ◌∷◌, length}
-use Rattle.hum_path.specs.declared.signs.Sign.{Sign}
-use Rattle.hum_path.specs.declared.signs.Sign.TheVariants.{Split, Join, Exchange, Add, End}
-use Rattle.hum_path.specs.declared.signs.Sign.TheVariants.{Exclusive, Plain}
-use Rattle.hum_path.specs.Sign.{is_join}
+use Rattle.hum_score.specs.declared.spines.Sign.{Sign}
+use Rattle.hum_score.specs.declared.spines.Sign.TheVariants.{Split, Join, Exchange, Add, End}
+use Rattle.hum_score.specs.declared.spines.Sign.TheVariants.{Exclusive, Plain}
+use Rattle.hum_score.specs.Sign.{is_join}
 
 -- a join makes one spine, at its first token
 abbrev pub heirs_count : Bool → Sign → ℕ

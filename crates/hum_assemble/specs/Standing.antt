@@ -2,7 +2,7 @@
 use Rattle.std.specs.Prelude.{◌≡◌, ◌⊎◌, ℕ, zero, suc, ◌+◌, ◌≤◌, Bool, true, false}
 use Rattle.std.specs.Prelude.{List, map, length, Option, None, Some, is_none}
 use Rattle.std.specs.List.{AllByRecursion, position_from}
-use Rattle.hum_stage.specs.declared.faults.Command.TheVariants.{Assemble}
+use Rattle.hum_words.specs.declared.commands.Command.TheVariants.{Assemble}
 use Rattle.hum_stage.specs.declared.faults.End as end
 use Rattle.hum_stage.specs.declared.faults.State as state
 use Rattle.hum_stage.specs.declared.faults.State.TheVariants.{Wants, Gives as GivesNow}

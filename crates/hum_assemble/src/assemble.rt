@@ -2,7 +2,7 @@
 ghost use Rattle.std.specs.Prelude.{◌≡◌, ◌≤◌, ◌<◌, ◌+◌, ◌⊎◌, ℕ, true, false, List, [], length, map};
 ghost use Rattle.std.specs.Prelude.{is_none, None, Some, IfSome, IfOk, OnOk, OnErr, IsErr};
 ghost use Rattle.std.specs.List.{position_from};
-ghost use Rattle.hum_stage.specs.declared.faults.Command.TheVariants.{Assemble as AssembleCommand};
+ghost use Rattle.hum_words.specs.declared.commands.Command.TheVariants.{Assemble as AssembleCommand};
 ghost use Rattle.hum_stage.specs.Meaning.{fault_at, resting_state};
 ghost use Rattle.hum_assemble.specs.Change.{Input, More, Ends, IsOpenInput};
 ghost use Rattle.hum_assemble.specs.{Merge.ahead, Groups.GivesByGroups, Groups.IsTakenByGroups};

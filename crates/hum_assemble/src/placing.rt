@@ -1,10 +1,10 @@
 //! Where a record stands in its score, and how many spines stand behind it.
 ghost use Rattle.std.specs.Prelude.{◌≡◌, ◌≤◌, None, false, length, map};
 ghost use Rattle.std.specs.List.{list_all};
-ghost use Rattle.hum_record.specs.Row.{tokens_of, kind_of};
-ghost use Rattle.hum_record.specs.declared.Kind.TheVariants.{Interpretation};
-ghost use Rattle.hum_path.specs.{Sign.sign_of, Rules.fault_of};
-ghost use Rattle.hum_path.specs.Spines.{Path, width, after};
+ghost use Rattle.hum_score.specs.Row.{tokens_of, kind_of};
+ghost use Rattle.hum_score.specs.declared.records.Kind.TheVariants.{Interpretation};
+ghost use Rattle.hum_score.specs.{Sign.sign_of, Rules.fault_of};
+ghost use Rattle.hum_score.specs.Spines.{Path, width, after};
 ghost use Rattle.hum_assemble.specs.Source.{is_end, is_inside, place, interpretation_place};
 ghost use Rattle.hum_assemble.specs.Source.{by_comment, unit_place};
 ghost use Rattle.hum_assemble.specs.{Head.is_opened, Sizes.width_under, Sizes.heirs_count};

@@ -2,7 +2,8 @@
 ghost use Rattle.std.specs.Prelude.{◌≡◌, ◌≤◌, ◌++◌, ℕ, ◌+◌, nat_lt, nat_le, true, not, ◌&&◌, ◌||◌};
 ghost use Rattle.std.specs.Prelude.{None, Some, IfOk, OnOk, length, take};
 ghost use Rattle.std.specs.List.{list_any, position_from};
-ghost use Rattle.hum_record.specs.{Building.spelled, Row.text_of};
+ghost use Rattle.hum_record.specs.{Building.spelled};
+ghost use Rattle.hum_score.specs.{Row.text_of};
 ghost use Rattle.hum_assemble.specs.{Head.AllLawful, Places.kind_at, Places.is_shared};
 ghost use Rattle.hum_assemble.specs.Round.{any_due, is_lost, is_missing, earliest, AllKnown};
 ghost use Rattle.hum_assemble.specs.Merge.{spines, all_moved, made, comment_given, tokens_given};

@@ -2,8 +2,9 @@
 ghost use Rattle.std.specs.Prelude.{◌≡◌, ◌++◌, ◌∷◌, ◌≤◌, [], Bool, false, None, Some, IfOk, OnOk};
 ghost use Rattle.std.specs.Prelude.{length, if◌then◌else◌};
 ghost use Rattle.std.specs.List.{AllByRecursion};
-ghost use Rattle.hum_record.specs.{Building.spelled, Spelling.IsToken, Row.tokens_of};
-ghost use Rattle.hum_path.specs.{Spines.width, Rules.fault_of};
+ghost use Rattle.hum_record.specs.{Building.spelled};
+ghost use Rattle.hum_score.specs.{Spelling.IsToken, Row.tokens_of};
+ghost use Rattle.hum_score.specs.{Spines.width, Rules.fault_of};
 ghost use Rattle.hum_assemble.specs.{Head.first_of, Head.AreLawful, Source.untouched};
 ghost use Rattle.hum_assemble.specs.Round.{shown, place_at, takes};
 ghost use Rattle.hum_assemble.specs.Merge.{moved, advanced, text_of_first, part_given};

@@ -3,14 +3,14 @@ use Rattle.std.proofs.Common.{◌≡◌, ◌∙◌, refl, sym, ap, ℕ, true, fa
 use Rattle.std.specs.Prelude.{None, Bool, Ok, Err}
 use Rattle.std.specs.List.{list_all, find}
 use Rattle.std.proofs.lemmas.Bool.{and_parts, not-false, false≢true}
-use Rattle.hum_record.specs.declared.SpinedKind.TheVariants.{Local, Interpretation, Values}
-use Rattle.hum_record.specs.declared.Kind.TheVariants.{Values as AnyValues}
-use Rattle.hum_record.specs.Row.{Row, Comment, Spined, kind_of}
-use Rattle.hum_path.specs.Sign.{sign_of, is_exclusive, is_plain, all_plain, steers}
-use Rattle.hum_path.specs.declared.moved.Move.{Move}
-use Rattle.hum_path.specs.Spines.{Path, Unopened, Spines, exclusives, names_after, moves, after}
-use Rattle.hum_path.specs.Rules.{fault_of, breaks, in_order}
-use Rattle.hum_path.specs.Score.{IsOpen, path_after}
+use Rattle.hum_score.specs.declared.records.SpinedKind.TheVariants.{Local, Interpretation, Values}
+use Rattle.hum_score.specs.declared.records.Kind.TheVariants.{Values as AnyValues}
+use Rattle.hum_score.specs.Row.{Row, Comment, Spined, kind_of}
+use Rattle.hum_score.specs.Sign.{sign_of, is_exclusive, is_plain, all_plain, steers}
+use Rattle.hum_score.specs.declared.spines.Move.{Move}
+use Rattle.hum_score.specs.Spines.{Path, Unopened, Spines, exclusives, names_after, moves, after}
+use Rattle.hum_score.specs.Rules.{fault_of, breaks, in_order}
+use Rattle.hum_score.specs.Score.{IsOpen, path_after}
 use Rattle.hum_path.proofs.Plain.{sound_width, plain_stays, not_exclusive}
 use Rattle.hum_path.proofs.Obeyed.{opens}
 use Rattle.hum_stage.specs.declared.faults.Rule.{Rule}

@@ -5,10 +5,10 @@ use Rattle.std.specs.List.{list_any}
 use Rattle.std.proofs.lemmas.Bool.{or_parts}
 use Rattle.std.proofs.lemmas.Bool.Decides.{nat_tests}
 use lib.Chars.{codes}
-use Rattle.hum_record.specs.declared.Kind.TheVariants.{Global, Interpretation as AnyInterpretation}
-use Rattle.hum_record.specs.declared.SpinedKind.TheVariants.{Local, Interpretation, Values}
-use Rattle.hum_record.specs.Row.{Row, Comment, Spined, kind_of, tokens_of, text_of}
-use Rattle.hum_record.specs.Spelling.{IsToken, IsTokenOf}
+use Rattle.hum_score.specs.declared.records.Kind.TheVariants.{Global, Interpretation as AnyInterpretation}
+use Rattle.hum_score.specs.declared.records.SpinedKind.TheVariants.{Local, Interpretation, Values}
+use Rattle.hum_score.specs.Row.{Row, Comment, Spined, kind_of, tokens_of, text_of}
+use Rattle.hum_score.specs.Spelling.{IsToken, IsTokenOf}
 use Rattle.hum_record.specs.Building.{spelled}
 use Rattle.hum_cells.specs.Rewriting.{Heading, Renamed, Followed, Rewriting, is_kern, headed, with_heading, is_long, if_fit, rewrite, IsHeading}
 

@@ -10,28 +10,28 @@ use Rattle.std.proofs.lemmas.Slice.Eq.{bytes_eq-Decides}
 use Rattle.std.proofs.lemmas.List.{length-map}
 use Rattle.std.proofs.Math.ListN.{get_or-map}
 use lib.Chars.{codes}
-use Rattle.hum_record.specs.declared.SpinedKind.TheVariants.{Local, Interpretation, Values}
-use Rattle.hum_record.specs.Row.{Row, Comment, Spined}
-use Rattle.hum_record.specs.Spelling.{is_empty}
-use Rattle.hum_path.specs.declared.signs.Sign.{Sign}
-use Rattle.hum_path.specs.declared.signs.Sign.TheVariants.{Split, Join, Exchange, Add, End, Exclusive, Plain}
-use Rattle.hum_path.specs.declared.moved.Move.{Move}
-use Rattle.hum_path.specs.declared.moved.Move.TheVariants.{Same, Left, Right, Join as Joined, Added}
-use Rattle.hum_path.specs.declared.PathFault.TheVariants.{P1, P2, P3, P4, P5, P6, P7, P9, P10, P11}
-use Rattle.hum_path.specs.Sign.{sign_of, is_join, is_exclusive, is_plain, is_path_indicator, all_plain}
-use Rattle.hum_path.specs.Spines.{Path, Unopened, Spines, exchanges, moves_under, renamed, names_after}
-use Rattle.hum_path.specs.Rules.{breaks, breaks_as_text, in_order, has_bare, has_unnamed, has_mixed_join, mixes_join, stays_unnamed, is_unfinished}
+use Rattle.hum_score.specs.declared.records.SpinedKind.TheVariants.{Local, Interpretation, Values}
+use Rattle.hum_score.specs.Row.{Row, Comment, Spined}
+use Rattle.hum_score.specs.Spelling.{is_empty}
+use Rattle.hum_score.specs.declared.spines.Sign.{Sign}
+use Rattle.hum_score.specs.declared.spines.Sign.TheVariants.{Split, Join, Exchange, Add, End, Exclusive, Plain}
+use Rattle.hum_score.specs.declared.spines.Move.{Move}
+use Rattle.hum_score.specs.declared.spines.Move.TheVariants.{Same, Left, Right, Join as Joined, Added}
+use Rattle.hum_score.specs.declared.spines.PathFault.TheVariants.{P1, P2, P3, P4, P5, P6, P7, P9, P10, P11}
+use Rattle.hum_score.specs.Sign.{sign_of, is_join, is_exclusive, is_plain, is_path_indicator, all_plain}
+use Rattle.hum_score.specs.Spines.{Path, Unopened, Spines, exchanges, moves_under, renamed, names_after}
+use Rattle.hum_score.specs.Rules.{breaks, breaks_as_text, in_order, has_bare, has_unnamed, has_mixed_join, mixes_join, stays_unnamed, is_unfinished}
 use Rattle.hum_path.specs.Onward.{beginnings, onward, renamed_each}
-use Rattle.hum_path.specs.Score.{IsOpen, path_after}
+use Rattle.hum_score.specs.Score.{IsOpen, path_after}
 use Rattle.hum_path.specs.Chains.{columns}
-use Rattle.hum_path.proofs.Cases.{by_bool}
+use Rattle.hum_score.proofs.Cases.{by_bool}
 use Rattle.hum_path.proofs.Plain.{find_head, plain_stays}
 use Rattle.hum_path.proofs.Staying.{plain_breaks}
 use Rattle.hum_path.proofs.Onwards.{swapped_none, each_length, names_onward}
 use Rattle.hum_path.proofs.Obeyed.{opens, obeys}
 use Rattle.hum_stage.specs.declared.faults.Rule.{Rule}
 use Rattle.hum_stage.specs.declared.faults.Rule.TheVariants.{L1}
-use Rattle.hum_stage.specs.Score.{through, Follow}
+use Rattle.hum_score.specs.InOrder.{through, Follow}
 use Rattle.hum_stage.specs.Meaning.{KeepsScore}
 use Rattle.hum_stage.specs.Decided.{decisions, limit}
 use Rattle.hum_stage.proofs.Keeping.{at_once_keeps}

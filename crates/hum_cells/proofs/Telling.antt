@@ -5,13 +5,13 @@ use Rattle.std.specs.Prelude.{None, Result, Ok, Err, nat_lt}
 use Rattle.std.proofs.lemmas.List.{drop_all, take_all, length-map}
 use Rattle.std.proofs.lemmas.Bool.{or_parts}
 use Rattle.std.proofs.lemmas.Bool.Decides.{nat_tests}
-use Rattle.hum_record.specs.declared.Kind.TheVariants.{Values as AnyValues, Global}
-use Rattle.hum_record.specs.declared.SpinedKind.TheVariants.{Local, Interpretation, Values}
-use Rattle.hum_record.specs.Row.{Row, Comment, Spined, kind_of, tokens_of, width_of, text_of}
-use Rattle.hum_record.specs.Spelling.{IsToken, IsTokenOf}
+use Rattle.hum_score.specs.declared.records.Kind.TheVariants.{Values as AnyValues, Global}
+use Rattle.hum_score.specs.declared.records.SpinedKind.TheVariants.{Local, Interpretation, Values}
+use Rattle.hum_score.specs.Row.{Row, Comment, Spined, kind_of, tokens_of, width_of, text_of}
+use Rattle.hum_score.specs.Spelling.{IsToken, IsTokenOf}
 use Rattle.hum_record.specs.Building.{Draft, spelled}
-use Rattle.hum_path.specs.Spines.{exclusives}
-use Rattle.hum_path.specs.Score.{IsOpen, path_after}
+use Rattle.hum_score.specs.Spines.{exclusives}
+use Rattle.hum_score.specs.Score.{IsOpen, path_after}
 use Rattle.hum_path.specs.Chains.{columns, longer}
 use Rattle.hum_path.proofs.Widths.{columns_width, text_width}
 use Rattle.hum_stage.specs.declared.faults.Rule.{Rule}

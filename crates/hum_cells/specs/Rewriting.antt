@@ -5,15 +5,15 @@ use Rattle.std.specs.Prelude.{Result, Ok, Err, if◌then◌else◌}
 use Rattle.std.specs.List.{list_any}
 use Rattle.std.specs.Str.{bytes_eq}
 use lib.Chars.{codes}
-use Rattle.hum_record.specs.declared.SpinedKind.TheVariants.{Local, Interpretation, Values}
-use Rattle.hum_record.specs.Row.{Row, Comment, Spined, text_of}
-use Rattle.hum_record.specs.Spelling.{IsToken}
+use Rattle.hum_score.specs.declared.records.SpinedKind.TheVariants.{Local, Interpretation, Values}
+use Rattle.hum_score.specs.Row.{Row, Comment, Spined, text_of}
+use Rattle.hum_score.specs.Spelling.{IsToken}
 use Rattle.hum_record.specs.Contents.{is_null, is_barline}
-use Rattle.hum_path.specs.Sign.{sign_of, is_exclusive, is_plain}
-use Rattle.hum_path.specs.Spines.{exclusives}
-use Rattle.hum_path.specs.Score.{path_after}
+use Rattle.hum_score.specs.Sign.{sign_of, is_exclusive, is_plain}
+use Rattle.hum_score.specs.Spines.{exclusives}
+use Rattle.hum_score.specs.Score.{path_after}
 use Rattle.hum_path.specs.Chains.{columns}
-use Rattle.hum_stage.specs.declared.faults.Command.{Command}
+use Rattle.hum_words.specs.declared.commands.Command.{Command}
 use Rattle.hum_stage.specs.declared.faults.Rule.{Rule}
 use Rattle.hum_stage.specs.declared.faults.Rule.TheVariants.{L1}
 use Rattle.hum_stage.specs.Meaning.{Meaning}

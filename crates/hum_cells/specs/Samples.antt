@@ -2,8 +2,8 @@
 use Rattle.std.specs.Prelude.{ℕ, Bool, false, List, [], ◌∷◌, ◌++◌}
 use Rattle.std.specs.Prelude.{Ok, Err, if◌then◌else◌}
 use lib.Chars.{codes}
-use Rattle.hum_record.specs.declared.SpinedKind.TheVariants.{Values}
-use Rattle.hum_record.specs.Spelling.{kind_of_token, same_kind, has_byte}
+use Rattle.hum_score.specs.declared.records.SpinedKind.TheVariants.{Values}
+use Rattle.hum_score.specs.Spelling.{kind_of_token, same_kind, has_byte}
 use Rattle.hum_stage.specs.declared.faults.Rule.TheVariants.{K1, K2}
 use Rattle.hum_cells.specs.Rewriting.{Rewriting, Renamed, Followed}
 

@@ -1,9 +1,9 @@
 //! The frame round what is a command's own.
 ghost use Rattle.std.specs.Prelude.{◌≡◌, ◌≢◌, ◌≤◌, ◌∷◌, OnOk, List, length, map};
-ghost use Rattle.hum_record.specs.declared.Kind.TheVariants.{Interpretation as AnyInterpretation, Values as AnyValues};
-ghost use Rattle.hum_record.specs.Row.{Row, kind_of, text_of};
-ghost use Rattle.hum_path.specs.Spines.{exclusives};
-ghost use Rattle.hum_path.specs.Score.{IsOpen, path_after};
+ghost use Rattle.hum_score.specs.declared.records.Kind.TheVariants.{Interpretation as AnyInterpretation, Values as AnyValues};
+ghost use Rattle.hum_score.specs.Row.{Row, kind_of, text_of};
+ghost use Rattle.hum_score.specs.Spines.{exclusives};
+ghost use Rattle.hum_score.specs.Score.{IsOpen, path_after};
 ghost use Rattle.hum_stage.specs.Decided.{MayStep, HasStepped};
 ghost use Rattle.hum_stage.specs.Refusals.{IfAnswered, IfTold};
 ghost use Rattle.hum_cells.specs.Rewriting.{is_kern, kern_columns, rewrite};
@@ -91,7 +91,6 @@ fn tell_heading<T: TokenRewriter>(
 ///
 /// # Errors
 /// The rule by which it is refused; or out of memory.
-#[inline(always)]
 fn tell_data<T: TokenRewriter>(
     alloc: Global,
     teller: &mut T,
@@ -142,7 +141,6 @@ impl<T: TokenRewriter> Cells<T> {
     ///
     /// # Errors
     /// The rule by which it is refused; or out of memory.
-    #[inline(always)]
     fn step_data(&mut self, next: Record, _room: u64, out: &mut UpToTwo) -> Result<(), Refusal>
         requires score { MayStep (Frames (T.follows self.old.teller) self.old.paths.path self.old.kern.items) next }
         requires kind { kind_of next ≡ AnyValues }

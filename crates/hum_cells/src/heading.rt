@@ -1,9 +1,9 @@
 //! Records with `**kern`.
 ghost use Rattle.std.specs.Prelude.{◌≡◌, ◌≢◌, [], map, IfOk};
 ghost use Rattle.std.specs.List.{list_any};
-ghost use Rattle.hum_record.specs.declared.Kind.TheVariants.{Interpretation as AnyInterpretation};
-ghost use Rattle.hum_record.specs.declared.SpinedKind.TheVariants.{Interpretation};
-ghost use Rattle.hum_record.specs.Row.{tokens_of, kind_of};
+ghost use Rattle.hum_score.specs.declared.records.Kind.TheVariants.{Interpretation as AnyInterpretation};
+ghost use Rattle.hum_score.specs.declared.records.SpinedKind.TheVariants.{Interpretation};
+ghost use Rattle.hum_score.specs.Row.{tokens_of, kind_of};
 ghost use Rattle.hum_cells.specs.Rewriting.{is_kern, headed, IsHeading};
 ghost use Rattle.hum_cells.specs.Rewriter.{shown};
 ghost use Rattle.hum_record.specs.RecordDraft.{IsMade};
@@ -14,7 +14,6 @@ use hum_record::{Record, RecordDraft, Spare, SpinedKind};
 use std::alloc::{AllocError, Global};
 
 /// Whether an exclusive interpretation is `**kern`.
-#[inline]
 pub(crate) fn is_kern(token: &[u8]) -> bool
     ensures { result ≡ is_kern token.now }
 {

@@ -1,11 +1,11 @@
 //! Data records with tokens that are told anew.
 ghost use Rattle.std.specs.Prelude.{◌≡◌, ◌&&◌, ◌∷◌, Bool, List, length, OnOk};
-ghost use Rattle.hum_record.specs.declared.Kind.TheVariants.{Values as AnyValues};
-ghost use Rattle.hum_record.specs.declared.SpinedKind.TheVariants.{Values};
-ghost use Rattle.hum_record.specs.Row.{Row, tokens_of, width_of, kind_of};
-ghost use Rattle.hum_record.specs.Spelling.{IsToken};
+ghost use Rattle.hum_score.specs.declared.records.Kind.TheVariants.{Values as AnyValues};
+ghost use Rattle.hum_score.specs.declared.records.SpinedKind.TheVariants.{Values};
+ghost use Rattle.hum_score.specs.Row.{Row, tokens_of, width_of, kind_of};
+ghost use Rattle.hum_score.specs.Spelling.{IsToken};
 ghost use Rattle.hum_stage.specs.Refusals.{IfTold, IfAnswered};
-ghost use Rattle.hum_path.specs.Score.{IsOpen};
+ghost use Rattle.hum_score.specs.Score.{IsOpen};
 ghost use Rattle.hum_path.specs.Chains.{columns};
 ghost use Rattle.hum_cells.specs.Rewriting.{Rewriting, has_content, any_told};
 ghost use Rattle.hum_cells.specs.Rewriter.{MayHear, HasPushed, MayTellData, HasToldData};
@@ -18,7 +18,6 @@ use hum_stage::{Refusal, unless_long};
 use std::alloc::{AllocError, Global};
 
 /// Whether a data token of a kern column is told anew: it is neither null nor a barline.
-#[inline]
 fn has_content(token: &[u8]) -> bool
     ensures { result ≡ has_content token.now }
 {
@@ -26,7 +25,6 @@ fn has_content(token: &[u8]) -> bool
 }
 
 /// The same of a token of a column that may be under `**kern`.
-#[inline]
 fn is_rewritten(kern: bool, token: &[u8]) -> bool
     ensures { result ≡ (kern && has_content token.now) }
 {
@@ -34,7 +32,6 @@ fn is_rewritten(kern: bool, token: &[u8]) -> bool
 }
 
 /// Whether a record has a token in a kern column that is told anew.
-#[inline]
 pub(crate) fn any_told(kern: &[bool], row: &Record) -> bool
     requires { length kern.now ≡ width_of row.now }
     ensures { result ≡ any_told kern.now (tokens_of row.now) }
@@ -51,7 +48,6 @@ pub(crate) fn any_told(kern: &[bool], row: &Record) -> bool
 ///
 /// # Errors
 /// The rule by which it is refused; or out of memory.
-#[inline]
 fn push_told<T: TokenRewriter>(
     teller: &mut T,
     j: usize,
@@ -76,7 +72,6 @@ fn push_told<T: TokenRewriter>(
 }
 
 /// Hears the tokens of a data record, of which none is told anew.
-#[inline(always)]
 pub(crate) fn hear_tokens<T: TokenRewriter>(teller: &mut T, row: &Record) -> Result<(), AllocError>
     requires score { (kern : List Bool) × MayTellData (T.follows teller.old) kern row.now }
     requires kind { kind_of row.now ≡ AnyValues }
@@ -94,7 +89,6 @@ pub(crate) fn hear_tokens<T: TokenRewriter>(teller: &mut T, row: &Record) -> Res
 ///
 /// # Errors
 /// The first rule by which one of its tokens is refused, or L1; or out of memory.
-#[inline]
 pub(crate) fn tell_tokens<T: TokenRewriter>(
     alloc: Global,
     teller: &mut T,

@@ -3,7 +3,7 @@ use Rattle.std.proofs.Common.{◌≡◌, refl, ℕ, List, [], ◌∷◌, ◌++�
 use Rattle.std.proofs.lemmas.List.{map-append}
 use Rattle.std.specs.declared.vec.Vec.{Vec}
 use Rattle.std.specs.declared.alloc.Global.{Global}
-use Rattle.hum_path.specs.Spines.{texts}
+use Rattle.hum_score.specs.Texts.{texts}
 
 -- one more name is copied
 pub next_text : (done names : List (Vec ℕ Global)) (i : ℕ) (copy name : Vec ℕ Global) → i < length names → name ≡ get_or names i name

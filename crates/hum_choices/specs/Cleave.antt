@@ -2,8 +2,8 @@
 use Rattle.std.specs.Prelude.{◌≡◌, ℕ, Bool, true, not, ◌&&◌, ◌||◌, List}
 use Rattle.std.specs.Str.{bytes_eq}
 use lib.Chars.{codes}
-use Rattle.hum_record.specs.Spelling.{has_byte}
-use Rattle.hum_path.specs.Sign.{sign_of, is_exclusive}
+use Rattle.hum_score.specs.Spelling.{has_byte}
+use Rattle.hum_score.specs.Sign.{sign_of, is_exclusive}
 
 -- `-i`, `-o` and `-d`
 pub record Options : Type 0 where

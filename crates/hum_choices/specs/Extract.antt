@@ -1,6 +1,6 @@
 -- Which opening spines are chosen, as values.
 use Rattle.std.specs.Prelude.{ℕ, List, map}
-use Rattle.hum_path.specs.Spines.{texts}
+use Rattle.hum_score.specs.Texts.{texts}
 use Rattle.hum_choices.specs.declared.extract.Field.{Field as WrittenField}
 use Rattle.hum_choices.specs.declared.extract.Field.TheVariants.{Number as WrittenNumber}
 use Rattle.hum_choices.specs.declared.extract.Field.TheVariants.{Last as WrittenLast}

@@ -1,9 +1,9 @@
 //! Which spines become one, under which name, and what goes between their data.
 ghost use Rattle.std.specs.Prelude.{◌≡◌, true};
-ghost use Rattle.hum_record.specs.Spelling.{has_byte};
+ghost use Rattle.hum_score.specs.Spelling.{has_byte};
 ghost use Rattle.hum_choices.specs.Cleave.{is_name, fits_in_token};
 
-use hum_path::token_sign;
+use hum_score::token_sign;
 use std::marker::Model;
 
 /// Which spines become one, under which name, and what goes between their data tokens.

@@ -1,6 +1,6 @@
 //! Which opening spines are chosen.
 ghost use Rattle.std.specs.Prelude.{◌≡◌, IfOk};
-ghost use Rattle.hum_path.specs.Spines.{texts};
+ghost use Rattle.hum_score.specs.Texts.{texts};
 ghost use Rattle.hum_choices.specs.Extract.{choice_of};
 
 use std::alloc::{AllocError, Global};

@@ -6,14 +6,14 @@ use Rattle.std.proofs.lemmas.Bool.Decides.{nat_tests}
 use Rattle.std.specs.List.{list_any, AllByRecursion}
 use Rattle.std.proofs.lemmas.Bool.{and_parts, or_parts, or_from, eqb-true}
 use lib.Chars.{codes}
-use Rattle.hum_record.specs.declared.SpinedKind.{SpinedKind}
-use Rattle.hum_record.specs.declared.SpinedKind.TheVariants.{Local, Interpretation, Values}
-use Rattle.hum_record.specs.Row.{Row, Comment, Spined, tokens_of, text_of, chosen}
-use Rattle.hum_record.specs.Spelling.{IsToken, IsTokenOf, IsTextOf, has_byte, is_comment, kind_of_token}
+use Rattle.hum_score.specs.declared.records.SpinedKind.{SpinedKind}
+use Rattle.hum_score.specs.declared.records.SpinedKind.TheVariants.{Local, Interpretation, Values}
+use Rattle.hum_score.specs.Row.{Row, Comment, Spined, tokens_of, text_of, chosen}
+use Rattle.hum_score.specs.Spelling.{IsToken, IsTokenOf, IsTextOf, has_byte, is_comment, kind_of_token}
 use Rattle.hum_record.specs.Building.{spelled}
-use Rattle.hum_path.specs.Sign.{sign_of, is_join}
+use Rattle.hum_score.specs.Sign.{sign_of, is_join}
 use Rattle.hum_path.specs.Onward.{beginnings}
-use Rattle.hum_path.proofs.Cases.{by_bool}
+use Rattle.hum_score.proofs.Cases.{by_bool}
 use Rattle.hum_columns.specs.Spread.{piece, tokens_in}
 use Rattle.hum_columns.specs.Writing.{Fit}
 use Rattle.hum_columns.proofs.Spreading.{marks}

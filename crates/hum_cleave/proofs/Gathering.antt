@@ -4,7 +4,7 @@ use Rattle.std.proofs.Common.{List, [], ◌∷◌, ◌++◌, length, map, drop, 
 use Rattle.std.specs.List.{list_any}
 use Rattle.std.proofs.lemmas.List.{drop_all}
 use lib.Chars.{codes}
-use Rattle.hum_record.specs.Row.{chosen}
+use Rattle.hum_score.specs.Row.{chosen}
 use Rattle.hum_columns.proofs.ChosenLists.{chosen_at}
 use Rattle.hum_cleave.specs.Tokens.{leftmost, is_left_out, taken, following, joined, data_of, added}
 

@@ -1,10 +1,10 @@
 -- Joins that aren't torn stay joins beside the one column.
 use Rattle.std.proofs.Common.{◌≡◌, ◌∙◌, refl, sym, ℕ, Bool, true, false, ◌&&◌, List, [], ◌∷◌, length, map, arith}
 use Rattle.std.proofs.lemmas.Bool.{or_parts, false≢true}
-use Rattle.hum_path.specs.declared.signs.Sign.{Sign}
-use Rattle.hum_path.specs.declared.signs.Sign.TheVariants.{Plain}
-use Rattle.hum_path.specs.Sign.{sign_of, is_join}
-use Rattle.hum_path.specs.Rules.{first_is, has_lone_join, has_mixed_join}
+use Rattle.hum_score.specs.declared.spines.Sign.{Sign}
+use Rattle.hum_score.specs.declared.spines.Sign.TheVariants.{Plain}
+use Rattle.hum_score.specs.Sign.{sign_of, is_join}
+use Rattle.hum_score.specs.Rules.{first_is, has_lone_join, has_mixed_join}
 use Rattle.hum_columns.specs.Spread.{piece}
 use Rattle.hum_columns.proofs.Spreading.{next_goes_on, Formed}
 use Rattle.hum_columns.proofs.TornJoins.{torn_start}

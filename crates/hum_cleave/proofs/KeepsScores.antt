@@ -8,14 +8,14 @@ use lib.Chars.{codes}
 use Rattle.std.proofs.lemmas.Bool.{and_parts, and_from, false≢true}
 use Rattle.std.proofs.lemmas.Bool.Decides.{nat_tests}
 use Rattle.std.proofs.lemmas.List.{length-map}
-use Rattle.hum_record.specs.declared.SpinedKind.{SpinedKind}
-use Rattle.hum_record.specs.declared.SpinedKind.TheVariants.{Interpretation}
-use Rattle.hum_record.specs.Row.{Row, Spined, chosen}
+use Rattle.hum_score.specs.declared.records.SpinedKind.{SpinedKind}
+use Rattle.hum_score.specs.declared.records.SpinedKind.TheVariants.{Interpretation}
+use Rattle.hum_score.specs.Row.{Row, Spined, chosen}
 use Rattle.hum_record.specs.Building.{spelled}
-use Rattle.hum_record.specs.Spelling.{is_empty}
-use Rattle.hum_path.specs.Sign.{sign_of, is_exclusive}
-use Rattle.hum_path.specs.Spines.{Unopened, Spines}
-use Rattle.hum_path.specs.Rules.{breaks_as_text, in_order}
+use Rattle.hum_score.specs.Spelling.{is_empty}
+use Rattle.hum_score.specs.Sign.{sign_of, is_exclusive}
+use Rattle.hum_score.specs.Spines.{Unopened, Spines}
+use Rattle.hum_score.specs.Rules.{breaks_as_text, in_order}
 use Rattle.hum_path.proofs.Widths.{text_width}
 use Rattle.hum_path.proofs.Obeyed.{Opens}
 use Rattle.hum_stage.specs.declared.faults.Rule.{Rule}

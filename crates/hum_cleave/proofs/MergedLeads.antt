@@ -6,18 +6,18 @@ use Rattle.std.specs.Str.{bytes_eq}
 use Rattle.std.proofs.lemmas.Bool.{or_parts, or_from}
 use Rattle.std.proofs.lemmas.List.{length-map}
 use lib.Chars.{codes}
-use Rattle.hum_path.specs.declared.signs.Sign.{Sign}
-use Rattle.hum_path.specs.declared.signs.Sign.TheVariants.{End, Plain}
-use Rattle.hum_path.specs.Sign.{sign_of, is_exclusive, is_path_indicator}
-use Rattle.hum_path.specs.Spines.{Spines, names_after}
-use Rattle.hum_path.specs.Rules.{has_unnamed, names_and_steers, is_pair_or_none, stays_unnamed}
-use Rattle.hum_path.specs.Score.{Lead}
+use Rattle.hum_score.specs.declared.spines.Sign.{Sign}
+use Rattle.hum_score.specs.declared.spines.Sign.TheVariants.{End, Plain}
+use Rattle.hum_score.specs.Sign.{sign_of, is_exclusive, is_path_indicator}
+use Rattle.hum_score.specs.Spines.{Spines, names_after}
+use Rattle.hum_score.specs.Rules.{has_unnamed, names_and_steers, is_pair_or_none, stays_unnamed}
+use Rattle.hum_score.specs.Score.{Lead}
 use Rattle.hum_path.specs.Onward.{beginnings, onward, swapped, renamed_each}
 use Rattle.hum_path.proofs.Onwards.{names_onward, swapped_length, each_length, begins_length}
 use Rattle.hum_path.proofs.Obeyed.{Obeys}
-use Rattle.hum_path.proofs.Cases.{by_bool}
-use Rattle.hum_record.specs.declared.SpinedKind.TheVariants.{Interpretation}
-use Rattle.hum_record.specs.Row.{Row, chosen}
+use Rattle.hum_score.proofs.Cases.{by_bool}
+use Rattle.hum_score.specs.declared.records.SpinedKind.TheVariants.{Interpretation}
+use Rattle.hum_score.specs.Row.{Row, chosen}
 use Rattle.hum_stage.specs.declared.faults.Rule.{Rule}
 use Rattle.hum_stage.specs.declared.faults.Rule.TheVariants.{C1, C2}
 use Rattle.hum_columns.specs.Spread.{spread, filled}

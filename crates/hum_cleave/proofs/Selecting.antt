@@ -2,16 +2,16 @@
 use Rattle.std.proofs.Common.{◌≡◌, ◌∙◌, refl, sym, ap, suc, ℕ, ◌+◌, ◌≤◌, Bool, true, false, not, ◌&&◌, List, [], ◌∷◌, ◌++◌, length, map, arith, cond}
 use Rattle.std.specs.List.{list_any, list_all}
 use Rattle.std.proofs.lemmas.Bool.{or_parts, or_from, and_parts}
-use Rattle.hum_path.specs.declared.signs.Sign.{Sign}
-use Rattle.hum_path.specs.declared.signs.Sign.TheVariants.{Split, Join, Exchange, Add, End, Exclusive, Plain}
-use Rattle.hum_path.specs.Sign.{sign_of, is_join, is_exchange, is_exclusive}
-use Rattle.hum_path.specs.Spines.{exchanges}
+use Rattle.hum_score.specs.declared.spines.Sign.{Sign}
+use Rattle.hum_score.specs.declared.spines.Sign.TheVariants.{Split, Join, Exchange, Add, End, Exclusive, Plain}
+use Rattle.hum_score.specs.Sign.{sign_of, is_join, is_exchange, is_exclusive}
+use Rattle.hum_score.specs.Spines.{exchanges}
 use Rattle.hum_path.specs.Onward.{beginnings, onward_one, onward, at_next, put_next, swapped, renamed_each}
-use Rattle.hum_path.proofs.Cases.{by_bool}
+use Rattle.hum_score.proofs.Cases.{by_bool}
 use Rattle.hum_path.proofs.Onwards.{begins_length}
 use Rattle.hum_columns.proofs.ChosenLists.{chosen_length, chosen_fewer, chosen_none, chosen_each}
 use Rattle.hum_columns.proofs.ChosenOnward.{others_onward}
-use Rattle.hum_record.specs.Row.{chosen}
+use Rattle.hum_score.specs.Row.{chosen}
 use Rattle.hum_columns.specs.Chosen.{others}
 use Rattle.hum_cleave.specs.Columns.{together}
 use Rattle.hum_columns.specs.Chosen.{is_torn}

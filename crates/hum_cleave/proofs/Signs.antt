@@ -6,10 +6,10 @@ use Rattle.std.specs.Str.{bytes_eq}
 use Rattle.std.proofs.lemmas.Bool.{and_parts, or_parts, or_from, false≢true}
 use Rattle.std.proofs.lemmas.Slice.Eq.{bytes_eq-Decides}
 use lib.Chars.{codes}
-use Rattle.hum_path.specs.declared.signs.Sign.{Sign}
-use Rattle.hum_path.specs.declared.signs.Sign.TheVariants.{Split, Join, Exchange, Add, End, Exclusive, Plain}
-use Rattle.hum_path.specs.Sign.{sign_of, is_join, is_exchange, is_exclusive}
-use Rattle.hum_path.proofs.Cases.{by_bool}
+use Rattle.hum_score.specs.declared.spines.Sign.{Sign}
+use Rattle.hum_score.specs.declared.spines.Sign.TheVariants.{Split, Join, Exchange, Add, End, Exclusive, Plain}
+use Rattle.hum_score.specs.Sign.{sign_of, is_join, is_exchange, is_exclusive}
+use Rattle.hum_score.proofs.Cases.{by_bool}
 use Rattle.hum_cleave.specs.Tokens.{is_silent, interpretation_of}
 use Rattle.hum_cleave.specs.Cleave.{is_moved, is_end, ends_apart}
 

@@ -39,7 +39,6 @@ impl<'r> Barlines<'r> {
 
     /// Whether a data token is left out, behind those that were asked of before: it is null, or a
     /// barline that stands among them.
-    #[inline]
     pub fn leaves_out(&mut self, token: &'r [u8]) -> Result<bool, AllocError>
         ensures { IfOk result (Tells self.old self.new token.now) }
     {

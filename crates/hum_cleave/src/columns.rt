@@ -1,9 +1,9 @@
 //! The columns of a score, record by record, and which of them are cleaved.
 ghost use Rattle.std.specs.Prelude.{◌≡◌, ℕ, None, true, [], IfOk, OnOk};
-ghost use Rattle.hum_record.specs.Row.{Spined, tokens_of, text_of};
-ghost use Rattle.hum_record.specs.Spelling.{IsTextOf};
-ghost use Rattle.hum_record.specs.declared.SpinedKind.TheVariants.{Interpretation};
-ghost use Rattle.hum_path.specs.{Spines.after, Rules.fault_of};
+ghost use Rattle.hum_score.specs.Row.{Spined, tokens_of, text_of};
+ghost use Rattle.hum_score.specs.Spelling.{IsTextOf};
+ghost use Rattle.hum_score.specs.declared.records.SpinedKind.TheVariants.{Interpretation};
+ghost use Rattle.hum_score.specs.{Spines.after, Rules.fault_of};
 ghost use Rattle.hum_stage.specs.Refusals.{IfTold};
 ghost use Rattle.hum_columns.specs.Following.{Answers, memory, is_interpretation};
 ghost use Rattle.hum_cleave.specs.Columns.{opening_flags};
@@ -85,7 +85,7 @@ impl Decides for CleaveColumns {
 
     type Due = VecDeque<Record>;
 
-    ghost use Rattle.hum_stage.specs.declared.faults.Command.TheVariants.{Cleave};
+    ghost use Rattle.hum_words.specs.declared.commands.Command.TheVariants.{Cleave};
     ghost use Rattle.hum_columns.specs.Following.{Follows};
 
     ghost command = { Cleave };

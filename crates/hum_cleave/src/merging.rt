@@ -1,9 +1,9 @@
 //! Interpretations whose cleaved columns become one.
 ghost use Rattle.std.specs.Prelude.{◌≡◌, Bool, false, length, map, IfOk};
 ghost use Rattle.std.specs.List.{list_any};
-ghost use Rattle.hum_record.specs.Row.{tokens_of, width_of, chosen};
-ghost use Rattle.hum_path.specs.Sign.{sign_of, is_exclusive};
-ghost use Rattle.hum_path.specs.declared.signs.Sign.{Sign};
+ghost use Rattle.hum_score.specs.Row.{tokens_of, width_of, chosen};
+ghost use Rattle.hum_score.specs.Sign.{sign_of, is_exclusive};
+ghost use Rattle.hum_score.specs.declared.spines.Sign.{Sign};
 ghost use Rattle.hum_stage.specs.Refusals.{IfTold};
 ghost use Rattle.hum_columns.specs.{Spread.piece, Chosen.each_piece, Following.AnswersInRoom};
 ghost use Rattle.hum_columns.specs.{Following.IsPassed};

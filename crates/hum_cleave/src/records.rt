@@ -1,9 +1,10 @@
 //! Records whose cleaved columns have become one.
 ghost use Rattle.std.specs.Prelude.{◌≡◌, ℕ, List, [], true, false, length, IfOk};
-ghost use Rattle.hum_record.specs.declared.SpinedKind.{SpinedKind};
-ghost use Rattle.hum_record.specs.declared.SpinedKind.TheVariants.{Local, Values};
-ghost use Rattle.hum_record.specs.Row.{Spined, tokens_of, width_of, text_of};
-ghost use Rattle.hum_record.specs.{Spelling.IsToken, Spelling.IsTextOf, RecordDraft.IsMade};
+ghost use Rattle.hum_score.specs.declared.records.SpinedKind.{SpinedKind};
+ghost use Rattle.hum_score.specs.declared.records.SpinedKind.TheVariants.{Local, Values};
+ghost use Rattle.hum_score.specs.Row.{Spined, tokens_of, width_of, text_of};
+ghost use Rattle.hum_score.specs.{Spelling.IsToken, Spelling.IsTextOf};
+ghost use Rattle.hum_record.specs.{RecordDraft.IsMade};
 ghost use Rattle.hum_stage.specs.Refusals.{IfTold};
 ghost use Rattle.hum_columns.specs.Following.{AsWide, Answers, is_interpretation};
 ghost use Rattle.hum_cleave.specs.Columns.{together};

@@ -1,8 +1,8 @@
 //! What the tokens of the cleaved columns become.
 ghost use Rattle.std.specs.Prelude.{◌≡◌, true, length, OnOk};
-ghost use Rattle.hum_record.specs.Row.{Spined, tokens_of, width_of, text_of, chosen};
-ghost use Rattle.hum_record.specs.Spelling.{IsToken, IsTextOf};
-ghost use Rattle.hum_record.specs.declared.SpinedKind.TheVariants.{Local, Values};
+ghost use Rattle.hum_score.specs.Row.{Spined, tokens_of, width_of, text_of, chosen};
+ghost use Rattle.hum_score.specs.Spelling.{IsToken, IsTextOf};
+ghost use Rattle.hum_score.specs.declared.records.SpinedKind.TheVariants.{Local, Values};
 ghost use Rattle.hum_choices.specs.Cleave.{fits_in_token};
 ghost use Rattle.hum_cleave.specs.Tokens.{is_null_comment, comment_of, is_silent};
 ghost use Rattle.hum_cleave.specs.Tokens.{interpretation_of, data_of, added};

@@ -3,14 +3,14 @@ use Rattle.std.proofs.Common.{◌≡◌, ◌∙◌, refl, sym, ap, ℕ, Bool, tr
 use Rattle.std.specs.Str.{bytes_eq}
 use Rattle.std.proofs.lemmas.Bool.{or_parts, not-false, false≢true}
 use Rattle.std.proofs.lemmas.Slice.Eq.{bytes_eq-Decides}
-use Rattle.hum_path.specs.declared.signs.Sign.{Sign}
-use Rattle.hum_path.specs.declared.signs.Sign.TheVariants.{Plain}
-use Rattle.hum_path.specs.Sign.{sign_of, is_join}
-use Rattle.hum_path.specs.Rules.{first_is, has_lone_join, has_mixed_join}
+use Rattle.hum_score.specs.declared.spines.Sign.{Sign}
+use Rattle.hum_score.specs.declared.spines.Sign.TheVariants.{Plain}
+use Rattle.hum_score.specs.Sign.{sign_of, is_join}
+use Rattle.hum_score.specs.Rules.{first_is, has_lone_join, has_mixed_join}
 use Rattle.hum_path.specs.Onward.{beginnings}
 use Rattle.hum_columns.specs.Spread.{JoinedToken, tokens_in}
 use Rattle.hum_columns.proofs.Spreading.{marks, next_goes_on, Formed}
-use Rattle.hum_record.specs.Row.{chosen}
+use Rattle.hum_score.specs.Row.{chosen}
 use Rattle.hum_columns.specs.Chosen.{others, differ, is_torn, each_piece}
 use Rattle.hum_columns.proofs.ChosenLists.{chosen_map, not_length}
 use Rattle.hum_columns.proofs.TornJoins.{torn_start, torn_not}

@@ -3,9 +3,9 @@ use Rattle.std.proofs.Common.{◌≡◌, refl, ap, suc, zero, ℕ, ◌<◌, ◌�
 use Rattle.std.proofs.Common.{arith, cond}
 use Rattle.std.specs.List.{list_any, AllByRecursion}
 use Rattle.std.proofs.lemmas.Bool.{or_parts, or_from}
-use Rattle.hum_path.specs.Sign.{sign_of, is_exclusive}
+use Rattle.hum_score.specs.Sign.{sign_of, is_exclusive}
 use Rattle.hum_path.specs.Onward.{renamed_each}
-use Rattle.hum_record.specs.Row.{chosen}
+use Rattle.hum_score.specs.Row.{chosen}
 
 pub chosen_length : {X Y : Type 0} (fs : List Bool) (xs : List X) (ys : List Y) → length xs ≡ length ys
     → length (chosen fs xs) ≡ length (chosen fs ys)

@@ -1,9 +1,9 @@
 -- What is chosen of what is carried on is what is carried on of what is chosen.
 use Rattle.std.proofs.Common.{◌≡◌, ◌∙◌, refl, ap, Bool, true, false, not, List, [], ◌∷◌, ◌++◌, length, map, arith}
-use Rattle.hum_path.specs.declared.signs.Sign.{Sign}
-use Rattle.hum_path.specs.declared.signs.Sign.TheVariants.{Split, Join, Exchange, Add, End, Exclusive, Plain}
+use Rattle.hum_score.specs.declared.spines.Sign.{Sign}
+use Rattle.hum_score.specs.declared.spines.Sign.TheVariants.{Split, Join, Exchange, Add, End, Exclusive, Plain}
 use Rattle.hum_path.specs.Onward.{onward_one, onward}
-use Rattle.hum_record.specs.Row.{chosen}
+use Rattle.hum_score.specs.Row.{chosen}
 use Rattle.hum_columns.specs.Chosen.{others}
 
 -- A column's children are chosen with it.

@@ -6,12 +6,12 @@ use Rattle.std.specs.Str.{bytes_eq}
 use Rattle.std.proofs.lemmas.Bool.{and_parts, or_parts, or_from}
 use Rattle.std.proofs.lemmas.List.{length-map}
 use lib.Chars.{codes}
-use Rattle.hum_path.specs.declared.signs.Sign.{Sign}
-use Rattle.hum_path.specs.declared.signs.Sign.TheVariants.{Join, Plain}
-use Rattle.hum_path.specs.Sign.{sign_of, is_join, is_exchange}
-use Rattle.hum_path.specs.Spines.{exchanges}
-use Rattle.hum_path.specs.Rules.{has_lone_join, first_is, has_mixed_join}
-use Rattle.hum_path.proofs.Cases.{by_bool}
+use Rattle.hum_score.specs.declared.spines.Sign.{Sign}
+use Rattle.hum_score.specs.declared.spines.Sign.TheVariants.{Join, Plain}
+use Rattle.hum_score.specs.Sign.{sign_of, is_join, is_exchange}
+use Rattle.hum_score.specs.Spines.{exchanges}
+use Rattle.hum_score.specs.Rules.{has_lone_join, first_is, has_mixed_join}
+use Rattle.hum_score.proofs.Cases.{by_bool}
 use Rattle.hum_columns.specs.Spread.{JoinedToken, joins, goes_on, tokens_in, join_alone, first_alone, join_done, first_done}
 use Rattle.hum_columns.proofs.Spreading.{signs_in, next_goes_on, Formed, formed_length, rest_merged, merged, is_join_at}
 use Rattle.hum_columns.proofs.Fitting.{same_name}

@@ -8,14 +8,14 @@ use Rattle.std.proofs.lemmas.Bool.{and_parts, or_parts, or_from, false≢true}
 use Rattle.std.proofs.lemmas.Bool.Decides.{nat_tests}
 use Rattle.std.proofs.lemmas.List.{length-map}
 use Rattle.std.proofs.lemmas.Slice.Eq.{bytes_eq-Decides}
-use Rattle.hum_record.specs.declared.SpinedKind.TheVariants.{Interpretation}
-use Rattle.hum_path.specs.declared.signs.Sign.{Sign}
-use Rattle.hum_path.specs.declared.signs.Sign.TheVariants.{Plain}
-use Rattle.hum_path.specs.Sign.{sign_of, is_join}
-use Rattle.hum_path.specs.Spines.{Spines, exchanges, moves_under, names_after, renamed}
-use Rattle.hum_path.specs.Rules.{breaks, in_order, has_unnamed, has_bare, names_and_steers}
-use Rattle.hum_path.specs.Rules.{has_lone_join, first_is, is_pair_or_none, has_mixed_join}
-use Rattle.hum_path.specs.Score.{Lead}
+use Rattle.hum_score.specs.declared.records.SpinedKind.TheVariants.{Interpretation}
+use Rattle.hum_score.specs.declared.spines.Sign.{Sign}
+use Rattle.hum_score.specs.declared.spines.Sign.TheVariants.{Plain}
+use Rattle.hum_score.specs.Sign.{sign_of, is_join}
+use Rattle.hum_score.specs.Spines.{Spines, exchanges, moves_under, names_after, renamed}
+use Rattle.hum_score.specs.Rules.{breaks, in_order, has_unnamed, has_bare, names_and_steers}
+use Rattle.hum_score.specs.Rules.{has_lone_join, first_is, is_pair_or_none, has_mixed_join}
+use Rattle.hum_score.specs.Score.{Lead}
 use Rattle.hum_path.specs.Onward.{beginnings, onward, swapped, renamed_each}
 use Rattle.hum_path.proofs.Onwards.{names_onward}
 use Rattle.hum_columns.specs.Spread.{JoinedToken, joins, tokens_in, touches, filled}

@@ -5,16 +5,16 @@ use Rattle.std.specs.List.{list_all, find, AllByRecursion}
 use Rattle.std.proofs.lemmas.List.{drop_all, length-map, get_or-map}
 use Rattle.std.proofs.lemmas.Bool.{and_parts, not-false, false≢true}
 use Rattle.std.proofs.lemmas.Simd.{map-map}
-use Rattle.hum_record.specs.declared.SpinedKind.TheVariants.{Interpretation}
-use Rattle.hum_record.specs.Row.{Row, Comment, Spined, tokens_of}
-use Rattle.hum_path.specs.declared.PathFault.TheVariants.{P1, P2, P3, P4, P5, P6, P7, P9, P10, P11}
-use Rattle.hum_path.specs.declared.signs.Sign.{Sign}
-use Rattle.hum_path.specs.declared.moved.Move.{Move}
-use Rattle.hum_path.specs.declared.moved.Move.TheVariants.{Same}
-use Rattle.hum_path.specs.Sign.{sign_of, is_exclusive, is_plain, all_plain}
-use Rattle.hum_path.specs.Spines.{Path, Unopened, Spines, width, source, same_upto, moves, moves_under}
-use Rattle.hum_path.specs.Rules.{breaks, breaks_as_text, in_order, fault_of}
-use Rattle.hum_path.specs.Score.{IsOpen, path_after}
+use Rattle.hum_score.specs.declared.records.SpinedKind.TheVariants.{Interpretation}
+use Rattle.hum_score.specs.Row.{Row, Comment, Spined, tokens_of}
+use Rattle.hum_score.specs.declared.spines.PathFault.TheVariants.{P1, P2, P3, P4, P5, P6, P7, P9, P10, P11}
+use Rattle.hum_score.specs.declared.spines.Sign.{Sign}
+use Rattle.hum_score.specs.declared.spines.Move.{Move}
+use Rattle.hum_score.specs.declared.spines.Move.TheVariants.{Same}
+use Rattle.hum_score.specs.Sign.{sign_of, is_exclusive, is_plain, all_plain}
+use Rattle.hum_score.specs.Spines.{Path, Unopened, Spines, width, source, same_upto, moves, moves_under}
+use Rattle.hum_score.specs.Rules.{breaks, breaks_as_text, in_order, fault_of}
+use Rattle.hum_score.specs.Score.{IsOpen, path_after}
 use Rattle.hum_path.specs.Chains.{origin_of, origins}
 use Rattle.hum_path.specs.Onward.{beginnings, onward, swapped}
 use Rattle.hum_path.specs.Step.{ComeFrom}

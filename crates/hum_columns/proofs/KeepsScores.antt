@@ -5,20 +5,20 @@ use Rattle.std.specs.List.{list_any, find}
 use Rattle.std.proofs.lemmas.Bool.{not-false}
 use Rattle.std.proofs.lemmas.Bool.Decides.{nat_tests}
 use Rattle.std.proofs.lemmas.List.{length-map}
-use Rattle.hum_record.specs.declared.SpinedKind.{SpinedKind}
-use Rattle.hum_record.specs.declared.SpinedKind.TheVariants.{Local, Interpretation, Values}
-use Rattle.hum_record.specs.Row.{Row, Comment, Spined}
-use Rattle.hum_record.specs.Spelling.{is_empty}
-use Rattle.hum_path.specs.declared.PathFault.TheVariants.{P1, P2, P3, P4, P5, P6, P7, P9, P10, P11}
-use Rattle.hum_path.specs.Sign.{sign_of}
-use Rattle.hum_path.specs.Spines.{Path, Unopened, Spines, width, names_after}
-use Rattle.hum_path.specs.Rules.{breaks, breaks_as_text, in_order, is_unfinished}
-use Rattle.hum_path.specs.Score.{IsOpen, path_after, Lead}
+use Rattle.hum_score.specs.declared.records.SpinedKind.{SpinedKind}
+use Rattle.hum_score.specs.declared.records.SpinedKind.TheVariants.{Local, Interpretation, Values}
+use Rattle.hum_score.specs.Row.{Row, Comment, Spined}
+use Rattle.hum_score.specs.Spelling.{is_empty}
+use Rattle.hum_score.specs.declared.spines.PathFault.TheVariants.{P1, P2, P3, P4, P5, P6, P7, P9, P10, P11}
+use Rattle.hum_score.specs.Sign.{sign_of}
+use Rattle.hum_score.specs.Spines.{Path, Unopened, Spines, width, names_after}
+use Rattle.hum_score.specs.Rules.{breaks, breaks_as_text, in_order, is_unfinished}
+use Rattle.hum_score.specs.Score.{IsOpen, path_after, Lead}
 use Rattle.hum_path.specs.Chains.{origins}
 use Rattle.hum_path.proofs.Plain.{find_head}
 use Rattle.hum_path.proofs.Widths.{origins_width}
 use Rattle.hum_path.proofs.Obeyed.{Opens, opens, Obeys, obeys, narrow}
-use Rattle.hum_stage.specs.Score.{through, Follow}
+use Rattle.hum_score.specs.InOrder.{through, Follow}
 use Rattle.hum_stage.specs.Meaning.{KeepsScore}
 use Rattle.hum_stage.specs.Decided.{decisions, limit, Keeps}
 use Rattle.hum_stage.proofs.Keeping.{at_once_keeps}

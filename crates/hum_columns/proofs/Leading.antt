@@ -5,15 +5,15 @@ use Rattle.std.specs.List.{list_any, find}
 use Rattle.std.specs.Str.{bytes_eq}
 use Rattle.std.proofs.lemmas.Bool.{or_parts, or_from, false≢true}
 use lib.Chars.{codes}
-use Rattle.hum_record.specs.declared.SpinedKind.TheVariants.{Interpretation}
-use Rattle.hum_path.specs.declared.signs.Sign.{Sign}
-use Rattle.hum_path.specs.Sign.{sign_of, is_exclusive, is_path_indicator}
-use Rattle.hum_path.specs.Spines.{Spines, exchanges, names_after}
-use Rattle.hum_path.specs.Rules.{breaks, in_order, has_unnamed, has_bare, names_and_steers, is_pair_or_none, stays_unnamed}
-use Rattle.hum_path.specs.Score.{Lead}
+use Rattle.hum_score.specs.declared.records.SpinedKind.TheVariants.{Interpretation}
+use Rattle.hum_score.specs.declared.spines.Sign.{Sign}
+use Rattle.hum_score.specs.Sign.{sign_of, is_exclusive, is_path_indicator}
+use Rattle.hum_score.specs.Spines.{Spines, exchanges, names_after}
+use Rattle.hum_score.specs.Rules.{breaks, in_order, has_unnamed, has_bare, names_and_steers, is_pair_or_none, stays_unnamed}
+use Rattle.hum_score.specs.Score.{Lead}
 use Rattle.hum_path.specs.Onward.{onward, swapped, renamed_each}
 use Rattle.hum_path.proofs.Onwards.{names_onward, swapped_none}
-use Rattle.hum_path.proofs.Cases.{by_bool}
+use Rattle.hum_score.proofs.Cases.{by_bool}
 use Rattle.hum_columns.specs.Spread.{JoinedToken, joins, tokens_in, touches, joins_in, first_alone}
 use Rattle.hum_columns.specs.Spread.{first_done, one_by_one, before_last, spread, filled}
 use Rattle.hum_columns.proofs.Spreading.{marks, signs_in, Formed, formed_length, merged}

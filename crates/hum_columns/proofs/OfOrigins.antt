@@ -1,7 +1,7 @@
 -- What is chosen is so by its origin.
 use Rattle.std.proofs.Common.{◌≡◌, ℕ, zero, suc, Bool, false, List, [], ◌∷◌, map, Some, slice_get, get_or, arith}
-use Rattle.hum_record.specs.Row.{Row}
-use Rattle.hum_path.specs.Score.{IsOpen}
+use Rattle.hum_score.specs.Row.{Row}
+use Rattle.hum_score.specs.Score.{IsOpen}
 use Rattle.hum_path.specs.Chains.{origins}
 use Rattle.hum_path.specs.Origins.{origin}
 use Rattle.hum_path.proofs.Climbing.{climbing}

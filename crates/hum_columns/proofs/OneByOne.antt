@@ -6,10 +6,10 @@ use Rattle.std.proofs.lemmas.Bool.{cases_Bool, false≢true}
 use Rattle.std.proofs.lemmas.List.{drop_all, drop-drop}
 use lib.Chars.{codes}
 use Rattle.hum_record.specs.declared.TheConstants.{MOST_BYTES}
-use Rattle.hum_record.specs.declared.SpinedKind.{SpinedKind}
-use Rattle.hum_record.specs.declared.SpinedKind.TheVariants.{Interpretation}
-use Rattle.hum_record.specs.Row.{Row, Spined}
-use Rattle.hum_record.specs.Spelling.{IsToken}
+use Rattle.hum_score.specs.declared.records.SpinedKind.{SpinedKind}
+use Rattle.hum_score.specs.declared.records.SpinedKind.TheVariants.{Interpretation}
+use Rattle.hum_score.specs.Row.{Row, Spined}
+use Rattle.hum_score.specs.Spelling.{IsToken}
 use Rattle.hum_record.specs.Building.{Draft, spelled}
 use Rattle.hum_record.specs.Nulls.{nulls}
 use Rattle.hum_record.proofs.Drafts.{spelled_front}

@@ -4,11 +4,11 @@ use Rattle.std.proofs.Common.{List, [], ◌∷◌, ◌++◌, length, map, cond, 
 use Rattle.std.specs.Prelude.{if◌then◌else◌}
 use Rattle.std.proofs.lemmas.Bool.{and_parts, false≢true}
 use lib.Chars.{codes}
-use Rattle.hum_path.specs.declared.signs.Sign.{Sign}
-use Rattle.hum_path.specs.declared.signs.Sign.TheVariants.{Split, Join, Exchange, Add, End, Exclusive, Plain}
-use Rattle.hum_path.specs.Sign.{sign_of, is_join, is_exchange}
+use Rattle.hum_score.specs.declared.spines.Sign.{Sign}
+use Rattle.hum_score.specs.declared.spines.Sign.TheVariants.{Split, Join, Exchange, Add, End, Exclusive, Plain}
+use Rattle.hum_score.specs.Sign.{sign_of, is_join, is_exchange}
 use Rattle.hum_path.specs.Onward.{beginnings, onward_one, onward, at_next, put_next, swapped}
-use Rattle.hum_path.proofs.Cases.{by_bool}
+use Rattle.hum_score.proofs.Cases.{by_bool}
 use Rattle.hum_columns.specs.Spread.{JoinedToken, piece, joins, goes_on, tokens_in, join_alone, first_alone, join_done, first_done, joins_in}
 
 abbrev pub marks : List JoinedToken → List Bool

@@ -4,14 +4,14 @@ use Rattle.std.proofs.Common.{List, [], ◌∷◌, length, arith, Option, None, 
 use Rattle.std.specs.Prelude.{Result, IfNone, OnOk, Ok, Err, nat_le}
 use Rattle.std.proofs.lemmas.Bool.{false≢true}
 use Rattle.std.proofs.lemmas.Bool.Decides.{nat_tests}
-use Rattle.hum_record.specs.declared.SpinedKind.TheVariants.{Local, Interpretation, Values}
-use Rattle.hum_record.specs.Row.{Row, Comment, Spined, tokens_of, width_of}
-use Rattle.hum_path.specs.declared.moved.Move.{Move}
-use Rattle.hum_path.specs.Spines.{Path, Unopened, Spines, width, moves, after}
-use Rattle.hum_path.specs.Rules.{fault_of, is_closed}
-use Rattle.hum_path.specs.Score.{IsOpen, path_after}
+use Rattle.hum_score.specs.declared.records.SpinedKind.TheVariants.{Local, Interpretation, Values}
+use Rattle.hum_score.specs.Row.{Row, Comment, Spined, tokens_of, width_of}
+use Rattle.hum_score.specs.declared.spines.Move.{Move}
+use Rattle.hum_score.specs.Spines.{Path, Unopened, Spines, width, moves, after}
+use Rattle.hum_score.specs.Rules.{fault_of, is_closed}
+use Rattle.hum_score.specs.Score.{IsOpen, path_after}
 use Rattle.hum_path.specs.Step.{ComeFrom}
-use Rattle.hum_path.proofs.Cases.{by_bool}
+use Rattle.hum_score.proofs.Cases.{by_bool}
 use Rattle.hum_path.proofs.Plain.{sound_width}
 use Rattle.hum_path.proofs.Widths.{text_width}
 use Rattle.hum_stage.specs.declared.faults.Rule.{Rule}

@@ -1,8 +1,8 @@
 -- Torn joins, by the left neighbour and of the other columns.
 use Rattle.std.proofs.Common.{◌≡◌, refl, ap, Bool, true, false, not, ◌&&◌, ◌||◌, List, [], ◌∷◌, map}
-use Rattle.hum_path.specs.declared.signs.Sign.{Sign}
-use Rattle.hum_path.specs.declared.signs.Sign.TheVariants.{Plain}
-use Rattle.hum_path.specs.Sign.{is_join}
+use Rattle.hum_score.specs.declared.spines.Sign.{Sign}
+use Rattle.hum_score.specs.declared.spines.Sign.TheVariants.{Plain}
+use Rattle.hum_score.specs.Sign.{is_join}
 use Rattle.hum_columns.specs.Chosen.{differ, is_torn}
 
 -- whether joins are torn, by the left neighbour

@@ -1,11 +1,11 @@
 -- Columns that are chosen by the opening spines that they come from.
 use Rattle.std.specs.Prelude.{◌≡◌, ◌<◌, ℕ, Bool, true, false, not, ◌&&◌, ◌||◌}
 use Rattle.std.specs.Prelude.{List, [], ◌∷◌, map, slice_index_or}
-use Rattle.hum_record.specs.Row.{Row, Comment, Spined, chosen}
-use Rattle.hum_path.specs.declared.signs.Sign.{Sign}
-use Rattle.hum_path.specs.Sign.{sign_of, is_join}
-use Rattle.hum_path.specs.Spines.{Path, Unopened, Spines, width}
-use Rattle.hum_path.specs.Score.{path_after}
+use Rattle.hum_score.specs.Row.{Row, Comment, Spined, chosen}
+use Rattle.hum_score.specs.declared.spines.Sign.{Sign}
+use Rattle.hum_score.specs.Sign.{sign_of, is_join}
+use Rattle.hum_score.specs.Spines.{Path, Unopened, Spines, width}
+use Rattle.hum_score.specs.Score.{path_after}
 use Rattle.hum_path.specs.Chains.{origins}
 use Rattle.hum_path.specs.Origins.{origin}
 use Rattle.hum_columns.specs.Spread.{JoinedToken, piece}

@@ -2,9 +2,9 @@
 use Rattle.std.specs.Prelude.{ℕ, zero, suc, ◌+◌, Bool, false, not, ◌&&◌, ◌||◌}
 use Rattle.std.specs.Prelude.{List, [], ◌∷◌, map, if◌then◌else◌}
 use lib.Chars.{codes}
-use Rattle.hum_record.specs.declared.SpinedKind.{SpinedKind}
-use Rattle.hum_record.specs.Row.{Row, Spined}
-use Rattle.hum_path.specs.Sign.{sign_of, is_join}
+use Rattle.hum_score.specs.declared.records.SpinedKind.{SpinedKind}
+use Rattle.hum_score.specs.Row.{Row, Spined}
+use Rattle.hum_score.specs.Sign.{sign_of, is_join}
 
 -- A token that an interpretation keeps, and whether it begins a join.
 pub record JoinedToken : Type 0 where

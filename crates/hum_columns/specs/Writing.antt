@@ -5,9 +5,9 @@ use Rattle.std.specs.Prelude.{List, [], ◌∷◌, ◌++◌, map, length, drop}
 use Rattle.std.specs.List.{AllByRecursion}
 use lib.Chars.{codes}
 use Rattle.hum_record.specs.declared.TheConstants.{MOST_BYTES}
-use Rattle.hum_record.specs.declared.SpinedKind.TheVariants.{Interpretation}
-use Rattle.hum_record.specs.Row.{Row}
-use Rattle.hum_record.specs.Spelling.{IsToken}
+use Rattle.hum_score.specs.declared.records.SpinedKind.TheVariants.{Interpretation}
+use Rattle.hum_score.specs.Row.{Row}
+use Rattle.hum_score.specs.Spelling.{IsToken}
 use Rattle.hum_record.specs.Building.{Draft, spelled}
 use Rattle.hum_columns.specs.declared.writing.Phase.{Phase}
 use Rattle.hum_columns.specs.declared.writing.Phase.TheVariants.{Before, Inside, After}

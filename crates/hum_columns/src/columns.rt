@@ -1,7 +1,8 @@
 //! The spines of a score, and which of their columns are chosen.
 ghost use Rattle.std.specs.Prelude.{◌≡◌, None, [], true, IfOk, OnOk, OnErr, IsTrue, IsErr};
-ghost use Rattle.hum_path.specs.Spines.{Unopened, moves, after};
-ghost use Rattle.hum_path.specs.{Rules.fault_of, Rules.is_closed, Step.ComeFrom};
+ghost use Rattle.hum_score.specs.Spines.{Unopened, moves, after};
+ghost use Rattle.hum_score.specs.{Rules.fault_of, Rules.is_closed};
+ghost use Rattle.hum_path.specs.{Step.ComeFrom};
 ghost use Rattle.hum_columns.specs.Following.{memory, passed};
 
 use crate::marks::moved;

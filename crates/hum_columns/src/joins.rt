@@ -5,7 +5,7 @@
 //! each other, a reader would see one join. [`write_pieces`] writes such a record as several, one join in
 //! each.
 ghost use Rattle.std.specs.Prelude.{◌≡◌, ◌≤◌, [], Ok};
-ghost use Rattle.hum_record.specs.declared.SpinedKind.TheVariants.{Interpretation};
+ghost use Rattle.hum_score.specs.declared.records.SpinedKind.TheVariants.{Interpretation};
 ghost use Rattle.hum_stage.specs.Refusals.{IfTold};
 ghost use Rattle.hum_columns.specs.Spread.{spread, filled, one_by_one, before_last};
 ghost use Rattle.hum_columns.specs.{Writing.Fit, Following.AnswersInRoom};

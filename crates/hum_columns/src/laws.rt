@@ -1,7 +1,7 @@
 //! What holds of chosen columns, as contracts.
 ghost use Rattle.std.specs.Prelude.{Bool, List, ℕ};
-ghost use Rattle.hum_record.specs.Row.{Row};
-ghost use Rattle.hum_path.specs.Score.{IsOpen};
+ghost use Rattle.hum_score.specs.Row.{Row};
+ghost use Rattle.hum_score.specs.Score.{IsOpen};
 ghost use Rattle.hum_columns.specs.Chosen.{AreChosenByOrigin};
 
 /// Each column bears the mark of its origin (`Origins` of the crate `hum_path`): of the opening spine

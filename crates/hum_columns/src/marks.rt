@@ -1,6 +1,6 @@
 //! Which columns are chosen, along the spines.
 ghost use Rattle.std.specs.Prelude.{◌≡◌, false, slice_index_or, IfOk};
-ghost use Rattle.hum_path.specs.Spines.{source};
+ghost use Rattle.hum_score.specs.Spines.{source};
 ghost use Rattle.hum_columns.specs.Following.{moved};
 
 use hum_path::{Marks, Move, Moves};

@@ -1,7 +1,7 @@
 //! Joins of which some columns are chosen and others aren't.
 ghost use Rattle.std.specs.Prelude.{◌≡◌, ◌&&◌, false, length, map};
-ghost use Rattle.hum_record.specs.Row.{tokens_of, width_of};
-ghost use Rattle.hum_path.specs.Sign.{sign_of};
+ghost use Rattle.hum_score.specs.Row.{tokens_of, width_of};
+ghost use Rattle.hum_score.specs.Sign.{sign_of};
 ghost use Rattle.hum_columns.specs.Chosen.{differ, is_torn};
 
 use hum_path::token_sign;

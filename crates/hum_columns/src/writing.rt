@@ -1,8 +1,9 @@
 //! Records of pieces.
 ghost use Rattle.std.specs.Prelude.{◌≡◌, ◌≢◌, ◌≤◌, [], ◌++◌, false, drop, length, IfOk, OnOk};
 ghost use Rattle.std.specs.List.{AllByRecursion};
-ghost use Rattle.hum_record.specs.{Row.Spined, Spelling.IsToken, Building.spelled, Nulls.nulls};
-ghost use Rattle.hum_record.specs.declared.SpinedKind.TheVariants.{Interpretation};
+ghost use Rattle.hum_score.specs.{Row.Spined, Spelling.IsToken};
+ghost use Rattle.hum_record.specs.{Building.spelled, Nulls.nulls};
+ghost use Rattle.hum_score.specs.declared.records.SpinedKind.TheVariants.{Interpretation};
 ghost use Rattle.hum_columns.specs.Spread.{tokens_in, touches, joins_in, first_alone, join_done};
 ghost use Rattle.hum_columns.specs.Spread.{one_by_one, before_last, filled};
 ghost use Rattle.hum_columns.specs.Writing.{Fit, MayAdd, draft, behind, next_phase, shown};

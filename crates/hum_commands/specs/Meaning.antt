@@ -1,6 +1,6 @@
 -- What commands mean.
 use Rattle.std.specs.Prelude.{◌≡◌, ℕ, false}
-use Rattle.hum_stage.specs.declared.faults.Command.TheVariants as name
+use Rattle.hum_words.specs.declared.commands.Command.TheVariants as name
 use Rattle.hum_stage.specs.declared.TheConstants.{MOST_WAITING}
 use Rattle.hum_stage.specs.Meaning.{Meaning}
 use Rattle.hum_stage.specs.Decided.{at_once}

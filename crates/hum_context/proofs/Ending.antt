@@ -6,13 +6,13 @@ use Rattle.std.specs.Prelude.{nat_le, ◌==◌}
 use Rattle.std.specs.List.{list_any, find}
 use Rattle.std.proofs.lemmas.Bool.Decides.{nat_tests}
 use Rattle.std.proofs.lemmas.List.Folds.{list_any-append}
-use Rattle.hum_path.specs.declared.signs.Sign.{Sign}
-use Rattle.hum_path.specs.declared.signs.Sign.TheVariants.{Split, Join, Exchange, Add, End}
-use Rattle.hum_path.specs.declared.signs.Sign.TheVariants.{Exclusive, Plain}
-use Rattle.hum_path.specs.Sign.{sign_of, is_join, is_exchange}
-use Rattle.hum_path.specs.Spines.{Spines, joins_at_front, exchanges, partner, heirs}
-use Rattle.hum_path.specs.Spines.{heirs_from, moves_under}
-use Rattle.hum_path.specs.Rules.{breaks, in_order, is_pair_or_none}
+use Rattle.hum_score.specs.declared.spines.Sign.{Sign}
+use Rattle.hum_score.specs.declared.spines.Sign.TheVariants.{Split, Join, Exchange, Add, End}
+use Rattle.hum_score.specs.declared.spines.Sign.TheVariants.{Exclusive, Plain}
+use Rattle.hum_score.specs.Sign.{sign_of, is_join, is_exchange}
+use Rattle.hum_score.specs.Spines.{Spines, joins_at_front, exchanges, partner, heirs}
+use Rattle.hum_score.specs.Spines.{heirs_from, moves_under}
+use Rattle.hum_score.specs.Rules.{breaks, in_order, is_pair_or_none}
 use Rattle.hum_path.proofs.Obeyed.{obeys}
 use Rattle.hum_context.specs.Context.{is_last, is_last_sign}
 use Rattle.std.proofs.lemmas.List.{length-map}

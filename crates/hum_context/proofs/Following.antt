@@ -4,10 +4,10 @@ use Rattle.std.proofs.Common.{List, [], ◌∷◌, ◌++◌, length, drop, get_o
 use Rattle.std.proofs.Common.{arith, length-drop, Option, Some, None}
 use Rattle.std.specs.Prelude.{Result, nat_le, slice_get, ◌==◌}
 use Rattle.std.proofs.lemmas.Bool.Decides.{nat_tests}
-use Rattle.hum_record.specs.declared.SpinedKind.TheVariants.{Values}
-use Rattle.hum_record.specs.Row.{Row, Spined, kind_of, tokens_of}
-use Rattle.hum_path.specs.Spines.{Path, Unopened, after, moves}
-use Rattle.hum_path.specs.Score.{path_after, passed}
+use Rattle.hum_score.specs.declared.records.SpinedKind.TheVariants.{Values}
+use Rattle.hum_score.specs.Row.{Row, Spined, kind_of, tokens_of}
+use Rattle.hum_score.specs.Spines.{Path, Unopened, after, moves}
+use Rattle.hum_score.specs.Score.{path_after, passed}
 use Rattle.hum_stage.specs.declared.faults.Rule.{Rule}
 use Rattle.hum_stage.specs.Look.{Look}
 use Rattle.hum_stage.specs.Order.{passed-push}
@@ -19,7 +19,7 @@ use Rattle.hum_context.specs.declared.walk.Walk.{Walk}
 use Rattle.hum_context.specs.Options.{extent_of, choice_of}
 use Rattle.hum_context.specs.Context.{Choice, taken, context, all_some, data_of, new_tokens}
 use Rattle.hum_stage.specs.Limits.{if_fits}
-use Rattle.hum_stage.specs.Score.{through}
+use Rattle.hum_score.specs.InOrder.{through}
 use Rattle.hum_context.specs.Memory.{Follows, follows_each}
 use Rattle.hum_context.specs.Queue.{FirstIsData, Known, Knows}
 use Rattle.hum_context.specs.Walking.{AllStand, Stands}

@@ -5,14 +5,14 @@ use Rattle.std.proofs.Common.{length, get_or, append_assoc, append-nil, length-a
 use Rattle.std.specs.Prelude.{nat_lt}
 use Rattle.std.specs.List.{join_with_byte}
 use Rattle.std.proofs.lemmas.Bool.Decides.{nat_tests}
-use Rattle.hum_record.specs.Row.{Row, token_at}
-use Rattle.hum_path.specs.Spines.{Path}
+use Rattle.hum_score.specs.Row.{Row, token_at}
+use Rattle.hum_score.specs.Spines.{Path}
 use Rattle.hum_context.specs.declared.heard.Heard.{Heard}
 use Rattle.hum_context.specs.declared.heard.Heard.TheVariants.{Passed, Taken}
 use Rattle.hum_context.specs.declared.queued.Queued.{Queued}
 use Rattle.hum_context.specs.Context.{Choice, Extent, chain, is_collectable, taken}
 use Rattle.hum_context.specs.Columns.{column_after}
-use Rattle.hum_stage.specs.Score.{through}
+use Rattle.hum_score.specs.InOrder.{through}
 use Rattle.hum_context.specs.Heard.{ends, enough_by, heard_under, wanted_of}
 use Rattle.hum_context.specs.Memory.{knows_each}
 use Rattle.hum_context.specs.Queue.{Knows, column_in, heard_token}

@@ -9,16 +9,16 @@ use Rattle.std.specs.List.{list_any, join_with_byte}
 use Rattle.std.proofs.lemmas.Bool.{cases_Bool}
 use Rattle.std.proofs.lemmas.Bool.Decides.{nat_tests}
 use Rattle.std.proofs.lemmas.List.{take-append-le, take_all}
-use Rattle.hum_record.specs.declared.SpinedKind.{SpinedKind}
-use Rattle.hum_record.specs.declared.SpinedKind.TheVariants.{Local, Interpretation, Values}
-use Rattle.hum_record.specs.Row.{Row, Comment, Spined}
-use Rattle.hum_path.specs.Spines.{Path, after}
-use Rattle.hum_path.specs.Score.{path_after, passed}
+use Rattle.hum_score.specs.declared.records.SpinedKind.{SpinedKind}
+use Rattle.hum_score.specs.declared.records.SpinedKind.TheVariants.{Local, Interpretation, Values}
+use Rattle.hum_score.specs.Row.{Row, Comment, Spined}
+use Rattle.hum_score.specs.Spines.{Path, after}
+use Rattle.hum_score.specs.Score.{path_after, passed}
 use Rattle.hum_path.specs.Chains.{below_at, future}
 use Rattle.hum_context.specs.Context.{Choice, Extent, First, Between, is_data, is_collectable}
 use Rattle.hum_context.specs.Context.{is_last, taken, through, to_last, chain}
 use Rattle.hum_context.specs.Columns.{place_after, column_below, column_after, under}
-use Rattle.hum_stage.specs.Score.{through as path_through}
+use Rattle.hum_score.specs.InOrder.{through as path_through}
 use Rattle.hum_context.specs.Walking.{add_token}
 
 -- the spines behind those that wait

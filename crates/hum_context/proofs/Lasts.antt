@@ -2,9 +2,9 @@
 use Rattle.std.proofs.Common.{◌≡◌, ◌∙◌, refl, sym, ap, ℕ, ◌+◌, ◌<◌, Bool, true, false}
 use Rattle.std.proofs.Common.{List, [], ◌∷◌, ◌++◌, length, drop, length-append, append_assoc, arith, cond}
 use Rattle.std.specs.Prelude.{Ok, Err}
-use Rattle.hum_record.specs.declared.SpinedKind.TheVariants.{Values}
-use Rattle.hum_record.specs.Row.{Row, Spined, tokens_of}
-use Rattle.hum_path.specs.Score.{path_after, passed}
+use Rattle.hum_score.specs.declared.records.SpinedKind.TheVariants.{Values}
+use Rattle.hum_score.specs.Row.{Row, Spined, tokens_of}
+use Rattle.hum_score.specs.Score.{path_after, passed}
 use Rattle.hum_stage.specs.declared.faults.Rule.TheVariants.{L1}
 use Rattle.hum_stage.specs.Order.{passed-push}
 use Rattle.hum_stage.specs.Settles.{lasting, or_stop}
@@ -12,7 +12,7 @@ use Rattle.hum_context.specs.declared.becoming.Weight.{Weight}
 use Rattle.hum_context.specs.declared.becoming.Weight.TheVariants.{Undecided, Long, Fits}
 use Rattle.hum_context.specs.declared.queued.Queued.{Queued}
 use Rattle.hum_context.specs.Context.{Choice, context, all_some, new_tokens}
-use Rattle.hum_stage.specs.Score.{through}
+use Rattle.hum_score.specs.InOrder.{through}
 use Rattle.hum_context.specs.Memory.{knows_each}
 use Rattle.hum_context.specs.Queue.{Knows}
 use Rattle.hum_context.specs.Walking.{Weighs}

@@ -7,10 +7,10 @@ use Rattle.std.specs.List.{list_any, join_with_byte}
 use Rattle.std.proofs.lemmas.List.Elements.{filter-append}
 use Rattle.std.proofs.lemmas.List.Folds.{list_any-append}
 use lib.Chars.{codes}
-use Rattle.hum_record.specs.declared.SpinedKind.TheVariants.{Local, Interpretation, Values}
-use Rattle.hum_record.specs.declared.Kind.TheVariants.{Values as AnyValues}
-use Rattle.hum_record.specs.Row.{Row, Comment, Spined, kind_of, token_at}
-use Rattle.hum_path.specs.Spines.{Path, after}
+use Rattle.hum_score.specs.declared.records.SpinedKind.TheVariants.{Local, Interpretation, Values}
+use Rattle.hum_score.specs.declared.records.Kind.TheVariants.{Values as AnyValues}
+use Rattle.hum_score.specs.Row.{Row, Comment, Spined, kind_of, token_at}
+use Rattle.hum_score.specs.Spines.{Path, after}
 use Rattle.hum_path.specs.Chains.{below_at, future}
 use Rattle.hum_context.specs.declared.heard.Heard.{Heard}
 use Rattle.hum_context.specs.declared.heard.Heard.TheVariants.{Passed, Taken}
@@ -19,7 +19,7 @@ use Rattle.hum_context.specs.declared.walk.Walk.{Walk}
 use Rattle.hum_context.specs.Context.{Choice, Extent, First, Between, is_collectable, is_last, taken}
 use Rattle.hum_context.specs.Context.{to_last, chain, begins, token_or_null, new_token}
 use Rattle.hum_context.specs.Columns.{place_after, column_below, column_after, under}
-use Rattle.hum_stage.specs.Score.{through}
+use Rattle.hum_score.specs.InOrder.{through}
 use Rattle.hum_context.specs.Heard.{heard_of, heard_under, ends, enough_by, wanted_of}
 use Rattle.hum_context.specs.Queue.{Known, column_in, is_last_in, heard_token}
 use Rattle.hum_context.specs.Walking.{Becomes, Has, Halts, Stands, collected, bytes_of}

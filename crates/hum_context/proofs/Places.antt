@@ -7,9 +7,9 @@ use Rattle.std.specs.List.{position, position_from}
 use Rattle.std.proofs.lemmas.Bool.{cases_lt, eqb-false, eqb-true, le-leb, le-ltb, leb-true, lt-ltb}
 use Rattle.std.proofs.lemmas.Bool.Decides.{nat_tests}
 use Rattle.std.proofs.lemmas.Iterator.Adapters.{position_from-zero}
-use Rattle.hum_record.specs.declared.SpinedKind.TheVariants.{Local, Interpretation, Values}
-use Rattle.hum_record.specs.Row.{Row, Comment, Spined}
-use Rattle.hum_path.specs.Spines.{Path, after, moves, same_upto, width}
+use Rattle.hum_score.specs.declared.records.SpinedKind.TheVariants.{Local, Interpretation, Values}
+use Rattle.hum_score.specs.Row.{Row, Comment, Spined}
+use Rattle.hum_score.specs.Spines.{Path, after, moves, same_upto, width}
 use Rattle.hum_path.proofs.Steady.{same_upto_length}
 use Rattle.hum_path.proofs.Widths.{moves_width}
 use Rattle.hum_path.specs.Chains.{goes_on}

@@ -4,18 +4,18 @@ use Rattle.std.proofs.Common.{true, false, ◌||◌, List, [], ◌∷◌, ◌++�
 use Rattle.std.proofs.Common.{append_assoc, length-append, arith, cond, Option, Some, None, inl, inr}
 use Rattle.std.specs.List.{position}
 use Rattle.std.proofs.lemmas.List.{length-drop}
-use Rattle.hum_record.specs.declared.Kind.TheVariants.{Interpretation as AnyInterpretation}
-use Rattle.hum_record.specs.declared.SpinedKind.TheVariants.{Local, Interpretation, Values}
-use Rattle.hum_record.specs.Row.{Row, Comment, Spined, kind_of, text_of}
-use Rattle.hum_record.specs.Spelling.{IsTextOf}
-use Rattle.hum_path.specs.declared.moved.Move.{Move}
-use Rattle.hum_path.specs.Spines.{Path, after, moves}
+use Rattle.hum_score.specs.declared.records.Kind.TheVariants.{Interpretation as AnyInterpretation}
+use Rattle.hum_score.specs.declared.records.SpinedKind.TheVariants.{Local, Interpretation, Values}
+use Rattle.hum_score.specs.Row.{Row, Comment, Spined, kind_of, text_of}
+use Rattle.hum_score.specs.Spelling.{IsTextOf}
+use Rattle.hum_score.specs.declared.spines.Move.{Move}
+use Rattle.hum_score.specs.Spines.{Path, after, moves}
 use Rattle.hum_path.specs.Chains.{goes_on}
 use Rattle.hum_context.specs.declared.heard.Heard.TheVariants.{Passed, Taken}
 use Rattle.hum_context.specs.declared.queued.Queued.{Queued}
 use Rattle.hum_context.specs.declared.walk.Walk.{Walk}
 use Rattle.hum_context.specs.Context.{Choice, is_collectable, is_last, begins}
-use Rattle.hum_stage.specs.Score.{through}
+use Rattle.hum_score.specs.InOrder.{through}
 use Rattle.hum_context.specs.Heard.{heard_under, ends}
 use Rattle.hum_context.specs.Memory.{knows_each}
 use Rattle.hum_context.specs.Queue.{Known, Knows, column_in, is_last_in, place_in, heard_token}

@@ -10,8 +10,8 @@ use Rattle.std.proofs.lemmas.Bool.Decides.{nat_tests}
 use Rattle.std.proofs.lemmas.List.{length-take-le}
 use Rattle.std.proofs.lemmas.List.Elements.{filter-append}
 use Rattle.std.proofs.lemmas.List.Folds.{list_any-append}
-use Rattle.hum_record.specs.Row.{Row, token_at}
-use Rattle.hum_path.specs.Spines.{Path, after}
+use Rattle.hum_score.specs.Row.{Row, token_at}
+use Rattle.hum_score.specs.Spines.{Path, after}
 use Rattle.hum_context.specs.declared.heard.Heard.{Heard}
 use Rattle.hum_context.specs.declared.heard.Heard.TheVariants.{Passed, Taken}
 use Rattle.hum_context.specs.declared.queued.Queued.{Queued}

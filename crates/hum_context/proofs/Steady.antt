@@ -5,10 +5,10 @@ use Rattle.std.specs.Prelude.{nat_le, Result, Ok, Err}
 use Rattle.std.specs.List.{list_any}
 use Rattle.std.proofs.lemmas.List.Elements.{filter-append}
 use lib.Chars.{codes}
-use Rattle.hum_record.specs.declared.SpinedKind.TheVariants.{Local, Interpretation, Values}
-use Rattle.hum_record.specs.Row.{Row, Comment, Spined, text_of}
-use Rattle.hum_path.specs.Spines.{Path}
-use Rattle.hum_path.specs.Score.{IsClosed, path_after, passed}
+use Rattle.hum_score.specs.declared.records.SpinedKind.TheVariants.{Local, Interpretation, Values}
+use Rattle.hum_score.specs.Row.{Row, Comment, Spined, text_of}
+use Rattle.hum_score.specs.Spines.{Path}
+use Rattle.hum_score.specs.Score.{IsClosed, path_after, passed}
 use Rattle.hum_stage.specs.declared.faults.Rule.{Rule}
 use Rattle.hum_stage.specs.declared.faults.Rule.TheVariants.{L1}
 use Rattle.hum_stage.specs.Look.{IsSteady}

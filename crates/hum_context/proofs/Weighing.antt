@@ -9,11 +9,11 @@ use Rattle.std.proofs.lemmas.Bool.Decides.{nat_tests}
 use Rattle.std.proofs.lemmas.List.{drop_all}
 use lib.Chars.{codes}
 use Rattle.hum_record.specs.Building.{spelled}
-use Rattle.hum_record.specs.declared.Kind.TheVariants.{Values as AnyValues}
-use Rattle.hum_record.specs.declared.SpinedKind.TheVariants.{Local, Interpretation, Values}
-use Rattle.hum_record.specs.Row.{Row, Comment, Spined, kind_of, text_of, tokens_of}
-use Rattle.hum_path.specs.Spines.{Path}
-use Rattle.hum_path.specs.Score.{path_after}
+use Rattle.hum_score.specs.declared.records.Kind.TheVariants.{Values as AnyValues}
+use Rattle.hum_score.specs.declared.records.SpinedKind.TheVariants.{Local, Interpretation, Values}
+use Rattle.hum_score.specs.Row.{Row, Comment, Spined, kind_of, text_of, tokens_of}
+use Rattle.hum_score.specs.Spines.{Path}
+use Rattle.hum_score.specs.Score.{path_after}
 use Rattle.hum_stage.specs.declared.faults.Rule.TheVariants.{L1}
 use Rattle.hum_context.specs.declared.becoming.Becoming.{Becoming}
 use Rattle.hum_context.specs.declared.becoming.Becoming.TheVariants.{Stays, Null, Collects}

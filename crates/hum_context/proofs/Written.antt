@@ -3,11 +3,11 @@ use Rattle.std.proofs.Common.{◌≡◌, ◌≢◌, ◌∙◌, refl, ℕ, ◌+�
 use Rattle.std.proofs.Common.{length, length-append, get_or, arith, inl, inr, ◌⊎◌, subst, ap, sym, Some}
 use Rattle.hum_record.specs.Building.{Draft, spelled}
 use Rattle.hum_record.specs.RecordDraft.{Holds}
-use Rattle.hum_record.specs.declared.SpinedKind.TheVariants.{Local, Interpretation, Values}
-use Rattle.hum_record.specs.declared.Kind.TheVariants.{Values as AnyValues}
-use Rattle.hum_record.specs.Row.{Row, Comment, Spined, kind_of, text_of, token_at, width_of}
-use Rattle.hum_record.specs.Spelling.{IsTextOf, IsToken, IsTokenOf}
-use Rattle.hum_path.specs.Spines.{Path}
+use Rattle.hum_score.specs.declared.records.SpinedKind.TheVariants.{Local, Interpretation, Values}
+use Rattle.hum_score.specs.declared.records.Kind.TheVariants.{Values as AnyValues}
+use Rattle.hum_score.specs.Row.{Row, Comment, Spined, kind_of, text_of, token_at, width_of}
+use Rattle.hum_score.specs.Spelling.{IsTextOf, IsToken, IsTokenOf}
+use Rattle.hum_score.specs.Spines.{Path}
 use Rattle.hum_context.specs.declared.queued.Queued.{Queued}
 use Rattle.hum_context.specs.declared.becoming.Becoming.TheVariants.{Stays}
 use Rattle.hum_context.specs.Context.{Choice, chain}

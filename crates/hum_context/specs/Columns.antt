@@ -2,10 +2,10 @@
 use Rattle.std.specs.Prelude.{ℕ, List, [], ◌∷◌, slice_index_or, if◌then◌else◌, Option, Some, None}
 use Rattle.std.specs.Option.{option_and_then}
 use Rattle.std.specs.List.{position}
-use Rattle.hum_record.specs.declared.SpinedKind.{SpinedKind}
-use Rattle.hum_record.specs.declared.SpinedKind.TheVariants.{Interpretation}
-use Rattle.hum_record.specs.Row.{Row, Comment, Spined}
-use Rattle.hum_path.specs.Spines.{Path, moves_at, after}
+use Rattle.hum_score.specs.declared.records.SpinedKind.{SpinedKind}
+use Rattle.hum_score.specs.declared.records.SpinedKind.TheVariants.{Interpretation}
+use Rattle.hum_score.specs.Row.{Row, Comment, Spined}
+use Rattle.hum_score.specs.Spines.{Path, moves_at, after}
 use Rattle.hum_path.specs.Chains.{goes_on}
 use Rattle.hum_context.specs.Context.{is_last}
 

@@ -1,8 +1,8 @@
 -- What is heard of the tokens of a data record.
 use Rattle.std.specs.Prelude.{ℕ, Bool, true, false, List, if◌then◌else◌, slice_index_or, nat_le}
 use Rattle.std.specs.Prelude.{[], Option, Some, None}
-use Rattle.hum_record.specs.declared.SpinedKind.TheVariants.{Values}
-use Rattle.hum_record.specs.Row.{Row, Spined}
+use Rattle.hum_score.specs.declared.records.SpinedKind.TheVariants.{Values}
+use Rattle.hum_score.specs.Row.{Row, Spined}
 use Rattle.hum_context.specs.declared.heard.Heard.{Heard}
 use Rattle.hum_context.specs.declared.heard.Heard.TheVariants.{Passed, Taken}
 use Rattle.hum_context.specs.Context.{Choice, Extent, First, Between, is_collectable, begins}

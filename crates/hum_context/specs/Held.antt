@@ -1,7 +1,7 @@
 -- What is held of a record that waits.
-use Rattle.hum_record.specs.Row.{Row, text_of}
+use Rattle.hum_score.specs.Row.{Row, text_of}
 use Rattle.hum_record.specs.Nulls.{null_row}
-use Rattle.hum_record.specs.Spelling.{IsTextOf}
+use Rattle.hum_score.specs.Spelling.{IsTextOf}
 use Rattle.hum_context.specs.declared.held.HeldForm.{HeldForm}
 use Rattle.hum_context.specs.declared.held.HeldForm.TheVariants.{Whole, Nulls}
 

@@ -1,9 +1,9 @@
 -- What context remembers.
 use Rattle.std.specs.Prelude.{◌≡◌, ℕ, ◌+◌, ◌≤◌, List, [], ◌∷◌, length, None}
 use Rattle.std.proofs.Common.{ap, suc, refl}
-use Rattle.hum_record.specs.Row.{Row}
-use Rattle.hum_path.specs.Spines.{Path, after}
-use Rattle.hum_path.specs.Score.{path_after, passed}
+use Rattle.hum_score.specs.Row.{Row}
+use Rattle.hum_score.specs.Spines.{Path, after}
+use Rattle.hum_score.specs.Score.{path_after, passed}
 use Rattle.hum_stage.specs.Look.{Look}
 use Rattle.hum_context.specs.declared.queued.Queued.{Queued}
 use Rattle.hum_context.specs.declared.walk.Walk.{Walk}

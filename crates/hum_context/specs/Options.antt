@@ -1,7 +1,7 @@
 -- The command, by its options.
 use Rattle.std.specs.Prelude.{ℕ, Bool, List, Option}
 use Rattle.hum_pattern.specs.Meaning.{matched, matched_by}
-use Rattle.hum_stage.specs.declared.faults.Command.TheVariants.{Context}
+use Rattle.hum_words.specs.declared.commands.Command.TheVariants.{Context}
 use Rattle.hum_stage.specs.Meaning.{Meaning}
 use Rattle.hum_stage.specs.Look.{looking}
 use Rattle.hum_choices.specs.declared.context.Span.{Span}

@@ -3,10 +3,10 @@ use Rattle.std.specs.Prelude.{◌≡◌, ◌<◌, ◌≤◌, ℕ, Bool, false, L
 use Rattle.std.specs.Prelude.{◌∷◌, filter, length, nat_lt}
 use Rattle.std.specs.Prelude.{if◌then◌else◌, slice_index_or, Option, Some, None}
 use Rattle.std.specs.List.{list_any, position}
-use Rattle.hum_record.specs.declared.Kind.TheVariants.{Values as AnyValues, Interpretation as AnyInterpretation}
-use Rattle.hum_record.specs.declared.SpinedKind.TheVariants.{Interpretation}
-use Rattle.hum_record.specs.Row.{Row, Spined, kind_of, text_of, token_at, width_of}
-use Rattle.hum_path.specs.Spines.{Path, after, moves}
+use Rattle.hum_score.specs.declared.records.Kind.TheVariants.{Values as AnyValues, Interpretation as AnyInterpretation}
+use Rattle.hum_score.specs.declared.records.SpinedKind.TheVariants.{Interpretation}
+use Rattle.hum_score.specs.Row.{Row, Spined, kind_of, text_of, token_at, width_of}
+use Rattle.hum_score.specs.Spines.{Path, after, moves}
 use Rattle.hum_path.specs.Chains.{goes_on}
 use Rattle.hum_context.specs.declared.below.Below.{Below}
 use Rattle.hum_context.specs.declared.below.Below.TheVariants.{Same, Listed}

@@ -2,10 +2,10 @@
 ghost use Rattle.std.specs.Prelude.{◌≡◌, ◌<◌, ◌≤◌, ◌+◌, ◌^◌, ◌∷◌, ℕ, List, [], length};
 ghost use Rattle.std.specs.Prelude.{drop, false, true};
 ghost use Rattle.std.specs.Prelude.{Some, None, IfOk, OnOk};
-ghost use Rattle.hum_record.specs.declared.SpinedKind.TheVariants.{Values};
-ghost use Rattle.hum_record.specs.Row.{Row, Spined, token_at};
+ghost use Rattle.hum_score.specs.declared.records.SpinedKind.TheVariants.{Values};
+ghost use Rattle.hum_score.specs.Row.{Row, Spined, token_at};
 ghost use Rattle.hum_record.specs.RecordDraft.{Holds, IsMade};
-ghost use Rattle.hum_path.specs.Spines.{Path};
+ghost use Rattle.hum_score.specs.Spines.{Path};
 ghost use Rattle.hum_context.specs.Context.{Choice, all_some, begins, chain, is_collectable, taken};
 ghost use Rattle.hum_context.specs.Context.{new_tokens};
 ghost use Rattle.hum_context.specs.Heard.{wanted_of};

@@ -2,8 +2,8 @@
 ghost use Rattle.std.specs.Prelude.{◌≡◌, ◌≢◌, ◌≤◌, ℕ, [], length, map, false, true, OnOk, IfOk};
 ghost use Rattle.std.specs.Prelude.{slice_index_or};
 ghost use Rattle.std.specs.List.{list_any};
-ghost use Rattle.hum_record.specs.declared.Kind.TheVariants.{Values as AnyValues};
-ghost use Rattle.hum_record.specs.Row.{kind_of, tokens_of, width_of};
+ghost use Rattle.hum_score.specs.declared.records.Kind.TheVariants.{Values as AnyValues};
+ghost use Rattle.hum_score.specs.Row.{kind_of, tokens_of, width_of};
 ghost use Rattle.hum_context.specs.Context.{is_data, begins};
 ghost use Rattle.hum_context.specs.Options.{choice_of, extent_of};
 ghost use Rattle.hum_context.specs.Heard.{heard_of, heard_under, is_taken, ends, wanted_of};

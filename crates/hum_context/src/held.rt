@@ -1,10 +1,10 @@
 //! A record that waits, or what it takes to make it again.
 ghost use Rattle.std.specs.Prelude.{◌≡◌, ◌<◌, ◌≤◌, true, length, Some, IfOk};
 ghost use Rattle.std.specs.List.{list_all};
-ghost use Rattle.hum_record.specs.declared.SpinedKind.TheVariants.{Values};
+ghost use Rattle.hum_score.specs.declared.records.SpinedKind.TheVariants.{Values};
 ghost use Rattle.hum_record.specs.{Contents.is_null, Nulls.null_row};
-ghost use Rattle.hum_record.specs.Row.{Row, kind_of, row_of, text_of, token_at, tokens_of, width_of};
-ghost use Rattle.hum_record.specs.Spelling.{IsTextOf, IsTokenOf};
+ghost use Rattle.hum_score.specs.Row.{Row, kind_of, row_of, text_of, token_at, tokens_of, width_of};
+ghost use Rattle.hum_score.specs.Spelling.{IsTextOf, IsTokenOf};
 
 use hum_record::{Kind, MOST_BYTES, Record, is_null, null_record};
 use std::alloc::{AllocError, Global};
@@ -34,7 +34,7 @@ impl Drop for HeldRecord {
 }
 
 impl Model for HeldRecord {
-    ghost use Rattle.hum_record.specs.Row.{Row};
+    ghost use Rattle.hum_score.specs.Row.{Row};
     ghost use Rattle.hum_context.specs.Held.{held_row, MayHold};
 
     ghost Value = { Row };

@@ -1,8 +1,8 @@
 //! How many of the records that wait stand before one that is known to be too long.
 ghost use Rattle.std.specs.Prelude.{◌≡◌, ◌<◌, ◌≤◌, ◌+◌, ◌∷◌, ℕ, List, [], length, drop, None, if◌then◌else◌};
-ghost use Rattle.hum_path.specs.Score.{path_after};
+ghost use Rattle.hum_score.specs.Score.{path_after};
 ghost use Rattle.hum_stage.specs.Settles.{lasting, or_stop};
-ghost use Rattle.hum_record.specs.Row.{Row};
+ghost use Rattle.hum_score.specs.Row.{Row};
 ghost use Rattle.hum_context.specs.Context.{Choice, context, taken};
 ghost use Rattle.hum_context.specs.Heard.{wanted_of};
 ghost use Rattle.hum_context.specs.Queue.{Knows};

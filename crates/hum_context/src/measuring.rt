@@ -1,7 +1,7 @@
 //! How much text is collected.
 ghost use Rattle.std.specs.Prelude.{◌≡◌, ◌<◌, ◌≤◌, ◌^◌, ℕ, List, [], length, drop, Some, None};
-ghost use Rattle.hum_record.specs.Row.{Row};
-ghost use Rattle.hum_path.specs.Spines.{Path};
+ghost use Rattle.hum_score.specs.Row.{Row};
+ghost use Rattle.hum_score.specs.Spines.{Path};
 ghost use Rattle.hum_context.specs.{Context.Choice, Context.taken, Heard.wanted_of, Queue.Knows};
 ghost use Rattle.hum_context.specs.{Walking.bytes_of, Walking.collected};
 

@@ -2,9 +2,9 @@
 ghost use Rattle.std.specs.Prelude.{◌≡◌, ◌+◌, ◌<◌, ◌≤◌, [], ◌∷◌, List, drop, slice_get, Some, None};
 ghost use Rattle.std.specs.Prelude.{IfOk, OnOk};
 ghost use Rattle.std.specs.VecDeque.{deque_len};
-ghost use Rattle.hum_record.specs.Row.{Row};
-ghost use Rattle.hum_path.specs.Spines.{Path, Unopened, after, width};
-ghost use Rattle.hum_path.specs.Rules.{fault_of};
+ghost use Rattle.hum_score.specs.Row.{Row};
+ghost use Rattle.hum_score.specs.Spines.{Path, Unopened, after, width};
+ghost use Rattle.hum_score.specs.Rules.{fault_of};
 ghost use Rattle.hum_context.specs.{Options.choice_of, Walking.AllStand};
 ghost use Rattle.hum_context.specs.Queue.{Known, Knows, LeadsBelow};
 ghost use Rattle.hum_context.specs.declared.queued.Queued.{Queued};
@@ -71,7 +71,7 @@ impl LooksAhead for Collecting {
 
     type Held = Queued;
 
-    ghost use Rattle.hum_stage.specs.declared.faults.Command.TheVariants.{Context};
+    ghost use Rattle.hum_words.specs.declared.commands.Command.TheVariants.{Context};
     ghost use Rattle.hum_context.specs.{Context.context, Options.choice_of};
 
     ghost command = { Context };

@@ -1,7 +1,7 @@
 //! A record that waits.
 ghost use Rattle.std.specs.Prelude.{◌≡◌, ◌≢◌, ◌≤◌, [], length};
-ghost use Rattle.hum_record.specs.declared.Kind.TheVariants.{Values as AnyValues};
-ghost use Rattle.hum_record.specs.Row.{kind_of, width_of};
+ghost use Rattle.hum_score.specs.declared.records.Kind.TheVariants.{Values as AnyValues};
+ghost use Rattle.hum_score.specs.Row.{kind_of, width_of};
 
 use crate::below::Below;
 use crate::heard::Heard;

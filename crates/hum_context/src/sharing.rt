@@ -1,7 +1,7 @@
 //! Walks from the cells below, once a record is gone.
 ghost use Rattle.std.specs.Prelude.{◌≡◌, ◌⊎◌, ◌<◌, ◌+◌, ◌-◌, ℕ, List, [], ◌∷◌, Some, OnOk};
-ghost use Rattle.hum_record.specs.Row.{Row};
-ghost use Rattle.hum_path.specs.Spines.{Path, after};
+ghost use Rattle.hum_score.specs.Row.{Row};
+ghost use Rattle.hum_score.specs.Spines.{Path, after};
 ghost use Rattle.hum_context.specs.{Columns.column_below, Context.Choice, Heard.wanted_of};
 ghost use Rattle.hum_context.specs.{Queue.Known, Queue.column_in};
 ghost use Rattle.hum_context.specs.Walking.{AllStand, Has, Shortens, Stands};

@@ -1,13 +1,13 @@
 //! Walks down a spine, through the records that wait.
 ghost use Rattle.std.specs.Prelude.{◌≡◌, ◌≢◌, ◌+◌, ◌≤◌, ◌<◌, ℕ, List, [], ◌∷◌, ◌++◌, length, drop};
 ghost use Rattle.std.specs.Prelude.{false, Some, None, slice_index_or};
-ghost use Rattle.hum_record.specs.Row.{Row};
-ghost use Rattle.hum_path.specs.Spines.{Path};
+ghost use Rattle.hum_score.specs.Row.{Row};
+ghost use Rattle.hum_score.specs.Spines.{Path};
 ghost use Rattle.hum_context.specs.{Context.Choice, Heard.wanted_of, Heard.enough_by};
 ghost use Rattle.hum_context.specs.Queue.{Known, Knows, column_in, is_last_in};
 ghost use Rattle.hum_context.specs.Walking.{Has, Stands, Halts};
 ghost use Rattle.hum_context.specs.declared.heard.Heard.TheVariants.{Passed};
-ghost use Rattle.hum_stage.specs.Score.{through};
+ghost use Rattle.hum_score.specs.InOrder.{through};
 
 use crate::heard::Heard;
 use crate::queued::Queued;

@@ -1,7 +1,7 @@
 //! The text of a new token, as far as it is collected.
 ghost use Rattle.std.specs.Prelude.{◌≡◌, ◌≢◌, [], OnOk, length, nat_lt};
-ghost use Rattle.hum_record.specs.Spelling.{IsToken};
-ghost use Rattle.hum_record.specs.declared.SpinedKind.TheVariants.{Values};
+ghost use Rattle.hum_score.specs.Spelling.{IsToken};
+ghost use Rattle.hum_score.specs.declared.records.SpinedKind.TheVariants.{Values};
 ghost use Rattle.hum_context.specs.Walking.{add_token};
 
 use hum_record::{GrowingText, MOST_BYTES};
@@ -16,8 +16,8 @@ pub(crate) struct Text {
 
 impl Model for Text {
     ghost use Rattle.std.specs.Prelude.{◌≢◌, [], ℕ, List};
-    ghost use Rattle.hum_record.specs.Spelling.{IsToken};
-    ghost use Rattle.hum_record.specs.declared.SpinedKind.TheVariants.{Values};
+    ghost use Rattle.hum_score.specs.Spelling.{IsToken};
+    ghost use Rattle.hum_score.specs.declared.records.SpinedKind.TheVariants.{Values};
 
     ghost Value = { List ℕ };
 

@@ -1,10 +1,10 @@
 //! What is asked of a record that waits.
 ghost use Rattle.std.specs.Prelude.{◌≡◌, ◌≢◌, ◌==◌, ◌+◌, ◌≤◌, ℕ, [], true, length, Some, IfOk};
 ghost use Rattle.std.specs.Prelude.{slice_index_or};
-ghost use Rattle.hum_record.specs.declared.SpinedKind.TheVariants.{Values};
-ghost use Rattle.hum_record.specs.declared.Kind.TheVariants.{Interpretation as AnyInterpretation};
-ghost use Rattle.hum_record.specs.{Row.kind_of, Row.token_at, Row.tokens_of, Spelling.IsToken};
-ghost use Rattle.hum_path.specs.Spines.{Path};
+ghost use Rattle.hum_score.specs.declared.records.SpinedKind.TheVariants.{Values};
+ghost use Rattle.hum_score.specs.declared.records.Kind.TheVariants.{Interpretation as AnyInterpretation};
+ghost use Rattle.hum_score.specs.{Row.kind_of, Row.token_at, Row.tokens_of, Spelling.IsToken};
+ghost use Rattle.hum_score.specs.Spines.{Path};
 ghost use Rattle.hum_context.specs.{Context.is_last, Options.choice_of};
 ghost use Rattle.hum_context.specs.Queue.{IsStill, Known, LeadsBelow, column_in, is_last_in};
 ghost use Rattle.hum_context.specs.declared.heard.Heard.TheVariants.{Passed};

@@ -5,13 +5,13 @@ use Rattle.std.specs.List.{AllByRecursion}
 use Rattle.std.proofs.lemmas.Bool.{cases_Bool}
 use Rattle.std.proofs.lemmas.Slice.Eq.{bytes_eq-Decides}
 use lib.Chars.{codes}
-use Rattle.hum_record.specs.declared.Kind.TheVariants.{Values as AnyValues}
-use Rattle.hum_record.specs.declared.SpinedKind.TheVariants.{Local, Interpretation, Values}
+use Rattle.hum_score.specs.declared.records.Kind.TheVariants.{Values as AnyValues}
+use Rattle.hum_score.specs.declared.records.SpinedKind.TheVariants.{Local, Interpretation, Values}
 use Rattle.hum_record.specs.Building.{spelled}
 use Rattle.hum_record.specs.Contents.{filled_from, is_null}
 use Rattle.hum_record.specs.RecordDraft.{IsMade}
-use Rattle.hum_record.specs.Row.{Row, Comment, Spined, kind_of, tokens_of, text_of}
-use Rattle.hum_record.specs.Spelling.{IsToken, IsTextOf}
+use Rattle.hum_score.specs.Row.{Row, Comment, Spined, kind_of, tokens_of, text_of}
+use Rattle.hum_score.specs.Spelling.{IsToken, IsTextOf}
 use Rattle.hum_ditto.specs.Ditto.{filled, all_filled}
 use Rattle.hum_ditto.specs.Held.{seen_alone}
 use Rattle.hum_ditto.proofs.Whole.{null_seen, filled_seen}

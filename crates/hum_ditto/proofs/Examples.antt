@@ -1,8 +1,8 @@
 -- Small scores, by the definitions: on the left what is put, on the right what is given.
 use Rattle.std.proofs.Common.{◌≡◌, ℕ, true, false, List, [], ◌∷◌, refl, None, Some}
 use lib.Chars.{codes}
-use Rattle.hum_record.specs.declared.SpinedKind.TheVariants.{Local, Interpretation, Values}
-use Rattle.hum_record.specs.Row.{Row, Comment, Spined}
+use Rattle.hum_score.specs.declared.records.SpinedKind.TheVariants.{Local, Interpretation, Values}
+use Rattle.hum_score.specs.Row.{Row, Comment, Spined}
 use Rattle.hum_pattern.proofs.OnLiterals.{patterns_on_literals}
 use Rattle.hum_stage.specs.Outcome.{settled}
 use Rattle.hum_stage.specs.Decided.{decisions}

@@ -3,16 +3,16 @@ use Rattle.std.proofs.Common.{◌≡◌, ◌∙◌, refl, sym, ap, ℕ, Bool, tr
 use Rattle.std.specs.Prelude.{Result, Ok, Err, OnOk, OnErr, IfSome}
 use Rattle.std.specs.List.{list_any}
 use Rattle.std.proofs.lemmas.List.{length-map}
-use Rattle.hum_record.specs.declared.Kind.TheVariants.{Interpretation as AnyInterpretation, Values as AnyValues}
-use Rattle.hum_record.specs.declared.SpinedKind.TheVariants.{Values}
+use Rattle.hum_score.specs.declared.records.Kind.TheVariants.{Interpretation as AnyInterpretation, Values as AnyValues}
+use Rattle.hum_score.specs.declared.records.SpinedKind.TheVariants.{Values}
 use Rattle.hum_record.specs.Contents.{filled_from}
 use Rattle.hum_record.specs.RecordDraft.{IsMade}
-use Rattle.hum_record.specs.Row.{Row, Spined, kind_of, tokens_of, width_of, text_of}
-use Rattle.hum_record.specs.Spelling.{IsTextOf}
-use Rattle.hum_path.specs.declared.moved.Move.{Move}
-use Rattle.hum_path.specs.Sign.{sign_of, is_exclusive}
-use Rattle.hum_path.specs.Spines.{same_upto, moves}
-use Rattle.hum_path.specs.Score.{path_after}
+use Rattle.hum_score.specs.Row.{Row, Spined, kind_of, tokens_of, width_of, text_of}
+use Rattle.hum_score.specs.Spelling.{IsTextOf}
+use Rattle.hum_score.specs.declared.spines.Move.{Move}
+use Rattle.hum_score.specs.Sign.{sign_of, is_exclusive}
+use Rattle.hum_score.specs.Spines.{same_upto, moves}
+use Rattle.hum_score.specs.Score.{path_after}
 use Rattle.hum_path.specs.Memories.{Remember}
 use Rattle.hum_path.specs.Step.{ComeFrom}
 use Rattle.hum_choices.specs.declared.ditto.DittoOptions.{DittoOptions}

@@ -3,13 +3,13 @@ use Rattle.std.proofs.Common.{◌≡◌, ◌∙◌, refl, sym, ap, ℕ, ◌<◌,
 use Rattle.std.specs.Prelude.{nat_le, Ok, Err}
 use Rattle.std.specs.List.{list_any}
 use Rattle.std.proofs.lemmas.Bool.Decides.{nat_tests}
-use Rattle.hum_record.specs.declared.Kind.TheVariants.{Global, Values as AnyValues}
-use Rattle.hum_record.specs.declared.SpinedKind.TheVariants.{Local, Interpretation, Values}
-use Rattle.hum_record.specs.Row.{Row, Comment, Spined, kind_of, tokens_of, text_of}
+use Rattle.hum_score.specs.declared.records.Kind.TheVariants.{Global, Values as AnyValues}
+use Rattle.hum_score.specs.declared.records.SpinedKind.TheVariants.{Local, Interpretation, Values}
+use Rattle.hum_score.specs.Row.{Row, Comment, Spined, kind_of, tokens_of, text_of}
 use Rattle.hum_record.specs.Building.{spelled}
-use Rattle.hum_path.specs.declared.moved.Move.{Move}
-use Rattle.hum_path.specs.Spines.{Path, after, moves}
-use Rattle.hum_path.specs.Score.{path_after}
+use Rattle.hum_score.specs.declared.spines.Move.{Move}
+use Rattle.hum_score.specs.Spines.{Path, after, moves}
+use Rattle.hum_score.specs.Score.{path_after}
 use Rattle.hum_path.specs.Chains.{columns}
 use Rattle.hum_path.specs.Memories.{Remember}
 use Rattle.hum_stage.specs.declared.faults.Rule.TheVariants.{L1}

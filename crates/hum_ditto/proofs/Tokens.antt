@@ -5,11 +5,11 @@ use Rattle.std.specs.Prelude.{◌==◌, Result, OnOk, codes}
 use Rattle.std.specs.List.{list_any}
 use Rattle.std.proofs.lemmas.Bool.{or_parts, or_from}
 use Rattle.std.proofs.lemmas.List.{take_all}
-use Rattle.hum_record.specs.declared.SpinedKind.{SpinedKind}
-use Rattle.hum_record.specs.declared.SpinedKind.TheVariants.{Values}
+use Rattle.hum_score.specs.declared.records.SpinedKind.{SpinedKind}
+use Rattle.hum_score.specs.declared.records.SpinedKind.TheVariants.{Values}
 use Rattle.hum_record.specs.Building.{Draft}
 use Rattle.hum_record.specs.RecordDraft.{Holds}
-use Rattle.hum_record.specs.Spelling.{IsToken, has_byte}
+use Rattle.hum_score.specs.Spelling.{IsToken, has_byte}
 use Rattle.hum_record.specs.Contents.{is_null}
 use Rattle.hum_path.proofs.Carry.{on_ok}
 use Rattle.hum_ditto.specs.Ditto.{written, filled, all_filled}

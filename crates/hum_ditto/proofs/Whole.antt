@@ -4,17 +4,17 @@ use Rattle.std.proofs.Common.{Option, None, Some, inl, inr, arith, get_or}
 use Rattle.std.specs.List.{list_any, find, AllByRecursion}
 use Rattle.std.proofs.lemmas.Bool.{cases_Bool, or_parts}
 use Rattle.std.proofs.lemmas.List.{length-map}
-use Rattle.hum_record.specs.declared.Kind.TheVariants.{Global, Local as AnyLocal, Interpretation as AnyInterpretation, Values as AnyValues}
-use Rattle.hum_record.specs.declared.SpinedKind.{SpinedKind}
-use Rattle.hum_record.specs.declared.SpinedKind.TheVariants.{Local, Interpretation, Values}
-use Rattle.hum_record.specs.Row.{Row, Comment, Spined, kind_of, tokens_of, width_of, text_of}
+use Rattle.hum_score.specs.declared.records.Kind.TheVariants.{Global, Local as AnyLocal, Interpretation as AnyInterpretation, Values as AnyValues}
+use Rattle.hum_score.specs.declared.records.SpinedKind.{SpinedKind}
+use Rattle.hum_score.specs.declared.records.SpinedKind.TheVariants.{Local, Interpretation, Values}
+use Rattle.hum_score.specs.Row.{Row, Comment, Spined, kind_of, tokens_of, width_of, text_of}
 use Rattle.hum_record.specs.Contents.{is_null}
-use Rattle.hum_record.specs.Spelling.{IsToken, IsTextOf, kind_of_token, same_kind}
-use Rattle.hum_path.specs.declared.moved.Move.{Move}
-use Rattle.hum_path.specs.Sign.{sign_of, is_exclusive}
-use Rattle.hum_path.specs.Spines.{Path, Unopened, Spines, same_upto, width, moves}
-use Rattle.hum_path.specs.Rules.{breaks, in_order}
-use Rattle.hum_path.specs.Score.{IsOpen, path_after}
+use Rattle.hum_score.specs.Spelling.{IsToken, IsTextOf, kind_of_token, same_kind}
+use Rattle.hum_score.specs.declared.spines.Move.{Move}
+use Rattle.hum_score.specs.Sign.{sign_of, is_exclusive}
+use Rattle.hum_score.specs.Spines.{Path, Unopened, Spines, same_upto, width, moves}
+use Rattle.hum_score.specs.Rules.{breaks, in_order}
+use Rattle.hum_score.specs.Score.{IsOpen, path_after}
 use Rattle.hum_path.specs.Chains.{columns, longer, chain_of}
 use Rattle.hum_path.specs.Memories.{remembered, seen_each, Remember}
 use Rattle.hum_path.specs.Step.{ComeFrom}

@@ -3,13 +3,13 @@ use Rattle.std.specs.Prelude.{ℕ, Bool, not, ◌&&◌, List, [], ◌∷◌, ◌
 use Rattle.std.specs.Prelude.{Option, None, Some, Ok, if◌then◌else◌}
 use Rattle.std.specs.List.{find}
 use lib.Chars.{codes}
-use Rattle.hum_record.specs.declared.SpinedKind.TheVariants.{Values}
-use Rattle.hum_record.specs.Row.{Row, Comment, Spined}
+use Rattle.hum_score.specs.declared.records.SpinedKind.TheVariants.{Values}
+use Rattle.hum_score.specs.Row.{Row, Comment, Spined}
 use Rattle.hum_record.specs.Contents.{is_data, is_null}
 use Rattle.hum_path.specs.Chains.{reach, columns}
 use Rattle.hum_pattern.specs.Meaning.{matched_by}
 use Rattle.hum_stage.specs.Limits.{if_fits}
-use Rattle.hum_stage.specs.declared.faults.Command.TheVariants.{Ditto}
+use Rattle.hum_words.specs.declared.commands.Command.TheVariants.{Ditto}
 use Rattle.hum_stage.specs.Meaning.{Meaning}
 use Rattle.hum_stage.specs.Decided.{Decision, at_once}
 use Rattle.hum_choices.specs.declared.ditto.DittoOptions.{DittoOptions}

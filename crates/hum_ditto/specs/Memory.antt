@@ -1,9 +1,9 @@
 -- What is remembered of a column.
 use Rattle.std.specs.Prelude.{◌≡◌, ℕ, Bool, List, ◌∷◌, Option, None, Some, if◌then◌else◌}
-use Rattle.hum_record.specs.Row.{Row}
-use Rattle.hum_path.specs.Sign.{sign_of, is_exclusive}
-use Rattle.hum_path.specs.Spines.{Path}
-use Rattle.hum_path.specs.Score.{IsOpen, path_after}
+use Rattle.hum_score.specs.Row.{Row}
+use Rattle.hum_score.specs.Sign.{sign_of, is_exclusive}
+use Rattle.hum_score.specs.Spines.{Path}
+use Rattle.hum_score.specs.Score.{IsOpen, path_after}
 use Rattle.hum_path.specs.Memories.{Remember}
 use Rattle.hum_stage.specs.Decided.{Decision}
 use Rattle.hum_choices.specs.declared.ditto.DittoOptions.{DittoOptions}

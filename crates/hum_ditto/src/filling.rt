@@ -3,10 +3,10 @@ ghost use Rattle.std.specs.Prelude.{◌≡◌, ◌≢◌, ◌<◌, ◌∷◌, �
 ghost use Rattle.std.specs.Prelude.{true, length, None, slice_index_or};
 ghost use Rattle.std.specs.Prelude.{IfOk, OnOk};
 ghost use Rattle.std.specs.List.{list_any};
-ghost use Rattle.hum_record.specs.declared.Kind.TheVariants.{Values as AnyValues};
-ghost use Rattle.hum_record.specs.declared.SpinedKind.TheVariants.{Values};
-ghost use Rattle.hum_record.specs.Row.{tokens_of, width_of, kind_of};
-ghost use Rattle.hum_record.specs.Spelling.{IsToken};
+ghost use Rattle.hum_score.specs.declared.records.Kind.TheVariants.{Values as AnyValues};
+ghost use Rattle.hum_score.specs.declared.records.SpinedKind.TheVariants.{Values};
+ghost use Rattle.hum_score.specs.Row.{tokens_of, width_of, kind_of};
+ghost use Rattle.hum_score.specs.Spelling.{IsToken};
 ghost use Rattle.hum_record.specs.RecordDraft.{Holds, IsMade};
 ghost use Rattle.hum_record.specs.Contents.{is_null};
 ghost use Rattle.hum_ditto.specs.Ditto.{written, filled, all_filled};
@@ -16,7 +16,6 @@ use hum_record::{Record, RecordDraft, Spare, SpinedKind, is_null};
 use std::alloc::{AllocError, Global};
 
 /// Whether a record has a null data token.
-#[inline]
 pub(crate) fn has_null(row: &Record) -> bool
     ensures { result ≡ list_any is_null (tokens_of row.now) }
 {
@@ -35,7 +34,6 @@ fn parenthesize(token: &[u8], shown: &mut Vec<u8>) -> Result<(), AllocError>
 }
 
 /// Adds what a token becomes, by what is remembered of its column.
-#[inline(always)]
 fn push_filled(
     memory: &LastTokens,
     j: usize,
@@ -71,7 +69,6 @@ fn push_filled(
 
 /// The record that a data record becomes, by what is remembered of its columns, unless it is too
 /// long.
-#[inline]
 pub(crate) fn rebuilt(
     alloc: Global,
     row: &Record,
@@ -93,7 +90,6 @@ pub(crate) fn rebuilt(
 }
 
 /// The same, token by token.
-#[inline(never)]
 fn rebuilt_by_tokens(
     alloc: Global,
     row: &Record,

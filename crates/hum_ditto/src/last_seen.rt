@@ -1,8 +1,8 @@
 //! The token that a null token would repeat.
 ghost use Rattle.std.specs.Prelude.{◌≡◌, true, IfSome, option_map};
-ghost use Rattle.hum_record.specs.Spelling.{IsToken};
+ghost use Rattle.hum_score.specs.Spelling.{IsToken};
 ghost use Rattle.hum_record.specs.Contents.{is_data, is_null};
-ghost use Rattle.hum_record.specs.declared.SpinedKind.TheVariants.{Values};
+ghost use Rattle.hum_score.specs.declared.records.SpinedKind.TheVariants.{Values};
 ghost use Rattle.hum_ditto.specs.Ditto.{may_repeat};
 
 use hum_path::ColumnMemory;
@@ -29,9 +29,9 @@ pub struct LastSeen {
 
 impl Model for LastSeen {
     ghost use Rattle.std.specs.Prelude.{◌≡◌, true, ℕ, List, Option};
-    ghost use Rattle.hum_record.specs.Spelling.{IsToken};
+    ghost use Rattle.hum_score.specs.Spelling.{IsToken};
     ghost use Rattle.hum_record.specs.Contents.{is_data, is_null};
-    ghost use Rattle.hum_record.specs.declared.SpinedKind.TheVariants.{Values};
+    ghost use Rattle.hum_score.specs.declared.records.SpinedKind.TheVariants.{Values};
     ghost use Rattle.hum_ditto.specs.Memory.{held_in};
 
     ghost Value = { Option (List ℕ) };

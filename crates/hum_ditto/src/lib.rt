@@ -7,9 +7,9 @@
 
 ghost use Rattle.std.specs.Prelude.{◌≡◌, ◌≤◌, length, OnOk};
 ghost use Rattle.std.specs.Option.{option_to_list};
-ghost use Rattle.hum_record.specs.declared.Kind.TheVariants.{Values};
-ghost use Rattle.hum_record.specs.Row.{kind_of, text_of};
-ghost use Rattle.hum_record.specs.Spelling.{IsTextOf};
+ghost use Rattle.hum_score.specs.declared.records.Kind.TheVariants.{Values};
+ghost use Rattle.hum_score.specs.Row.{kind_of, text_of};
+ghost use Rattle.hum_score.specs.Spelling.{IsTextOf};
 ghost use Rattle.hum_stage.specs.Decided.{MayStep, HasStepped};
 ghost use Rattle.hum_stage.specs.Refusals.{IfTold};
 ghost use Rattle.hum_ditto.specs.Memory.{Follows, HasRemembered};
@@ -60,7 +60,6 @@ impl Repeats {
     }
 
     /// The same of any record.
-    #[inline(never)]
     fn remember_any(&mut self, row: &Record, given: &Record) -> Result<(), AllocError>
         requires score { MayStep
             (Follows self.old.memory.options self.old.paths.path self.old.memory.each) row.now }
@@ -74,7 +73,6 @@ impl Repeats {
     }
 
     /// Puts what a data record becomes.
-    #[inline(always)]
     fn step_data(
         &mut self,
         next: Record,
@@ -120,7 +118,7 @@ impl Decides for Repeats {
 
     type Due = Option<Record>;
 
-    ghost use Rattle.hum_stage.specs.declared.faults.Command.TheVariants.{Ditto as DittoCommand};
+    ghost use Rattle.hum_words.specs.declared.commands.Command.TheVariants.{Ditto as DittoCommand};
     ghost use Rattle.hum_ditto.specs.Ditto.{ditto};
     ghost use Rattle.hum_ditto.specs.Memory.{Follows};
 
@@ -144,7 +142,6 @@ impl Decides for Repeats {
         }
     }
 
-    #[inline(always)]
     fn step(&mut self, next: Record, _room: u64, out: &mut Option<Record>) -> Result<(), Refusal> {
         match next.kind() {
             Kind::Values => self.step_data(next, _room, out),

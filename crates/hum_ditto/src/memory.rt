@@ -1,14 +1,14 @@
 //! What null tokens would repeat.
 ghost use Rattle.std.specs.Prelude.{◌≡◌, ◌<◌, true, false, map, [], None, slice_index_or};
 ghost use Rattle.std.specs.Prelude.{Some, IfSome, IfOk, OnOk, OnErr, option_map, length};
-ghost use Rattle.hum_record.specs.declared.Kind.TheVariants.{Interpretation, Values as AnyValues};
-ghost use Rattle.hum_record.specs.declared.SpinedKind.TheVariants.{Values};
-ghost use Rattle.hum_record.specs.Row.{kind_of, tokens_of, width_of, token_at, text_of};
+ghost use Rattle.hum_score.specs.declared.records.Kind.TheVariants.{Interpretation, Values as AnyValues};
+ghost use Rattle.hum_score.specs.declared.records.SpinedKind.TheVariants.{Values};
+ghost use Rattle.hum_score.specs.Row.{kind_of, tokens_of, width_of, token_at, text_of};
 ghost use Rattle.hum_record.specs.RecordDraft.{IsMade};
-ghost use Rattle.hum_record.specs.Spelling.{IsToken, IsTextOf};
+ghost use Rattle.hum_score.specs.Spelling.{IsToken, IsTextOf};
 ghost use Rattle.hum_ditto.specs.Ditto.{all_filled};
-ghost use Rattle.hum_path.specs.Sign.{has_exclusive};
-ghost use Rattle.hum_path.specs.Spines.{same_upto};
+ghost use Rattle.hum_score.specs.Sign.{has_exclusive};
+ghost use Rattle.hum_score.specs.Spines.{same_upto};
 ghost use Rattle.hum_path.specs.Step.{ComeFrom};
 ghost use Rattle.hum_ditto.specs.Held.{seen_alone, remembered_in, MayHold, MayFollow, HasFollowed};
 ghost use Rattle.hum_ditto.specs.Held.{HasSeen, IsGivenFor};
@@ -66,7 +66,6 @@ impl Model for LastTokens {
 }
 
 /// A token of a data record, unless it is null.
-#[inline]
 fn filled_token(row: &Record, j: usize) -> Option<&[u8]>
     requires kind { kind_of row.now ≡ AnyValues }
     requires within { j < width_of row.now }
@@ -113,7 +112,6 @@ fn each_of(
 }
 
 /// Puts a copy of a record in the place of another, where that has room for it; and tells whether it had.
-#[inline]
 fn copy_over(held: &mut Record, given: &Record) -> bool
     ensures given { result ≡ true → held.new ≡ given.now }
     ensures kept { result ≡ false → held.new ≡ held.old }
@@ -165,7 +163,6 @@ impl LastTokens {
     }
 
     /// The token that a null token of a column would repeat.
-    #[inline]
     pub fn token(&self, j: usize) -> Option<&[u8]>
         requires { j < length self.now.each }
         ensures token { option_map (λ t. t.now) result ≡ slice_index_or self.now.each j None }
@@ -178,7 +175,6 @@ impl LastTokens {
     }
 
     /// What a data record becomes, where that is made at once: its tokens are short, and a record is held.
-    #[inline]
     pub fn filled(&self, row: &Record, spare: &mut Spare) -> Option<Record>
         requires kind { kind_of row.now ≡ AnyValues }
         requires width { length self.now.each ≡ width_of row.now }
@@ -197,7 +193,6 @@ impl LastTokens {
 
     /// Goes on under a data record, and what it became, where a record is held whose memory has room for
     /// that; and tells whether it did.
-    #[inline]
     pub fn see(&mut self, row: &Record, given: &Record) -> bool
         requires kind { kind_of row.now ≡ AnyValues }
         requires lawful { IsTextOf row.now (text_of row.now) }
@@ -217,7 +212,6 @@ impl LastTokens {
     ///
     /// # Errors
     /// Out of memory. Then it no longer tells what null tokens would repeat.
-    #[inline(always)]
     pub fn follow(&mut self, row: &Record, given: &Record, found: Moves) -> Result<(), AllocError>
         requires come { ComeFrom row.now found }
         requires score { MayFollow self.old row.now found }
@@ -234,7 +228,6 @@ impl LastTokens {
     }
 
     /// The same of a data record.
-    #[inline(always)]
     fn follow_data(&mut self, row: &Record, given: &Record, found: Moves) -> Result<(), AllocError>
         requires kind { kind_of row.now ≡ AnyValues }
         requires lawful { IsTextOf row.now (text_of row.now) }
@@ -258,7 +251,6 @@ impl LastTokens {
     }
 
     /// The same of an interpretation.
-    #[inline(never)]
     fn follow_interpretation(&mut self, row: &Record, found: Moves) -> Result<(), AllocError>
         requires kind { kind_of row.now ≡ Interpretation }
         requires lawful { IsTextOf row.now (text_of row.now) }

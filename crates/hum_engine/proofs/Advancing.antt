@@ -4,7 +4,7 @@ use Rattle.std.proofs.Math.Path.{fun_ext}
 use Rattle.std.specs.Prelude.{is_some, IfSome}
 use Rattle.hum_text.specs.declared.calls.Source.{Ghosts as Source}
 use Rattle.hum_text.specs.declared.calls.Sink.{Ghosts as Sink}
-use Rattle.hum_record.specs.Row.{Row}
+use Rattle.hum_score.specs.Row.{Row}
 use Rattle.hum_stage.specs.declared.contract.Stage.{Ghosts as Stage}
 use Rattle.hum_turns.specs.Failures.{Now, result}
 use Rattle.hum_turns.specs.Orders.{Order, LeansTo}

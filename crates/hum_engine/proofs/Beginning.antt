@@ -2,7 +2,7 @@
 use Rattle.std.proofs.Common.{◌≡◌, ◌∙◌, ◌⊎◌, ℕ, zero, suc, List, [], ◌∷◌, ◌++◌, length, Some, sym, ap, subst, inl, inr, map}
 use Rattle.std.proofs.Common.{slice_get}
 use Rattle.std.proofs.lemmas.Option.{none-some, same_Some}
-use Rattle.hum_record.specs.Row.{Row}
+use Rattle.hum_score.specs.Row.{Row}
 use Rattle.hum_stage.specs.declared.contract.Stage.{Ghosts as Stage}
 use Rattle.hum_turns.specs.Links.{Moment, view, fresh, IsOpening}
 use Rattle.hum_nodes.specs.At.{Kind, fresh as fresh_at}

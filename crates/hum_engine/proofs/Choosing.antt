@@ -12,7 +12,7 @@ use Rattle.hum_turns.specs.Turns.{ready}
 use Rattle.hum_turns.proofs.Near.{ready_sink}
 use Rattle.std.proofs.lemmas.Bool.{false≢true, cases_Bool, cases_lt}
 use Rattle.std.proofs.lemmas.Option.{slice_get-get_or, none-some}
-use Rattle.hum_record.specs.Row.{Row}
+use Rattle.hum_score.specs.Row.{Row}
 use Rattle.hum_turns.specs.Plan.{last}
 use Rattle.hum_turns.specs.declared.order.Side.{Side}
 use Rattle.hum_turns.specs.declared.order.Side.TheVariants as side

@@ -1,7 +1,7 @@
 -- What comes next from links, computed.
 use Rattle.std.proofs.Common.{◌≡◌, [], refl, None, Some, true, false}
 use Rattle.std.specs.Prelude.{codes}
-use Rattle.hum_record.specs.Row.{Row, Comment}
+use Rattle.hum_score.specs.Row.{Row, Comment}
 use Rattle.hum_stage.specs.declared.faults.End.TheVariants.{Closed}
 use Rattle.hum_turns.specs.Links.{fresh, linked, has_room, has_some}
 use Rattle.hum_turns.specs.Turns.{pushed, popped}

@@ -6,7 +6,7 @@ use Rattle.std.specs.List.{AllByRecursion}
 use Rattle.std.proofs.lemmas.Bool.{cases_eq}
 use Rattle.std.proofs.lemmas.List.{map-append, same_lists, get_or_default}
 use Rattle.std.proofs.lemmas.Option.{none-some, same_Some}
-use Rattle.hum_record.specs.Row.{Row, text_of}
+use Rattle.hum_score.specs.Row.{Row, text_of}
 use Rattle.hum_turns.specs.Turns.{State, Gives, Reads, Takes, Ends, state, Step}
 use Rattle.hum_turns.specs.Failures.{Now, Turn, result}
 use Rattle.hum_turns.specs.Orders.{upto}

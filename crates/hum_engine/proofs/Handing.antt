@@ -17,7 +17,7 @@ use Rattle.hum_engine.proofs.Netting.{source_here}
 use Rattle.hum_engine.proofs.Readying.{source_ready, room_in, room_stage, some_takes, within_links, touched_gives}
 use Rattle.hum_engine.proofs.Readying.{touched_takes}
 use Rattle.std.proofs.lemmas.Option.{none-some, same_Some, slice_get_within, get_or_from_slice_get}
-use Rattle.hum_record.specs.Row.{Row}
+use Rattle.hum_score.specs.Row.{Row}
 use Rattle.hum_turns.specs.Flow.{Flow}
 use Rattle.hum_turns.specs.Turns.{can, ready, state, pushed, popped}
 use Rattle.hum_turns.specs.Near.{touched}

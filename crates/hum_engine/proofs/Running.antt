@@ -9,7 +9,7 @@ use Rattle.std.proofs.lemmas.List.{map-append}
 use Rattle.std.proofs.lemmas.Option.{none-some, same_Some}
 use Rattle.std.specs.Io.KnownBytes.{Appends}
 use Rattle.hum_text.specs.declared.calls.Sink.{Ghosts as Sink}
-use Rattle.hum_record.specs.Row.{Row, text_of}
+use Rattle.hum_score.specs.Row.{Row, text_of}
 use Rattle.hum_stage.specs.declared.faults.End.{End}
 use Rattle.hum_stage.specs.declared.faults.End.TheVariants.{Closed, Broken}
 use Rattle.hum_stage.specs.declared.contract.Stage.{Ghosts as Stage}

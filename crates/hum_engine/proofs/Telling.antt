@@ -6,7 +6,7 @@ use Rattle.std.proofs.lemmas.Bool.{cases_Bool, false≢true}
 use Rattle.std.proofs.lemmas.Option.{none-some, same_Some}
 use Rattle.hum_text.specs.declared.calls.Source.{Ghosts as Source}
 use Rattle.hum_text.specs.declared.calls.Sink.{Ghosts as Sink}
-use Rattle.hum_record.specs.Row.{Row}
+use Rattle.hum_score.specs.Row.{Row}
 use Rattle.hum_stage.specs.declared.contract.Stage.{Ghosts as Stage}
 use Rattle.hum_turns.specs.declared.order.Side.{Side}
 use Rattle.hum_turns.specs.declared.result.RunResult.{RunResult}

@@ -19,7 +19,7 @@ use Rattle.hum_read.specs.declared.ReadError.{ReadError}
 use Rattle.hum_nodes.proofs.Standing.{stage_bytes, nothing_read, no_mark, no_call, no_end, no_rest}
 use Rattle.hum_engine.specs.Readers.{or_none, HasReadNone}
 use Rattle.hum_engine.specs.declared.web.Web.{Web}
-use Rattle.hum_record.specs.Row.{Row}
+use Rattle.hum_score.specs.Row.{Row}
 use Rattle.hum_turns.specs.Links.{Moment}
 use Rattle.hum_engine.specs.Scene.{Scene, plan_of, moved, before, at_of, held_of, Done, IsActor, HasActor, MayTurn, MayAct}
 use Rattle.hum_engine.specs.Scene.{IsAbout, Keeps, IsKind, Fed}

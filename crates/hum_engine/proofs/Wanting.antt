@@ -6,8 +6,8 @@ use Rattle.std.specs.List.{AllByRecursion}
 use Rattle.std.proofs.lemmas.Bool.{cases_eq, cases_lt}
 use Rattle.std.proofs.lemmas.List.{take-append-le, take_all}
 use Rattle.std.proofs.Math.Path.{fun_ext}
-use Rattle.hum_record.specs.Row.{Row}
-use Rattle.hum_stage.specs.Score.{IsScore}
+use Rattle.hum_score.specs.Row.{Row}
+use Rattle.hum_score.specs.InOrder.{IsScore}
 use Rattle.hum_stage.specs.Lag.{ArePutAtWants}
 use Rattle.hum_stage.specs.Meaning.{Meaning, output}
 use Rattle.hum_stage.specs.Outcome.{held_of as held_by}

@@ -5,7 +5,7 @@ use Rattle.std.specs.Prelude.{length, map, Some, slice_get, slice_index}
 use Rattle.std.specs.Vec.{with_item}
 use Rattle.std.specs.Io.KnownBytes.{Consumes, IsAtEnd}
 use Rattle.hum_text.specs.declared.calls.Source.{Ghosts as Source}
-use Rattle.hum_record.specs.Row.{Row}
+use Rattle.hum_score.specs.Row.{Row}
 use Rattle.hum_stage.specs.declared.contract.Stage.{Ghosts as Stage}
 use Rattle.hum_stage.specs.Lag.{LagsAtMost}
 use Rattle.hum_stage.specs.Meaning.{Meaning, IsLawful, IsWithinLag}

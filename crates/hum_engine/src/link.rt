@@ -4,7 +4,7 @@ ghost use Rattle.std.specs.Prelude.{nat_lt, length};
 ghost use Rattle.hum_turns.specs.Links.{fresh, linked, has_room, has_some};
 ghost use Rattle.hum_turns.specs.Turns.{pushed, popped};
 ghost use Rattle.hum_engine.specs.Traffic.{Traffic, ended};
-ghost use Rattle.hum_record.specs.Row.{Row};
+ghost use Rattle.hum_score.specs.Row.{Row};
 ghost use Rattle.hum_engine.specs.Links.{IsLink, IsIdle, Tells, Goes, room, taken_of, is_some_of};
 ghost use Rattle.hum_engine.specs.declared.link.Taken.TheVariants as kinds;
 

@@ -9,7 +9,7 @@ ghost use Rattle.hum_turns.specs.Links.{linked, IsOpening};
 ghost use Rattle.hum_nodes.specs.At.{HoldsOneEach};
 ghost use Rattle.hum_nodes.specs.Doing as does;
 ghost use Rattle.hum_nodes.specs.declared.node.Readiness.TheVariants as kinds;
-ghost use Rattle.hum_record.specs.Row.{Row};
+ghost use Rattle.hum_score.specs.Row.{Row};
 ghost use Rattle.hum_engine.specs.Links.{taken_of, is_some_of};
 ghost use Rattle.hum_engine.specs.declared.link.Taken.TheVariants as taken;
 ghost use Rattle.hum_engine.specs.Told.{HasTold, HasWaited, HasActed, HasFetched, AsksNone};

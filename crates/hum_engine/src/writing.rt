@@ -1,6 +1,6 @@
 //! Writing records.
 ghost use Rattle.std.specs.Prelude.{◌++◌, ◌∷◌, []};
-ghost use Rattle.hum_record.specs.Row.{text_of};
+ghost use Rattle.hum_score.specs.Row.{text_of};
 ghost use Rattle.hum_engine.specs.Writing.{HasWritten};
 
 use hum_record::Record;

@@ -3,7 +3,7 @@
 
 ghost use Rattle.std.specs.Prelude.{◌≡◌, ◌||◌, ℕ, false, List, Option, length, nat_lt};
 ghost use Rattle.hum_words.specs.Bundle.{largest, plan_of as plan_of_text, score_of};
-ghost use Rattle.hum_record.specs.Row.{Row};
+ghost use Rattle.hum_score.specs.Row.{Row};
 ghost use Rattle.hum_turns.specs.Failures.{Now, result as ended};
 ghost use Rattle.hum_engine.specs.Scene.{Scene, plan_of};
 ghost use Rattle.hum_engine.specs.Nets.{NetAt};

@@ -4,9 +4,9 @@ use Rattle.std.proofs.Common.{◌+◌, ◌<◌, ◌≤◌, ◌∙◌, drop, get_
 use Rattle.std.proofs.lemmas.List.{drop_all}
 use Rattle.std.specs.List.{list_any, list_all}
 use Rattle.std.specs.Option.{option_to_list}
-use Rattle.hum_record.specs.declared.SpinedKind.{SpinedKind}
-use Rattle.hum_record.specs.Row.{Row, Comment, Spined, width_of, text_of, chosen, with_chosen}
-use Rattle.hum_record.specs.Spelling.{IsTextOf}
+use Rattle.hum_score.specs.declared.records.SpinedKind.{SpinedKind}
+use Rattle.hum_score.specs.Row.{Row, Comment, Spined, width_of, text_of, chosen, with_chosen}
+use Rattle.hum_score.specs.Spelling.{IsTextOf}
 use Rattle.hum_record.proofs.Left.{chosen_filled}
 use Rattle.hum_columns.specs.Spread.{filled}
 use Rattle.hum_columns.specs.Following.{AsWide}

@@ -3,12 +3,12 @@ use Rattle.std.proofs.Common.{◌≡◌, ◌≢◌, refl, ℕ, ◌≤◌, Bool, 
 use Rattle.std.proofs.Common.{List, [], ◌∷◌, length, map, arith}
 use Rattle.std.specs.List.{AllByRecursion}
 use lib.Chars.{codes}
-use Rattle.hum_record.specs.declared.SpinedKind.TheVariants.{Interpretation}
-use Rattle.hum_record.specs.declared.SpinedKind.{SpinedKind}
-use Rattle.hum_record.specs.Row.{Row, Comment, Spined, tokens_of, text_of, chosen}
-use Rattle.hum_record.specs.Spelling.{IsToken, IsTextOf}
+use Rattle.hum_score.specs.declared.records.SpinedKind.TheVariants.{Interpretation}
+use Rattle.hum_score.specs.declared.records.SpinedKind.{SpinedKind}
+use Rattle.hum_score.specs.Row.{Row, Comment, Spined, tokens_of, text_of, chosen}
+use Rattle.hum_score.specs.Spelling.{IsToken, IsTextOf}
 use Rattle.hum_record.specs.Building.{spelled}
-use Rattle.hum_path.specs.Sign.{sign_of, is_join, is_exchange}
+use Rattle.hum_score.specs.Sign.{sign_of, is_join, is_exchange}
 use Rattle.hum_columns.specs.Spread.{JoinedToken, tokens_in}
 use Rattle.hum_columns.specs.Writing.{Fit}
 use Rattle.hum_columns.proofs.Weights.{weight, no_longer}

@@ -6,19 +6,19 @@ use Rattle.std.specs.Str.{bytes_eq}
 use Rattle.std.proofs.lemmas.Bool.{or_parts, or_from}
 use Rattle.std.proofs.lemmas.List.{length-map}
 use lib.Chars.{codes}
-use Rattle.hum_path.specs.declared.signs.Sign.{Sign}
-use Rattle.hum_path.specs.declared.signs.Sign.TheVariants.{Split, Join, Exchange, Add, End, Exclusive, Plain}
-use Rattle.hum_path.specs.Sign.{sign_of, is_join, is_exchange, is_exclusive, is_path_indicator}
-use Rattle.hum_path.specs.Spines.{Spines, exchanges, names_after}
-use Rattle.hum_path.specs.Rules.{first_is, has_lone_join, has_mixed_join, has_unnamed, has_bare}
-use Rattle.hum_path.specs.Rules.{names_and_steers, is_pair_or_none, stays_unnamed}
-use Rattle.hum_path.specs.Score.{Lead}
+use Rattle.hum_score.specs.declared.spines.Sign.{Sign}
+use Rattle.hum_score.specs.declared.spines.Sign.TheVariants.{Split, Join, Exchange, Add, End, Exclusive, Plain}
+use Rattle.hum_score.specs.Sign.{sign_of, is_join, is_exchange, is_exclusive, is_path_indicator}
+use Rattle.hum_score.specs.Spines.{Spines, exchanges, names_after}
+use Rattle.hum_score.specs.Rules.{first_is, has_lone_join, has_mixed_join, has_unnamed, has_bare}
+use Rattle.hum_score.specs.Rules.{names_and_steers, is_pair_or_none, stays_unnamed}
+use Rattle.hum_score.specs.Score.{Lead}
 use Rattle.hum_path.specs.Onward.{beginnings, onward, onward_one, swapped, renamed_each}
 use Rattle.hum_path.proofs.Onwards.{names_onward, swapped_none, swapped_length, each_length, begins_length}
 use Rattle.hum_path.proofs.Obeyed.{Obeys}
-use Rattle.hum_path.proofs.Cases.{by_bool}
-use Rattle.hum_record.specs.declared.SpinedKind.TheVariants.{Interpretation}
-use Rattle.hum_record.specs.Row.{Row, chosen}
+use Rattle.hum_score.proofs.Cases.{by_bool}
+use Rattle.hum_score.specs.declared.records.SpinedKind.TheVariants.{Interpretation}
+use Rattle.hum_score.specs.Row.{Row, chosen}
 use Rattle.hum_stage.specs.declared.faults.Rule.{Rule}
 use Rattle.hum_stage.specs.declared.faults.Rule.TheVariants.{X1, X3}
 use Rattle.hum_columns.specs.Spread.{JoinedToken, tokens_in, spread, filled}

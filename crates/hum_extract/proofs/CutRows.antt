@@ -2,8 +2,8 @@
 use Rattle.std.proofs.Common.{◌≡◌, true, false, List, [], ◌∷◌, ℕ, Bool, refl}
 use Rattle.std.specs.Prelude.{Ok, Err}
 use lib.Chars.{codes}
-use Rattle.hum_record.specs.declared.SpinedKind.TheVariants.{Interpretation}
-use Rattle.hum_record.specs.Row.{Row, Spined}
+use Rattle.hum_score.specs.declared.records.SpinedKind.TheVariants.{Interpretation}
+use Rattle.hum_score.specs.Row.{Row, Spined}
 use Rattle.hum_stage.specs.declared.faults.Rule.TheVariants.{X1, X3}
 use Rattle.hum_extract.specs.Extract.{cut}
 

@@ -1,8 +1,8 @@
 -- Small scores, by the definitions.
 use Rattle.std.proofs.Common.{◌≡◌, ℕ, List, [], ◌∷◌, refl, Some}
 use lib.Chars.{codes}
-use Rattle.hum_record.specs.declared.SpinedKind.TheVariants.{Interpretation, Values}
-use Rattle.hum_record.specs.Row.{Row, Spined}
+use Rattle.hum_score.specs.declared.records.SpinedKind.TheVariants.{Interpretation, Values}
+use Rattle.hum_score.specs.Row.{Row, Spined}
 use Rattle.hum_stage.specs.declared.faults.Rule.TheVariants.{X1, X2, X3}
 use Rattle.hum_stage.specs.Outcome.{settled, refusal}
 use Rattle.hum_stage.specs.Decided.{decisions}

@@ -4,15 +4,15 @@ use Rattle.std.proofs.Common.{◌&&◌, ◌||◌, List, [], ◌∷◌, length, a
 use Rattle.std.proofs.lemmas.Bool.{false≢true}
 use Rattle.std.proofs.lemmas.Bool.Decides.{nat_tests}
 use Rattle.std.proofs.lemmas.List.{nil_from_length}
-use Rattle.hum_path.specs.declared.signs.Sign.{Sign}
-use Rattle.hum_path.specs.declared.signs.Sign.TheVariants.{Split, Join, Exchange, Add, End, Exclusive, Plain}
-use Rattle.hum_path.specs.Sign.{is_exchange}
-use Rattle.hum_path.specs.Spines.{exchanges}
-use Rattle.hum_path.specs.Rules.{is_pair_or_none}
+use Rattle.hum_score.specs.declared.spines.Sign.{Sign}
+use Rattle.hum_score.specs.declared.spines.Sign.TheVariants.{Split, Join, Exchange, Add, End, Exclusive, Plain}
+use Rattle.hum_score.specs.Sign.{is_exchange}
+use Rattle.hum_score.specs.Spines.{exchanges}
+use Rattle.hum_score.specs.Rules.{is_pair_or_none}
 use Rattle.hum_path.specs.Onward.{beginnings, at_next, put_next, swapped}
 use Rattle.hum_path.proofs.Onwards.{swapped_none}
-use Rattle.hum_path.proofs.Cases.{by_bool}
-use Rattle.hum_record.specs.Row.{chosen}
+use Rattle.hum_score.proofs.Cases.{by_bool}
+use Rattle.hum_score.specs.Row.{chosen}
 use Rattle.hum_columns.specs.Chosen.{differ}
 use Rattle.hum_extract.specs.Extract.{exchanged_flags, is_lone, chosen_before, chosen_between}
 

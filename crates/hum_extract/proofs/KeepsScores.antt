@@ -5,13 +5,13 @@ use Rattle.std.specs.List.{list_any, list_all, find}
 use Rattle.std.specs.Str.{bytes_eq}
 use lib.Chars.{codes}
 use Rattle.std.proofs.lemmas.Bool.{and_parts, and_from, or_parts, not-false, false≢true}
-use Rattle.hum_record.specs.declared.SpinedKind.{SpinedKind}
-use Rattle.hum_record.specs.declared.SpinedKind.TheVariants.{Interpretation}
-use Rattle.hum_record.specs.Row.{Row, Spined, chosen}
-use Rattle.hum_record.specs.Spelling.{is_empty}
-use Rattle.hum_path.specs.Sign.{sign_of, is_exclusive}
-use Rattle.hum_path.specs.Spines.{Unopened, Spines}
-use Rattle.hum_path.specs.Rules.{breaks_as_text, in_order}
+use Rattle.hum_score.specs.declared.records.SpinedKind.{SpinedKind}
+use Rattle.hum_score.specs.declared.records.SpinedKind.TheVariants.{Interpretation}
+use Rattle.hum_score.specs.Row.{Row, Spined, chosen}
+use Rattle.hum_score.specs.Spelling.{is_empty}
+use Rattle.hum_score.specs.Sign.{sign_of, is_exclusive}
+use Rattle.hum_score.specs.Spines.{Unopened, Spines}
+use Rattle.hum_score.specs.Rules.{breaks_as_text, in_order}
 use Rattle.hum_path.proofs.Widths.{text_width}
 use Rattle.hum_path.proofs.Obeyed.{Opens}
 use Rattle.hum_columns.specs.Spread.{filled}

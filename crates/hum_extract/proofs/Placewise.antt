@@ -2,8 +2,8 @@
 use Rattle.std.proofs.Common.{◌≡◌, ◌∙◌, sym, ap, ℕ, suc, ◌+◌, ◌<◌, Bool, true, false, cond, ◌||◌}
 use Rattle.std.proofs.Common.{List, [], ◌∷◌, ◌++◌, length, map, drop, get_or, arith, add-one, drop-cons, Option, None, Some, refl}
 use Rattle.std.specs.Option.{option_to_list}
-use Rattle.hum_path.specs.declared.signs.Sign.{Sign}
-use Rattle.hum_path.specs.Sign.{sign_of, is_exchange}
+use Rattle.hum_score.specs.declared.spines.Sign.{Sign}
+use Rattle.hum_score.specs.Sign.{sign_of, is_exchange}
 use Rattle.hum_extract.specs.Extract.{exchanged_flags, is_lone, chosen_before, chosen_between}
 
 abbrev pub lone_after : Option Bool → List Bool → List Sign → Bool

@@ -4,15 +4,15 @@ use Rattle.std.proofs.Common.{List, [], ◌∷◌, length, map, None}
 use Rattle.std.specs.Prelude.{Ok}
 use Rattle.std.specs.List.{list_all}
 use Rattle.std.proofs.lemmas.Bool.{and_parts}
-use Rattle.hum_record.specs.declared.SpinedKind.TheVariants.{Local, Interpretation, Values}
-use Rattle.hum_record.specs.Row.{Row, Comment, Spined, tokens_of, text_of, chosen}
-use Rattle.hum_record.specs.Spelling.{IsTextOf}
-use Rattle.hum_path.specs.declared.signs.Sign.{Sign}
-use Rattle.hum_path.specs.declared.signs.Sign.TheVariants.{Split, Join, Exchange, Add, End, Exclusive, Plain}
-use Rattle.hum_path.specs.Sign.{sign_of, is_join, is_plain, all_plain, steers}
-use Rattle.hum_path.specs.Spines.{Path, Unopened, Spines, width, after}
-use Rattle.hum_path.specs.Rules.{fault_of}
-use Rattle.hum_path.specs.Score.{IsOpen, path_after}
+use Rattle.hum_score.specs.declared.records.SpinedKind.TheVariants.{Local, Interpretation, Values}
+use Rattle.hum_score.specs.Row.{Row, Comment, Spined, tokens_of, text_of, chosen}
+use Rattle.hum_score.specs.Spelling.{IsTextOf}
+use Rattle.hum_score.specs.declared.spines.Sign.{Sign}
+use Rattle.hum_score.specs.declared.spines.Sign.TheVariants.{Split, Join, Exchange, Add, End, Exclusive, Plain}
+use Rattle.hum_score.specs.Sign.{sign_of, is_join, is_plain, all_plain, steers}
+use Rattle.hum_score.specs.Spines.{Path, Unopened, Spines, width, after}
+use Rattle.hum_score.specs.Rules.{fault_of}
+use Rattle.hum_score.specs.Score.{IsOpen, path_after}
 use Rattle.hum_path.proofs.Plain.{sound_width, plain_stays}
 use Rattle.hum_stage.specs.Decided.{Decision}
 use Rattle.hum_columns.specs.Spread.{touches, filled}

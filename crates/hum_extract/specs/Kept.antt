@@ -1,6 +1,6 @@
 -- Records that are left with their chosen tokens.
 use Rattle.std.specs.Prelude.{Bool, List, [], ◌∷◌}
-use Rattle.hum_record.specs.Row.{Row, Comment, Spined, chosen}
+use Rattle.hum_score.specs.Row.{Row, Comment, Spined, chosen}
 use Rattle.hum_columns.specs.Spread.{filled}
 
 -- what is left of a record with the chosen tokens alone, if there are any

@@ -2,8 +2,8 @@
 ghost use Rattle.std.specs.Prelude.{◌≡◌, ◌+◌, ◌<◌, true, false, map, IfOk, MatchOption};
 ghost use Rattle.std.specs.List.{list_any};
 ghost use Rattle.std.specs.Str.{bytes_eq};
-ghost use Rattle.hum_record.specs.Row.{tokens_of};
-ghost use Rattle.hum_path.specs.Spines.{texts};
+ghost use Rattle.hum_score.specs.Row.{tokens_of};
+ghost use Rattle.hum_score.specs.Texts.{texts};
 ghost use Rattle.hum_choices.specs.Extract.{field_of, range_of, choice_of};
 ghost use Rattle.hum_extract.specs.Choice.{number, holds, is_beyond, is_chosen, names_beyond};
 ghost use Rattle.hum_extract.specs.Choice.{opening_flags, misses};

@@ -1,9 +1,9 @@
 //! The chosen columns, record by record.
 ghost use Rattle.std.specs.Prelude.{◌≡◌, false, None, Err, IfSome, OnOk};
-ghost use Rattle.hum_record.specs.Row.{Spined, tokens_of, text_of};
-ghost use Rattle.hum_record.specs.Spelling.{IsTextOf};
-ghost use Rattle.hum_record.specs.declared.SpinedKind.TheVariants.{Interpretation};
-ghost use Rattle.hum_path.specs.{Sign.steers, Spines.after, Rules.fault_of};
+ghost use Rattle.hum_score.specs.Row.{Spined, tokens_of, text_of};
+ghost use Rattle.hum_score.specs.Spelling.{IsTextOf};
+ghost use Rattle.hum_score.specs.declared.records.SpinedKind.TheVariants.{Interpretation};
+ghost use Rattle.hum_score.specs.{Sign.steers, Spines.after, Rules.fault_of};
 ghost use Rattle.hum_stage.specs.Refusals.{IfTold};
 ghost use Rattle.hum_columns.specs.Following.{memory};
 ghost use Rattle.hum_extract.specs.Choice.{misses, opening_flags};
@@ -36,8 +36,6 @@ fn asks(row: &Record) -> bool
 ///
 /// # Errors
 /// X2; or out of memory.
-// Not inlined: it happens once.
-#[inline(never)]
 fn open(
     alloc: Global,
     choice: &ExtractOptions,
@@ -74,7 +72,7 @@ impl Decides for ExtractColumns {
 
     type Due = MostlyOne;
 
-    ghost use Rattle.hum_stage.specs.declared.faults.Command.TheVariants.{Extract};
+    ghost use Rattle.hum_words.specs.declared.commands.Command.TheVariants.{Extract};
     ghost use Rattle.hum_columns.specs.Following.{Follows};
 
     ghost command = { Extract };

@@ -1,7 +1,7 @@
 //! Interpretations of which some columns are dropped.
 ghost use Rattle.std.specs.Prelude.{◌≡◌, length, map, IfOk};
-ghost use Rattle.hum_record.specs.Row.{tokens_of, width_of};
-ghost use Rattle.hum_path.specs.Sign.{sign_of};
+ghost use Rattle.hum_score.specs.Row.{tokens_of, width_of};
+ghost use Rattle.hum_score.specs.Sign.{sign_of};
 ghost use Rattle.hum_stage.specs.Refusals.{IfTold};
 ghost use Rattle.hum_columns.specs.Following.{AnswersInRoom, IsPassed};
 ghost use Rattle.hum_extract.specs.Extract.{exchanged_flags, is_lone, chosen_between};

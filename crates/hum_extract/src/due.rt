@@ -18,7 +18,7 @@ pub struct MostlyOne {
 impl Model for MostlyOne {
     ghost use Rattle.std.specs.Prelude.{List, ◌++◌};
     ghost use Rattle.std.specs.Option.{option_to_list};
-    ghost use Rattle.hum_record.specs.Row.{Row};
+    ghost use Rattle.hum_score.specs.Row.{Row};
 
     ghost Value = { List Row };
 
@@ -27,7 +27,6 @@ impl Model for MostlyOne {
 
 impl MostlyOne {
     /// This record is due.
-    #[inline]
     pub fn put(&mut self, row: Record)
         requires { self.old ≡ [] }
         ensures { self.new ≡ row ∷ [] }
@@ -53,7 +52,6 @@ impl DueRecords for MostlyOne {
         Ok(self.many.pop_front())
     }
 
-    #[inline]
     fn take_lone(&mut self, _pool: &mut Spare) -> Option<Record> {
         if !self.many.is_empty() {
             return None;

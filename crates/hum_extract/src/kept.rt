@@ -1,6 +1,6 @@
 //! Records that are left with their chosen tokens.
 ghost use Rattle.std.specs.Prelude.{◌≡◌, []};
-ghost use Rattle.hum_record.specs.{Row.text_of, Spelling.IsTextOf};
+ghost use Rattle.hum_score.specs.{Row.text_of, Spelling.IsTextOf};
 ghost use Rattle.hum_columns.specs.Following.{AsWide};
 ghost use Rattle.hum_extract.specs.Kept.{kept};
 
@@ -9,7 +9,6 @@ use hum_record::{Record, Selection};
 
 /// Gives what is left of a record with the chosen tokens alone, if there are any. A global comment has
 /// none, and stays.
-#[inline(always)]
 pub fn keep(selection: &Selection, mut row: Record, out: &mut MostlyOne)
     requires as_wide { AsWide selection.now row }
     requires lawful { IsTextOf row (text_of row) }

@@ -45,7 +45,6 @@ impl Model for Frac {
 const SMALL: u64 = 1 << 31;
 
 /// A fraction in lowest terms, of numbers that fit.
-#[inline]
 fn lowest_64(top: u64, bottom: u64) -> Frac
     requires top { top < 2 ^ 63 }
     requires bottom { bottom < 2 ^ 63 }
@@ -67,7 +66,6 @@ fn lowest_64(top: u64, bottom: u64) -> Frac
 }
 
 /// A part of one, which is in lowest terms as it stands.
-#[inline]
 fn one_over(bottom: u64) -> Frac
     requires bottom { bottom < 2 ^ 63 }
     requires positive { 0 < bottom }
@@ -102,7 +100,6 @@ fn lowest(top: u128, bottom: u128) -> Result<Frac, FracFault>
 
 impl Frac {
     /// A numerator over a denominator, both below 2^63, the latter above 0.
-    #[inline]
     pub fn new(numerator: u64, denominator: u64) -> Frac
         requires top { numerator < 2 ^ 63 }
         requires bottom { denominator < 2 ^ 63 }
@@ -129,7 +126,6 @@ impl Frac {
     }
 
     /// Whether both numbers are small.
-    #[inline]
     fn is_small(self) -> bool
         ensures { result ≡ (nat_lt self.top 2147483648 && nat_lt self.bottom 2147483648) }
     {
@@ -137,7 +133,6 @@ impl Frac {
     }
 
     /// The sum of two fractions of small numbers.
-    #[inline]
     fn add_small(self, other: Frac) -> Frac
         requires top { self.top < 2147483648 }
         requires bottom { self.bottom < 2147483648 }
@@ -182,7 +177,6 @@ impl Frac {
     }
 
     /// Whether it is a multiple of `unit`, and how many more are less than another, in 64 bits.
-    #[inline]
     fn multiples_to_small(self, other: Frac, unit: Frac) -> (bool, u64)
         requires positive { 0 < unit.top }
         requires top { self.top < 2147483648 }

@@ -7,7 +7,6 @@ ghost use Rattle.hum_frac.specs.Ratio.{reduced};
 const MOST_64: u128 = 18_446_744_073_709_551_615;
 
 /// A quotient and what is left. Nothing is divided where the divisor is a power of 2, as it mostly is.
-#[inline]
 pub(crate) fn divided_64(a: u64, b: u64) -> (u64, u64)
     requires { 0 < b }
     ensures quotient { result.0 ≡ a / b }
@@ -22,7 +21,6 @@ pub(crate) fn divided_64(a: u64, b: u64) -> (u64, u64)
 }
 
 /// A quotient and what is left, in 64 bits where both numbers fit.
-#[inline]
 pub(crate) fn divided(a: u128, b: u128) -> (u128, u128)
     requires { 0 < b }
     ensures quotient { result.0 ≡ a / b }
@@ -69,7 +67,6 @@ pub(crate) fn gcd(a: u128, b: u128) -> u128
 }
 
 /// Two numbers without the powers of 2 that divide both.
-#[inline]
 pub(crate) fn halved(top: u64, bottom: u64) -> (u64, u64)
     requires { 0 < bottom }
     ensures value { reduced (record { top = result.0; bottom = result.1 })
@@ -85,7 +82,6 @@ pub(crate) fn halved(top: u64, bottom: u64) -> (u64, u64)
 
 /// The greatest common divisor of two numbers, not both of which are even. It is 1 where the second is
 /// a power of 2, as it mostly is.
-#[inline]
 pub(crate) fn gcd_odd(top: u64, bottom: u64) -> u64
     requires positive { 0 < bottom }
     requires odd { top % 2 ≡ 0 → bottom % 2 ≡ 1 }

@@ -57,7 +57,6 @@ fn part(digits: &[u8]) -> Option<u64>
 }
 
 /// What a zero and the digits behind it write.
-#[inline(never)]
 fn breves(rest: &[u8]) -> Option<Base>
     ensures { result ≡ plain_value (48 ∷ rest.now) }
 {
@@ -71,7 +70,6 @@ fn breves(rest: &[u8]) -> Option<Base>
 
 impl Base {
     /// What digits write without a percent sign behind them.
-    #[inline(always)]
     pub(crate) fn plain(digits: &[u8]) -> Option<Base>
         ensures { result ≡ plain_value digits.now }
     {
@@ -101,7 +99,6 @@ impl Base {
     }
 
     /// One divided by a number.
-    #[inline(always)]
     pub(crate) fn one_over(number: u64) -> Base
         requires some { 0 < number }
         requires few { number ≤ 4096 }
@@ -114,7 +111,6 @@ impl Base {
     }
 
     /// The value with so many dots.
-    #[inline(always)]
     pub(crate) fn dotted(self, dots: usize) -> Frac
         requires { dots ≤ 6 }
         ensures { result ≡ reduced (dotted self dots) }
@@ -123,7 +119,6 @@ impl Base {
     }
 }
 
-#[inline(always)]
 fn with_dots(top: u64, bottom: u64, dots: usize) -> Frac
     requires base { IsBase top bottom }
     requires dots { dots ≤ 6 }

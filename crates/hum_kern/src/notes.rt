@@ -95,7 +95,6 @@ fn alteration(signs: &[u8]) -> i8
 }
 
 /// The natural note of a letter that stands so many times.
-#[inline(always)]
 pub(crate) fn natural(letter: u8, count: usize) -> NaturalNote
     requires letter { is_letter letter ≡ true }
     requires some { 0 < count }
@@ -169,7 +168,6 @@ fn marks(bytes: &[u8]) -> Note
 }
 
 /// What a subtoken says, whatever it holds.
-#[inline(never)]
 fn read_any(bytes: &[u8]) -> Result<Note, KernFault>
     ensures { reading_in result ≡ note bytes.now }
 {

@@ -45,7 +45,6 @@ const PLAIN: [bool; 256] = [
 ];
 
 /// Whether a byte is a digit.
-#[inline(always)]
 pub(crate) fn is_digit(b: u8) -> bool
     ensures { result ≡ is_digit b }
 {
@@ -53,21 +52,18 @@ pub(crate) fn is_digit(b: u8) -> bool
 }
 
 /// Whether a byte is a letter of pitches.
-#[inline(always)]
 pub(crate) fn is_letter(b: u8) -> bool
     ensures { result ≡ is_letter b }
 {
     (97 <= b && b <= 103) || (65 <= b && b <= 71)
 }
 
-#[inline(always)]
 fn is_sign(b: u8) -> bool
     ensures { result ≡ is_sign b }
 {
     b == b'#' || b == b'-' || b == b'n'
 }
 
-#[inline(always)]
 fn is_plain(b: u8) -> bool
     ensures { result ≡ is_plain b }
 {
@@ -76,7 +72,6 @@ fn is_plain(b: u8) -> bool
 
 impl Class {
     /// Whether a byte is of the class.
-    #[inline(always)]
     fn has(self, b: u8) -> bool
         ensures { result ≡ is_in self b }
     {

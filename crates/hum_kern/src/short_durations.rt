@@ -24,7 +24,6 @@ pub(crate) struct LeadingNumber<'t> {
 }
 
 /// The digits of a token that begins with this one.
-#[inline(always)]
 fn behind_digit(digit: u8, rest: &[u8]) -> LeadingNumber<'_>
     requires above { 48 < digit }
     requires below { digit ≤ 57 }
@@ -50,7 +49,6 @@ fn behind_digit(digit: u8, rest: &[u8]) -> LeadingNumber<'_>
 }
 
 /// The digits at the front of a token.
-#[inline(always)]
 fn leading_number(token: &[u8]) -> Option<LeadingNumber<'_>>
     ensures exact { option_map leading_of result ≡ leading token.now }
     ensures some { IfSome result (λ found. 0 < found.number) }
@@ -66,7 +64,6 @@ fn leading_number(token: &[u8]) -> Option<LeadingNumber<'_>>
 }
 
 /// A part of a whole note, where its number alone tells the duration.
-#[inline(always)]
 fn part_of_whole(number: u64, rest: &[u8]) -> Option<Frac>
     requires some { 0 < number }
     requires few { number < 100 }
@@ -83,7 +80,6 @@ fn part_of_whole(number: u64, rest: &[u8]) -> Option<Frac>
 /// The duration, in whole notes, of a token that is one subtoken without the sign of a grace note and begins
 /// with one or two digits, the first of them no zero, with nothing or a byte above the digits behind them, as
 /// most notes do; or none where it isn't such a one.
-#[inline(always)]
 pub fn leading_duration(token: &[u8]) -> Option<Frac>
     ensures which { is_some result ≡ leads_shortly token.now }
     ensures led { IfSome result (IsLed token.now) }
@@ -96,7 +92,6 @@ pub fn leading_duration(token: &[u8]) -> Option<Frac>
 
 /// How many dots stand behind the digits, none or one, where what stands behind those leaves it to them to
 /// tell the duration; none where it doesn't.
-#[inline(always)]
 fn short_dots(rest: &[u8]) -> Option<usize>
     ensures exact { result ≡ short_dots rest.now }
     ensures few { IfSome result (λ dots. dots ≤ 1) }
@@ -108,7 +103,6 @@ fn short_dots(rest: &[u8]) -> Option<usize>
 }
 
 /// The duration by a number of so many digits, and by what stands behind them.
-#[inline(always)]
 fn by_number(number: u64, digits: usize, rest: &[u8]) -> Option<Length>
     requires some { 0 < number }
     requires few { number < 100 }
@@ -140,7 +134,6 @@ pub(crate) fn read_short(bytes: &[u8]) -> Option<Length>
 
 /// Whether some byte leaves it open what digits in front of it tell: a space, or the sign of a grace note or of
 /// a rest.
-#[inline(always)]
 fn has_stop(bytes: &[u8]) -> bool
     ensures { result ≡ list_any is_stop bytes.now }
 {
@@ -151,7 +144,6 @@ fn has_stop(bytes: &[u8]) -> bool
 
 /// Whether digits and dots are those of a rest, by what stands behind them: its sign and nothing else; or
 /// none where that doesn't leave it to them to tell a duration, or has the sign further on.
-#[inline(always)]
 fn short_rest(rest: &[u8]) -> Option<bool>
     ensures { result ≡ short_rest rest.now }
 {
@@ -171,7 +163,6 @@ fn short_rest(rest: &[u8]) -> Option<bool>
 
 /// A token up to where its digits and dots end, with the sign of a rest behind them; or none where what
 /// stands there doesn't leave it to them to tell a duration.
-#[inline(always)]
 fn text_up_to<'t>(token: &'t [u8], end: usize, rest: &[u8]) -> Option<&'t [u8]>
     requires { end ≤ length token.now }
     ensures { option_map (λ text. text.now) result
@@ -191,7 +182,6 @@ fn text_up_to<'t>(token: &'t [u8], end: usize, rest: &[u8]) -> Option<&'t [u8]>
 /// and as most are: it begins with one or two digits, the first of them no zero, with at most one dot behind
 /// them, and then comes nothing, or a byte above the digits; it has no sign of a grace note, and that of a
 /// rest only where nothing else stands behind the duration. None where it isn't such a one.
-#[inline(always)]
 pub fn leading_text(token: &[u8]) -> Option<&[u8]>
     ensures { IfSome result (λ text. IsLastingText token.now text.now) }
 {

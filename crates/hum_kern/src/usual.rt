@@ -11,7 +11,6 @@ use crate::runs::{Class, is_letter, run_end};
 use hum_pitch::Pitch;
 
 /// The alteration by the sign at a place, and how many signs stand there: one, or none.
-#[inline(always)]
 fn sign_at(bytes: &[u8], at: usize) -> (i8, usize)
     requires { at ≤ length bytes.now }
     ensures few { result.1 ≤ 1 }
@@ -30,7 +29,6 @@ fn sign_at(bytes: &[u8], at: usize) -> (i8, usize)
 
 /// Whether the last byte, if there is one, says that a tie goes on or ends; none where it is another, or
 /// more stand there.
-#[inline(always)]
 fn tie_at_end(last: &[u8]) -> Option<bool>
     ensures { result ≡ tie_at_end last.now }
 {

@@ -6,22 +6,22 @@ use Rattle.std.specs.List.{find}
 use Rattle.std.proofs.lemmas.Bool.{and_parts}
 use Rattle.std.proofs.lemmas.List.{length-map, drop_all}
 use Rattle.std.proofs.lemmas.Simd.{map-map}
-use Rattle.hum_record.specs.declared.SpinedKind.{SpinedKind}
-use Rattle.hum_record.specs.declared.SpinedKind.TheVariants.{Local, Interpretation, Values}
-use Rattle.hum_record.specs.Row.{Row, Comment, Spined, chosen}
-use Rattle.hum_path.specs.Sign.{sign_of, is_exchange}
-use Rattle.hum_path.specs.Spines.{Path, Unopened, Spines, width, after, names_after, same_upto}
-use Rattle.hum_path.specs.Rules.{breaks, breaks_as_text, in_order}
-use Rattle.hum_path.specs.Score.{IsOpen, path_after, passed}
+use Rattle.hum_score.specs.declared.records.SpinedKind.{SpinedKind}
+use Rattle.hum_score.specs.declared.records.SpinedKind.TheVariants.{Local, Interpretation, Values}
+use Rattle.hum_score.specs.Row.{Row, Comment, Spined, chosen}
+use Rattle.hum_score.specs.Sign.{sign_of, is_exchange}
+use Rattle.hum_score.specs.Spines.{Path, Unopened, Spines, width, after, names_after, same_upto}
+use Rattle.hum_score.specs.Rules.{breaks, breaks_as_text, in_order}
+use Rattle.hum_score.specs.Score.{IsOpen, path_after, passed}
 use Rattle.hum_path.specs.Chains.{chain_of, columns}
 use Rattle.hum_path.specs.Memories.{remembered, seen_each}
 use Rattle.hum_path.specs.Onward.{beginnings}
-use Rattle.hum_path.proofs.Cases.{by_bool}
+use Rattle.hum_score.proofs.Cases.{by_bool}
 use Rattle.hum_path.proofs.Widths.{columns_width, text_width}
 use Rattle.hum_path.proofs.Obeyed.{Obeys, obeys}
 use Rattle.hum_stage.specs.declared.faults.Rule.{Rule}
 use Rattle.hum_stage.specs.declared.faults.Rule.TheVariants.{X1, X2, X3}
-use Rattle.hum_stage.specs.Score.{Follow}
+use Rattle.hum_score.specs.InOrder.{Follow}
 use Rattle.hum_stage.proofs.Scores.{path_passed}
 use Rattle.hum_columns.specs.Spread.{filled, spread, tokens_in}
 use Rattle.hum_columns.proofs.Spreading.{marks, formed_length}

@@ -3,20 +3,20 @@ use Rattle.std.proofs.Common.{◌≡◌, ◌∙◌, refl, sym, ap, ℕ, Bool, tr
 use Rattle.std.specs.Prelude.{nat_le, Option, Result, Ok, Err}
 use Rattle.std.specs.List.{find}
 use Rattle.std.proofs.lemmas.List.{length-map}
-use Rattle.hum_record.specs.declared.SpinedKind.{SpinedKind}
-use Rattle.hum_record.specs.declared.SpinedKind.TheVariants.{Local, Interpretation, Values}
-use Rattle.hum_record.specs.Row.{Row, Comment, Spined, text_of, chosen}
-use Rattle.hum_path.specs.Sign.{sign_of}
-use Rattle.hum_path.specs.Spines.{Path, Unopened, Spines, after}
-use Rattle.hum_path.specs.Rules.{breaks_as_text, in_order}
-use Rattle.hum_path.specs.Score.{IsOpen, path_after, passed}
+use Rattle.hum_score.specs.declared.records.SpinedKind.{SpinedKind}
+use Rattle.hum_score.specs.declared.records.SpinedKind.TheVariants.{Local, Interpretation, Values}
+use Rattle.hum_score.specs.Row.{Row, Comment, Spined, text_of, chosen}
+use Rattle.hum_score.specs.Sign.{sign_of}
+use Rattle.hum_score.specs.Spines.{Path, Unopened, Spines, after}
+use Rattle.hum_score.specs.Rules.{breaks_as_text, in_order}
+use Rattle.hum_score.specs.Score.{IsOpen, path_after, passed}
 use Rattle.hum_path.specs.Chains.{origins, columns}
 use Rattle.hum_path.proofs.Widths.{columns_width, text_width}
 use Rattle.hum_stage.specs.declared.faults.Rule.{Rule}
 use Rattle.hum_stage.specs.declared.faults.Rule.TheVariants.{L1, X1, X2, X3}
-use Rattle.hum_stage.specs.declared.faults.Command.TheVariants.{Ditto, Extract}
+use Rattle.hum_words.specs.declared.commands.Command.TheVariants.{Ditto, Extract}
 use Rattle.hum_stage.specs.declared.faults.End.TheVariants.{Closed}
-use Rattle.hum_stage.specs.Score.{IsScore}
+use Rattle.hum_score.specs.InOrder.{IsScore}
 use Rattle.hum_stage.specs.Meaning.{KeepsScore}
 use Rattle.hum_columns.specs.Spread.{filled, spread}
 use Rattle.hum_columns.specs.Chosen.{is_torn, opening_if, opening_of, flags}

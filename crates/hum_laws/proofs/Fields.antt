@@ -4,17 +4,17 @@ use Rattle.std.specs.Prelude.{Result, Ok, Err, not}
 use Rattle.std.specs.List.{list_any, find}
 use Rattle.std.specs.Str.{bytes_eq}
 use Rattle.std.proofs.lemmas.Bool.{or_parts, not-false}
-use Rattle.hum_record.specs.declared.SpinedKind.TheVariants.{Local, Interpretation, Values}
-use Rattle.hum_record.specs.Row.{Row, Comment, Spined, chosen}
-use Rattle.hum_path.specs.Spines.{Path, Unopened}
-use Rattle.hum_path.specs.Rules.{breaks_as_text, in_order}
-use Rattle.hum_path.specs.Score.{path_after}
-use Rattle.hum_path.proofs.Cases.{by_bool}
-use Rattle.hum_stage.specs.declared.faults.Command.TheVariants.{Extract}
+use Rattle.hum_score.specs.declared.records.SpinedKind.TheVariants.{Local, Interpretation, Values}
+use Rattle.hum_score.specs.Row.{Row, Comment, Spined, chosen}
+use Rattle.hum_score.specs.Spines.{Path, Unopened}
+use Rattle.hum_score.specs.Rules.{breaks_as_text, in_order}
+use Rattle.hum_score.specs.Score.{path_after}
+use Rattle.hum_score.proofs.Cases.{by_bool}
+use Rattle.hum_words.specs.declared.commands.Command.TheVariants.{Extract}
 use Rattle.hum_stage.specs.declared.faults.End.TheVariants.{Closed}
 use Rattle.hum_stage.specs.declared.faults.Rule.{Rule}
 use Rattle.hum_stage.specs.declared.faults.Rule.TheVariants.{X2}
-use Rattle.hum_stage.specs.Score.{Follow, IsScore}
+use Rattle.hum_score.specs.InOrder.{Follow, IsScore}
 use Rattle.hum_stage.specs.Meaning.{KeepsScore}
 use Rattle.hum_stage.specs.Decided.{at_once}
 use Rattle.hum_columns.specs.Spread.{filled}

@@ -1,15 +1,15 @@
 -- Contexts of one token.
 use Rattle.std.proofs.Common.{◌≡◌, ◌∙◌, refl, sym, ap, ℕ, suc, ◌+◌, Bool, true, false, ◌⊎◌, inl, inr, List, [], ◌∷◌, length, cond, get_or, take, arith}
 use Rattle.std.specs.Prelude.{nat_le, Option, None, Some, Result, Ok, Err, filter}
-use Rattle.hum_record.specs.declared.SpinedKind.TheVariants.{Local, Interpretation, Values}
-use Rattle.hum_record.specs.Row.{Row, Comment, Spined, text_of}
-use Rattle.hum_path.specs.Spines.{Path}
-use Rattle.hum_path.specs.Score.{path_after}
+use Rattle.hum_score.specs.declared.records.SpinedKind.TheVariants.{Local, Interpretation, Values}
+use Rattle.hum_score.specs.Row.{Row, Comment, Spined, text_of}
+use Rattle.hum_score.specs.Spines.{Path}
+use Rattle.hum_score.specs.Score.{path_after}
 use Rattle.hum_path.specs.Chains.{future}
-use Rattle.hum_path.proofs.Cases.{by_bool}
+use Rattle.hum_score.proofs.Cases.{by_bool}
 use Rattle.hum_stage.specs.declared.faults.Rule.{Rule}
 use Rattle.hum_stage.specs.declared.faults.Rule.TheVariants.{L1}
-use Rattle.hum_stage.specs.declared.faults.Command.{Command}
+use Rattle.hum_words.specs.declared.commands.Command.{Command}
 use Rattle.hum_stage.specs.declared.faults.End.TheVariants.{Closed}
 use Rattle.hum_stage.specs.Outcome.{settled, refusal}
 use Rattle.hum_stage.specs.Meaning.{own_fault, fault_at}

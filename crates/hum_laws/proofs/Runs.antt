@@ -1,12 +1,12 @@
 -- What commands make of records where they refuse none, and two of them behind one another.
 use Rattle.std.proofs.Common.{◌≡◌, ◌∙◌, refl, sym, ap, ℕ, ◌+◌, List, [], ◌∷◌, ◌++◌, append_assoc}
 use Rattle.std.specs.Prelude.{Option, None, Some, Result, Ok, Err}
-use Rattle.hum_record.specs.Row.{Row}
-use Rattle.hum_path.specs.Spines.{Path, after}
-use Rattle.hum_path.specs.Score.{passed, path_after, IsOpen}
-use Rattle.hum_stage.specs.Score.{through, Follow, IsScore}
+use Rattle.hum_score.specs.Row.{Row}
+use Rattle.hum_score.specs.Spines.{Path, after}
+use Rattle.hum_score.specs.Score.{passed, path_after, IsOpen}
+use Rattle.hum_score.specs.InOrder.{through, Follow, IsScore}
 use Rattle.hum_stage.specs.Order.{open_passed}
-use Rattle.hum_stage.specs.declared.faults.Command.{Command}
+use Rattle.hum_words.specs.declared.commands.Command.{Command}
 use Rattle.hum_stage.specs.declared.faults.Rule.{Rule}
 use Rattle.hum_stage.specs.declared.faults.Fault.{Fault}
 use Rattle.hum_stage.specs.declared.faults.End.{End}

@@ -3,17 +3,17 @@ use Rattle.std.proofs.Common.{◌≡◌, ◌∙◌, refl, ap, ℕ, zero, suc, �
 use Rattle.std.specs.List.{AllByRecursion}
 use Rattle.std.proofs.lemmas.List.{length-map}
 use Rattle.std.proofs.lemmas.Simd.{map-map}
-use Rattle.hum_path.specs.declared.signs.Sign.{Sign}
-use Rattle.hum_path.specs.declared.signs.Sign.TheVariants.{Split, Join, Exchange, Add, End, Exclusive, Plain}
-use Rattle.hum_path.specs.Sign.{sign_of, is_exchange}
-use Rattle.hum_path.specs.Spines.{exchanges, partner, moves_under}
-use Rattle.hum_path.specs.Rules.{is_pair_or_none}
+use Rattle.hum_score.specs.declared.spines.Sign.{Sign}
+use Rattle.hum_score.specs.declared.spines.Sign.TheVariants.{Split, Join, Exchange, Add, End, Exclusive, Plain}
+use Rattle.hum_score.specs.Sign.{sign_of, is_exchange}
+use Rattle.hum_score.specs.Spines.{exchanges, partner, moves_under}
+use Rattle.hum_score.specs.Rules.{is_pair_or_none}
 use Rattle.hum_path.specs.Chains.{chain_of, columns, longer}
 use Rattle.hum_path.specs.Memories.{remembered, seen_each}
 use Rattle.hum_path.specs.Onward.{beginnings, onward, swapped, AgreesAt, Agrees, from_places}
 use Rattle.hum_path.proofs.Onwards.{onward_by_moves, places_swapped}
 use Rattle.hum_path.proofs.Within.{exchanged_below, partner_below}
-use Rattle.hum_record.specs.Row.{Row}
+use Rattle.hum_score.specs.Row.{Row}
 
 -- what is remembered of each column
 abbrev pub all_seen : {M : Type 0} → (List ℕ → M → M) → M → List Row → List M

@@ -9,7 +9,7 @@ use Rattle.std.proofs.lemmas.Bool.{and_parts}
 use Rattle.std.proofs.lemmas.Bool.Decides.{nat_tests}
 use Rattle.std.proofs.lemmas.List.{length-replicate}
 use Rattle.std.proofs.lemmas.List.Quantifiers.{position-Some}
-use Rattle.hum_path.proofs.Cases.{by_bool}
+use Rattle.hum_score.proofs.Cases.{by_bool}
 use Rattle.hum_pitch.specs.Pitch.{Spelled, IsOctave, IsAlteration, away}
 use Rattle.hum_pitch.specs.Spelling.{spelling, small_letters, capitals, letters, accidentals, read_letters, read_small, read_capitals, altered_by, natural_note}
 use Rattle.hum_kern.specs.declared.KernFault.{KernFault}

@@ -2,11 +2,11 @@
 use Rattle.std.proofs.Common.{◌≡◌, ◌∙◌, refl, sym, ap, ℕ, zero, suc, ◌≤◌, Bool, true, false, not, List, [], ◌∷◌, length, map, arith, cond}
 use Rattle.std.proofs.lemmas.Bool.{and_parts}
 use lib.Chars.{codes}
-use Rattle.hum_path.specs.Sign.{sign_of, is_join, is_exchange}
+use Rattle.hum_score.specs.Sign.{sign_of, is_join, is_exchange}
 use Rattle.hum_path.specs.Onward.{onward, swapped}
 use Rattle.hum_path.specs.Memories.{seen_each}
 use Rattle.hum_path.proofs.Onwards.{swapped_none}
-use Rattle.hum_path.proofs.Cases.{by_bool}
+use Rattle.hum_score.proofs.Cases.{by_bool}
 use Rattle.hum_columns.specs.Spread.{JoinedToken, joins, tokens_in, touches, joins_in, goes_on, join_alone, first_alone, join_done, first_done}
 use Rattle.hum_columns.specs.Spread.{one_by_one, before_last, spread}
 use Rattle.hum_columns.proofs.Spreading.{marks, signs_in, Formed, formed_length, rest_merged, merged, first_onward, done_onward, done_formed}

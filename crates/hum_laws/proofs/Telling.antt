@@ -1,11 +1,11 @@
 -- What a command on notes wrote no command on notes changes.
 use Rattle.std.proofs.Common.{◌≡◌, refl, ℕ, false, List}
 use lib.Chars.{codes}
-use Rattle.hum_record.specs.Row.{Row}
-use Rattle.hum_stage.specs.declared.faults.Command.{Command}
-use Rattle.hum_stage.specs.declared.faults.Command.TheVariants as name
+use Rattle.hum_score.specs.Row.{Row}
+use Rattle.hum_words.specs.declared.commands.Command.{Command}
+use Rattle.hum_words.specs.declared.commands.Command.TheVariants as name
 use Rattle.hum_stage.specs.declared.faults.End.TheVariants.{Closed}
-use Rattle.hum_stage.specs.Score.{IsScore}
+use Rattle.hum_score.specs.InOrder.{IsScore}
 use Rattle.hum_stage.specs.Meaning.{KeepsScore}
 use Rattle.hum_stage.specs.Decided.{at_once}
 use Rattle.hum_cells.specs.Rewriting.{Renamed, Rewriting, is_kern, rewrite}

@@ -9,8 +9,8 @@ use Rattle.std.proofs.lemmas.Bool.Decides.{nat_tests}
 use Rattle.std.proofs.lemmas.Slice.Eq.{bytes_eq-Decides}
 use lib.Chars.{codes}
 use Rattle.hum_record.specs.Contents.{is_null, is_barline}
-use Rattle.hum_path.proofs.Cases.{by_bool}
-use Rattle.hum_record.specs.Spelling.{has_byte}
+use Rattle.hum_score.proofs.Cases.{by_bool}
+use Rattle.hum_score.specs.Spelling.{has_byte}
 use Rattle.hum_pitch.specs.Spelling.{small_letters, capitals, letters, accidentals, spelling}
 use Rattle.hum_stage.specs.declared.faults.Rule.{Rule}
 use Rattle.hum_cells.specs.Rewriting.{has_content}

@@ -2,11 +2,11 @@
 use Rattle.std.proofs.Common.{◌≡◌, refl, sym, ℕ, ℤ, ◌+ℤ◌, List, [], ◌∷◌}
 use Rattle.std.specs.Prelude.{neg_ℤ, Option, Some, Result, Ok}
 use lib.Chars.{codes}
-use Rattle.hum_record.specs.Row.{Row}
+use Rattle.hum_score.specs.Row.{Row}
 use Rattle.hum_stage.specs.declared.faults.Rule.{Rule}
-use Rattle.hum_stage.specs.declared.faults.Command.TheVariants.{Trans, Semits, Recip}
+use Rattle.hum_words.specs.declared.commands.Command.TheVariants.{Trans, Semits, Recip}
 use Rattle.hum_stage.specs.declared.faults.End.TheVariants.{Closed}
-use Rattle.hum_stage.specs.Score.{IsScore}
+use Rattle.hum_score.specs.InOrder.{IsScore}
 use Rattle.hum_stage.specs.Meaning.{KeepsScore}
 use Rattle.hum_cells.specs.Rewriting.{Renamed, Followed, rewrite}
 use Rattle.hum_choices.specs.declared.semits.SemitsOptions.{SemitsOptions}

@@ -2,20 +2,20 @@
 use Rattle.std.proofs.Common.{◌≡◌, ◌∙◌, refl, sym, ap, ℕ, Bool, true, false, List, [], ◌∷◌, ◌++◌, map, append-nil, cond}
 use Rattle.std.specs.Prelude.{nat_le, nat_lt, length, Result, Ok, Err}
 use Rattle.std.specs.List.{list_any}
-use Rattle.hum_record.specs.declared.SpinedKind.{SpinedKind}
-use Rattle.hum_record.specs.declared.SpinedKind.TheVariants.{Local, Interpretation, Values}
-use Rattle.hum_record.specs.Row.{Row, Comment, Spined, text_of, chosen}
+use Rattle.hum_score.specs.declared.records.SpinedKind.{SpinedKind}
+use Rattle.hum_score.specs.declared.records.SpinedKind.TheVariants.{Local, Interpretation, Values}
+use Rattle.hum_score.specs.Row.{Row, Comment, Spined, text_of, chosen}
 use Rattle.hum_record.specs.Building.{spelled}
-use Rattle.hum_path.specs.Sign.{sign_of, is_exclusive}
-use Rattle.hum_path.specs.Spines.{Path, Unopened, Spines, after}
-use Rattle.hum_path.specs.Score.{path_after, passed}
+use Rattle.hum_score.specs.Sign.{sign_of, is_exclusive}
+use Rattle.hum_score.specs.Spines.{Path, Unopened, Spines, after}
+use Rattle.hum_score.specs.Score.{path_after, passed}
 use Rattle.hum_path.specs.Chains.{columns, longer, origins}
 use Rattle.hum_stage.specs.declared.faults.Rule.{Rule}
 use Rattle.hum_stage.specs.declared.faults.Rule.TheVariants.{L1, C1, C2}
-use Rattle.hum_stage.specs.declared.faults.Command.{Command}
-use Rattle.hum_stage.specs.declared.faults.Command.TheVariants as name
+use Rattle.hum_words.specs.declared.commands.Command.{Command}
+use Rattle.hum_words.specs.declared.commands.Command.TheVariants as name
 use Rattle.hum_stage.specs.declared.faults.End.TheVariants.{Closed}
-use Rattle.hum_stage.specs.Score.{IsScore}
+use Rattle.hum_score.specs.InOrder.{IsScore}
 use Rattle.hum_stage.specs.Meaning.{KeepsScore}
 use Rattle.hum_stage.specs.Decided.{Decision, at_once}
 use Rattle.hum_rid.specs.Rid.{rid, meaning as meaning_of_rid}

@@ -2,9 +2,9 @@
 use mathlib.Core.Sum.{⊎_set}
 use Rattle.std.specs.Prelude.{List, [], ◌∷◌}
 use Rattle.std.specs.Coded.{×_prop, Unit-prop}
-use Rattle.hum_record.specs.Row.{Row}
-use Rattle.hum_path.specs.Spines.{Path, Unopened, after}
-use Rattle.hum_stage.specs.Score.{Follow, IsClosed}
+use Rattle.hum_score.specs.Row.{Row}
+use Rattle.hum_score.specs.Spines.{Path, Unopened, after}
+use Rattle.hum_score.specs.InOrder.{Follow, IsClosed}
 
 pub Follow-prop : (path : Path) (rows : List Row) → IsProp (Follow path rows)
 Follow-prop path [] = Unit-prop

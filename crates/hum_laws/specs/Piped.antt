@@ -1,6 +1,6 @@
 -- What one stage gives of a closed score, and two, the second behind the first.
 use Rattle.std.specs.Prelude.{◌≡◌, List}
-use Rattle.hum_record.specs.Row.{Row}
+use Rattle.hum_score.specs.Row.{Row}
 use Rattle.hum_stage.specs.declared.faults.End.TheVariants.{Closed}
 use Rattle.hum_stage.specs.Meaning.{Meaning, Moment, opening, KeepsScore, IsWhole, output, own_fault, end_of}
 use Rattle.hum_laws.specs.declared.given.Given.{Given}

@@ -1,8 +1,8 @@
 -- What is left when a score is transposed, and then transposed again, or told in other terms.
 use Rattle.std.specs.Prelude.{ℕ, ℤ, Bool, List, [], None, Some}
 use lib.Chars.{codes}
-use Rattle.hum_record.specs.Row.{Row}
-use Rattle.hum_stage.specs.declared.faults.Command.TheVariants.{Trans}
+use Rattle.hum_score.specs.Row.{Row}
+use Rattle.hum_words.specs.declared.commands.Command.TheVariants.{Trans}
 use Rattle.hum_stage.specs.Meaning.{Meaning}
 use Rattle.hum_cells.specs.Rewriting.{meaning}
 use Rattle.hum_tones.specs.Commands.{trans}

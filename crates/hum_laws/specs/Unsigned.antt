@@ -1,6 +1,6 @@
 -- Pitches that are written without the sign of a natural.
 use Rattle.std.specs.Prelude.{ℕ, not, List, ◌++◌, filter, Option, None, Some, Result, Ok, Err}
-use Rattle.hum_record.specs.Row.{Row}
+use Rattle.hum_score.specs.Row.{Row}
 use Rattle.hum_pitch.specs.Pitch.{Spelled}
 use Rattle.hum_kern.specs.declared.KernFault.{KernFault}
 use Rattle.hum_kern.specs.Classes.{is_natural_sign}

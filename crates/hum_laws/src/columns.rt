@@ -1,9 +1,9 @@
 //! Columns that are extracted, beside other commands.
 ghost use Rattle.std.specs.Prelude.{◌≡◌, IfOk};
-ghost use Rattle.hum_stage.specs.declared.faults.Command.TheVariants.{Extract as ExtractCommand};
+ghost use Rattle.hum_words.specs.declared.commands.Command.TheVariants.{Extract as ExtractCommand};
 ghost use Rattle.hum_stage.specs.declared.faults.End.TheVariants.{Closed};
 ghost use Rattle.hum_stage.specs.Decided.{at_once};
-ghost use Rattle.hum_path.specs.Spines.{texts};
+ghost use Rattle.hum_score.specs.Texts.{texts};
 ghost use Rattle.hum_choices.specs.Extract.{Names};
 ghost use Rattle.hum_extract.specs.Extract.{extract};
 ghost use Rattle.hum_extract.specs.Extract.{meaning as meaning_of_extract};

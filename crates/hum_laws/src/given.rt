@@ -2,7 +2,7 @@
 //!
 //! Generic in the stage, so that no proof here looks into it: `crate::commands` calls them.
 ghost use Rattle.std.specs.Prelude.{◌≡◌, ◌≤◌, length, IfOk};
-ghost use Rattle.hum_stage.specs.Score.{IsClosed};
+ghost use Rattle.hum_score.specs.InOrder.{IsClosed};
 ghost use Rattle.hum_stage.specs.Meaning.{Meaning, opening};
 ghost use Rattle.hum_stage.specs.declared.TheConstants.{MOST_RECORDS};
 ghost use Rattle.hum_laws.specs.Closed.{IsClosed-prop};

@@ -1,12 +1,12 @@
 //! Commands that look ahead, where they leave a score as it is.
 ghost use Rattle.std.specs.Prelude.{◌≡◌, IfOk, [], ◌∷◌};
-ghost use Rattle.hum_stage.specs.declared.faults.Command.TheVariants.{Yank as YankCommand};
+ghost use Rattle.hum_words.specs.declared.commands.Command.TheVariants.{Yank as YankCommand};
 ghost use Rattle.hum_stage.specs.declared.faults.End.TheVariants.{Closed};
 ghost use Rattle.hum_stage.specs.Look.{looking};
 ghost use Rattle.hum_choices.specs.declared.yank.YankRange.TheVariants.{Onward};
 ghost use Rattle.hum_yank.specs.Passages.{Lines};
 ghost use Rattle.hum_yank.specs.Yank.{yank};
-ghost use Rattle.hum_stage.specs.declared.faults.Command.TheVariants.{Context as ContextCommand};
+ghost use Rattle.hum_words.specs.declared.commands.Command.TheVariants.{Context as ContextCommand};
 ghost use Rattle.hum_context.specs.Context.{First, context};
 ghost use Rattle.hum_context.specs.Options.{omits_of};
 ghost use Rattle.hum_laws.specs.Piped.{IsAlone};

@@ -2,7 +2,7 @@
 use Rattle.std.proofs.Common.{◌≡◌, refl, ℕ, ◌+◌, ◌<◌, ◌≤◌, List, [], ◌∷◌}
 use Rattle.std.proofs.Common.{length, arith}
 use Rattle.std.proofs.lemmas.List.{append-nil}
-use Rattle.hum_record.specs.Row.{Row}
+use Rattle.hum_score.specs.Row.{Row}
 use Rattle.hum_turns.specs.Flow.{Flow, so_far, AllFine}
 use Rattle.hum_turns.specs.Plan.{Stage, KeepsFine}
 use Rattle.hum_nodes.specs.At.{IsLimited}

@@ -1,6 +1,6 @@
 -- What a plan means is valid Humdrum.
 use Rattle.std.proofs.Common.{ℕ, suc, ◌+◌, List, [], ◌∷◌}
-use Rattle.hum_record.specs.Row.{Row}
+use Rattle.hum_score.specs.Row.{Row}
 use Rattle.hum_turns.specs.Flow.{Flow}
 use Rattle.hum_nodes.specs.Fine.{IsFine}
 use Rattle.hum_nodes.specs.Trees.{meaning_of, IsTree}

@@ -1,8 +1,8 @@
 -- The statuses of runs, and the lines that tell them.
 use Rattle.std.specs.Prelude.{ℕ, List, [], ◌++◌, codes, decimal}
 use Rattle.hum_stage.specs.declared.faults.Fault.{Fault}
-use Rattle.hum_stage.specs.Words.{word_of}
-use Rattle.hum_stage.specs.Words as stage
+use Rattle.hum_words.specs.Commands.{word_of}
+use Rattle.hum_stage.specs.Codes as stage
 use Rattle.hum_plan.specs.Faults as plan
 use Rattle.hum_turns.specs.declared.result.RunResult.{RunResult}
 use Rattle.hum_turns.specs.declared.result.RunResult.TheVariants as ends

@@ -1,7 +1,7 @@
 -- What the net of a plan stands for.
 use Rattle.std.specs.Prelude.{◌≡◌, ℕ, true, List, [], length, Option, None}
 use Rattle.hum_text.specs.declared.calls.Sink.{Ghosts as Sink}
-use Rattle.hum_record.specs.Row.{Row}
+use Rattle.hum_score.specs.Row.{Row}
 use Rattle.hum_stage.specs.declared.contract.Stage.{Ghosts as Commands}
 use Rattle.hum_turns.specs.Links.{fresh}
 use Rattle.hum_turns.specs.Failures.{Now, is_ready}

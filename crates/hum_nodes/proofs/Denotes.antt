@@ -5,8 +5,8 @@ use Rattle.std.proofs.Common.{Option, Some, None, append_assoc, append-nil}
 use Rattle.std.specs.Prelude.{is_some}
 use Rattle.std.proofs.lemmas.Bool.Decides.{nat_tests}
 use Rattle.std.proofs.lemmas.List.{length-map, length-take}
-use Rattle.hum_path.specs.Spines.{Unopened}
-use Rattle.hum_stage.specs.Score.{IsClosed}
+use Rattle.hum_score.specs.Spines.{Unopened}
+use Rattle.hum_score.specs.InOrder.{IsClosed}
 use Rattle.hum_text.specs.declared.Limits.{Limits}
 use Rattle.hum_text.specs.declared.TextFault.{TextFault}
 use Rattle.hum_text.specs.declared.TextFault.TheVariants as text

@@ -3,10 +3,10 @@ use Rattle.std.proofs.Common.{◌≡◌, refl, sym, subst, ℕ, ◌≤◌, true,
 use Rattle.std.specs.Prelude.{nat_le}
 use Rattle.std.proofs.lemmas.Bool.{and_parts, and_from}
 use Rattle.std.proofs.lemmas.Option.{none-some, same_Some}
-use Rattle.hum_record.specs.Row.{Row}
-use Rattle.hum_path.specs.Spines.{Path, Unopened, after}
+use Rattle.hum_score.specs.Row.{Row}
+use Rattle.hum_score.specs.Spines.{Path, Unopened, after}
 use Rattle.hum_stage.specs.declared.faults.End.TheVariants.{Closed}
-use Rattle.hum_stage.specs.Score.{Follow, IsScore, IsClosed}
+use Rattle.hum_score.specs.InOrder.{Follow, IsScore, IsClosed}
 use Rattle.hum_stage.proofs.Growth.{Follow-front}
 use Rattle.hum_turns.specs.Flow.{Flow, so_far, AllOver}
 use Rattle.hum_turns.specs.Plan.{Stage, AreInputs, KeepsFine, end_of, whole}

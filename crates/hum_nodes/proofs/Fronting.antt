@@ -2,9 +2,9 @@
 use Rattle.std.proofs.Common.{◌≡◌, ◌∙◌, refl, sym, ap, subst, ℕ, ◌+◌, List, [], ◌∷◌, ◌++◌, length, map, arith, Option}
 use Rattle.std.proofs.Common.{Some, None, append_assoc, append-nil, length-append, inl, inr, add-one}
 use Rattle.std.proofs.lemmas.List.{length-map, map-append, append_cancel_right}
-use Rattle.hum_record.specs.Row.{Row}
-use Rattle.hum_path.specs.Spines.{Path, Unopened}
-use Rattle.hum_stage.specs.Score.{through}
+use Rattle.hum_score.specs.Row.{Row}
+use Rattle.hum_score.specs.Spines.{Path, Unopened}
+use Rattle.hum_score.specs.InOrder.{through}
 use Rattle.hum_text.specs.declared.TextFault.{TextFault}
 use Rattle.hum_text.specs.declared.TextFault.TheVariants as text
 use Rattle.hum_text.specs.Text.{pieces, lines, without_cr, fault_after, rule_of_line, IsAtStart}

@@ -1,6 +1,6 @@
 -- No stage gives more records than a score may have.
 use Rattle.std.proofs.Common.{ℕ}
-use Rattle.hum_record.specs.Row.{Row}
+use Rattle.hum_score.specs.Row.{Row}
 use Rattle.hum_stage.specs.Meaning.{Meaning, IsLawful}
 use Rattle.hum_turns.specs.Flow.{so_far}
 use Rattle.hum_turns.specs.Plan.{Stage, KeepsFine}

@@ -4,16 +4,16 @@ use Rattle.std.proofs.Common.{arith, Option, Some, None, Result, Ok, Err, append
 use Rattle.std.specs.Prelude.{not, is_some, IfSome}
 use Rattle.std.specs.List.{find, list_all}
 use Rattle.std.proofs.lemmas.List.{nil_from_length}
-use Rattle.hum_record.specs.declared.RecordFault.{RecordFault}
-use Rattle.hum_record.specs.declared.RecordFault.TheVariants as of_record
-use Rattle.hum_record.specs.declared.SpinedKind.TheVariants.{Local, Interpretation, Values}
-use Rattle.hum_record.specs.Row.{Row, Comment, Spined}
-use Rattle.hum_record.specs.Spelling.{reading}
-use Rattle.hum_path.specs.Spines.{Path, after}
-use Rattle.hum_path.specs.Rules.{breaks, breaks_as_text, in_order, is_unfinished, fault_of as path_fault_of}
+use Rattle.hum_score.specs.declared.records.RecordFault.{RecordFault}
+use Rattle.hum_score.specs.declared.records.RecordFault.TheVariants as of_record
+use Rattle.hum_score.specs.declared.records.SpinedKind.TheVariants.{Local, Interpretation, Values}
+use Rattle.hum_score.specs.Row.{Row, Comment, Spined}
+use Rattle.hum_score.specs.Spelling.{reading}
+use Rattle.hum_score.specs.Spines.{Path, after}
+use Rattle.hum_score.specs.Rules.{breaks, breaks_as_text, in_order, is_unfinished, fault_of as path_fault_of}
 use Rattle.hum_stage.specs.declared.faults.Rule.{Rule}
 use Rattle.hum_stage.specs.declared.faults.Rule.TheVariants as rule
-use Rattle.hum_stage.specs.Score.{through}
+use Rattle.hum_score.specs.InOrder.{through}
 use Rattle.hum_text.specs.declared.TextFault.{TextFault}
 use Rattle.hum_read.specs.Denoted.{Score, read_after, on_spines, before, broken_at, closed, ending, denoted, text_rule}
 use Rattle.hum_read.specs.Denoted.{record_rule, path_rule}

@@ -3,7 +3,7 @@ use Rattle.std.proofs.Common.{◌≡◌, ◌∙◌, refl, ap, subst, ℕ, zero, 
 use Rattle.std.proofs.Common.{arith, Option, Some, None, append_assoc, append-nil, true}
 use Rattle.std.specs.Prelude.{is_none}
 use Rattle.std.specs.List.{AllByRecursion, position_from}
-use Rattle.hum_record.specs.Row.{Row}
+use Rattle.hum_score.specs.Row.{Row}
 use Rattle.hum_stage.specs.declared.faults.End.{End}
 use Rattle.hum_assemble.specs.declared.places.Next as next
 use Rattle.hum_assemble.specs.declared.places.Next.TheVariants.{Gives, Refused, Wants, Over as NothingMore}

@@ -1,10 +1,10 @@
 -- Several scores side by side are a lawful stage of a plan, and keep what may lie on a link.
 use Rattle.std.proofs.Common.{◌≡◌, ◌∙◌, refl, ap, ℕ, zero, suc, List, [], ◌∷◌, ◌++◌, Option, Some, None, arith}
 use Rattle.std.proofs.Common.{append_assoc}
-use Rattle.hum_record.specs.Row.{Row}
+use Rattle.hum_score.specs.Row.{Row}
 use Rattle.hum_stage.specs.declared.faults.End.{End}
 use Rattle.hum_stage.specs.declared.faults.End.TheVariants.{Closed}
-use Rattle.hum_stage.specs.Score.{IsClosed}
+use Rattle.hum_score.specs.InOrder.{IsClosed}
 use Rattle.hum_assemble.specs.Change.{Input}
 use Rattle.hum_assemble.specs.Meaning as merge
 use Rattle.hum_assemble.specs.Meaning.{output, own_fault, ends, AreScores}

@@ -4,13 +4,13 @@ use Rattle.std.proofs.Common.{List, [], ◌∷◌, ◌++◌, length, map, replic
 use Rattle.std.proofs.Common.{◌%◌}
 use Rattle.std.specs.Prelude.{IfSome, MatchOption, slice_get}
 use Rattle.std.proofs.lemmas.List.{length-replicate}
-use Rattle.hum_record.specs.Row.{Row}
+use Rattle.hum_score.specs.Row.{Row}
 use Rattle.hum_stage.specs.declared.faults.End.{End}
 use Rattle.hum_stage.specs.declared.faults.Fault.{Fault}
 use Rattle.hum_stage.specs.declared.faults.State.{State}
 use Rattle.hum_stage.specs.declared.faults.State.TheVariants as state
 use Rattle.hum_stage.specs.Meaning.{resting_state, end_of as stage_end}
-use Rattle.hum_stage.specs.Score.{IsScore, IsClosed}
+use Rattle.hum_score.specs.InOrder.{IsScore, IsClosed}
 use Rattle.hum_assemble.specs.Change.{Input, Change, More, Ends, had_at, IsOpenInput}
 use Rattle.hum_assemble.specs.Meaning as merge
 use Rattle.hum_assemble.specs.Meaning.{Moment, all_of, after_take, after, own_fault, ends, state_of, wants_of, put_of}

@@ -6,14 +6,14 @@ use Rattle.std.specs.Prelude.{is_some}
 use Rattle.std.proofs.lemmas.Bool.{false≢true}
 use Rattle.std.proofs.lemmas.Bool.Decides.{nat_tests}
 use Rattle.std.proofs.lemmas.List.{length-take, take-append-le}
-use Rattle.hum_path.specs.Spines.{Unopened}
+use Rattle.hum_score.specs.Spines.{Unopened}
 use Rattle.hum_stage.specs.declared.faults.Rule.{Rule}
 use Rattle.hum_stage.specs.declared.faults.End.TheVariants.{Closed}
-use Rattle.hum_stage.specs.Score.{IsScore}
+use Rattle.hum_score.specs.InOrder.{IsScore}
 use Rattle.hum_stage.proofs.Growth.{Follow-front}
 use Rattle.hum_read.specs.Denoted.{Score, score_of, end_at}
 use Rattle.hum_read.proofs.Denoting.{score-of}
-use Rattle.hum_record.specs.Row.{Row}
+use Rattle.hum_score.specs.Row.{Row}
 use Rattle.hum_turns.specs.Flow.{Flow, AllOver}
 use Rattle.hum_turns.specs.Plan.{IsLawful, KeepsFine, inputs_end}
 use Rattle.hum_turns.proofs.Fronts.{begins_shorter, is_set}

@@ -1,12 +1,12 @@
 -- A stage of one input is a lawful stage of a plan, and keeps what may lie on a link.
 use Rattle.std.proofs.Common.{◌≡◌, ◌∙◌, refl, sym, ap, subst, ℕ, ◌≤◌, List, [], ◌∷◌, ◌++◌, length, Option, Some, None}
 use Rattle.std.proofs.Common.{arith, unwrap_or, append_assoc, append-nil}
-use Rattle.hum_record.specs.Row.{Row}
-use Rattle.hum_path.specs.Spines.{Unopened}
+use Rattle.hum_score.specs.Row.{Row}
+use Rattle.hum_score.specs.Spines.{Unopened}
 use Rattle.hum_stage.specs.declared.faults.End.{End}
 use Rattle.hum_stage.specs.declared.faults.End.TheVariants.{Closed}
 use Rattle.hum_stage.specs.declared.faults.Fault.{Fault}
-use Rattle.hum_stage.specs.Score.{IsScore, IsClosed}
+use Rattle.hum_score.specs.InOrder.{IsScore, IsClosed}
 use Rattle.hum_stage.specs.Meaning.{Meaning, output, own_fault, KeepsScore, IsLawful as IsLawfulMeaning}
 use Rattle.hum_stage.proofs.Growth.{settled-Goes, Follow-front}
 use Rattle.hum_turns.specs.Flow.{Flow, Begins, AllLater, AllOver, AllFine, IsOver}

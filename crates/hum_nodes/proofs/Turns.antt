@@ -4,7 +4,7 @@ use Rattle.std.proofs.Common.{◌++◌, length, slice_get, arith, Option, Some, 
 use Rattle.std.proofs.Common.{append-nil, length-append, lt-ltb}
 use Rattle.std.specs.Prelude.{◌≢◌, is_some, IfSome}
 use Rattle.std.proofs.lemmas.Bool.{false≢true}
-use Rattle.hum_record.specs.Row.{Row}
+use Rattle.hum_score.specs.Row.{Row}
 use Rattle.hum_stage.specs.declared.faults.End.{End}
 use Rattle.hum_text.specs.Reading.{Reader, NeedsRead, IsUnread, IsFed, bytes_read, left_to_do}
 use Rattle.hum_read.specs.declared.ReadError.{ReadError}

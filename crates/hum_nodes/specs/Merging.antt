@@ -1,6 +1,6 @@
 -- Several scores side by side as a stage of a plan.
 use Rattle.std.specs.Prelude.{◌≡◌, ◌≤◌, ℕ, true, List, map, length, Option, Some, None}
-use Rattle.hum_record.specs.Row.{Row}
+use Rattle.hum_score.specs.Row.{Row}
 use Rattle.hum_assemble.specs.Change.{Input}
 use Rattle.hum_assemble.specs.Merge.{ahead}
 use Rattle.hum_assemble.specs.Meaning.{Moment, opening, output, own_fault, rest, wanted, ends, held_at}

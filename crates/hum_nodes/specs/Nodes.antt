@@ -1,6 +1,6 @@
 -- What a node stands for.
 use Rattle.std.specs.Prelude.{◌≡◌, ℕ, Bool, true, false, List, Option, None, is_some, Result, slice_index}
-use Rattle.hum_record.specs.Row.{Row}
+use Rattle.hum_score.specs.Row.{Row}
 use Rattle.hum_stage.specs.declared.faults.End.{End}
 use Rattle.hum_stage.specs.declared.faults.Readiness.{Readiness as StageReadiness}
 use Rattle.hum_stage.specs.Meaning.{Moment}

@@ -1,7 +1,7 @@
 -- Trees of stages: what a plan's stages read from and what they do, and what it means as a whole.
 use Rattle.std.specs.Prelude.{◌≡◌, ℕ, zero, suc, ◌+◌, ◌<◌, List, [], ◌∷◌, length, Some, slice_get}
 use Rattle.std.specs.List.{AllByRecursion}
-use Rattle.hum_record.specs.Row.{Row}
+use Rattle.hum_score.specs.Row.{Row}
 use Rattle.hum_stage.specs.declared.faults.End.{End}
 use Rattle.hum_stage.specs.Meaning.{Meaning, IsLawful, KeepsScore}
 use Rattle.hum_turns.specs.Flow.{Flow}

@@ -1,7 +1,7 @@
 //! What is asked of the stages of a plan, each law the contract of a function without a body.
 ghost use Rattle.std.specs.Prelude.{ℕ, List};
 ghost use Rattle.hum_stage.specs.Meaning.{Meaning, IsLawful as IsLawfulMeaning, KeepsScore};
-ghost use Rattle.hum_record.specs.Row.{Row};
+ghost use Rattle.hum_score.specs.Row.{Row};
 ghost use Rattle.hum_turns.specs.Plan.{Stage, IsLawful, KeepsFine};
 ghost use Rattle.hum_nodes.specs.At.{IsLimited};
 ghost use Rattle.hum_nodes.specs.Fine.{fine, AreFine};

@@ -66,7 +66,6 @@ enum Work<S, R> {
 }
 
 /// What a node does next whose command is ready for this: it reads from one stage.
-#[inline(always)]
 fn of_stage(is: StageReadiness) -> Readiness
     ensures { result ≡ readiness_for is }
 {
@@ -202,7 +201,6 @@ impl<S: Stage + Drop, R: Source + Drop> Node<S, R> {
     }
 
     /// Whether it reads bytes.
-    #[inline(always)]
     pub fn is_source(&self) -> bool
         ensures { result ≡ is_source self.now }
     {
@@ -213,7 +211,6 @@ impl<S: Stage + Drop, R: Source + Drop> Node<S, R> {
     }
 
     /// What it does next. A source reads at each turn.
-    #[inline(always)]
     pub fn readiness(&self) -> Readiness
         ensures { (rest : List ℕ) (t : At) → StandsAs S.stands self.now rest t
             → result ≡ readiness_at (is_source self.now) (doing_of t) }
@@ -222,7 +219,6 @@ impl<S: Stage + Drop, R: Source + Drop> Node<S, R> {
     }
 
     /// Whether the record that it gives next was taken ahead.
-    #[inline(always)]
     pub fn gives_ahead(&self) -> bool
         ensures { result ≡ gives_ahead self.now }
     {
@@ -230,7 +226,6 @@ impl<S: Stage + Drop, R: Source + Drop> Node<S, R> {
     }
 
     /// That record.
-    #[inline(always)]
     pub fn take_ahead(&mut self) -> Record
         requires { gives_ahead self.old ≡ true }
         ensures kind { is_source self.new ≡ is_source self.old }
@@ -265,7 +260,6 @@ impl<S: Stage + Drop, R: Source + Drop> Node<S, R> {
     }
 
     /// The number, from 0, of the stage that it takes from, where it isn't a source and wants.
-    #[inline(always)]
     pub fn source(&self) -> usize
         ensures { is_source self.now ≡ false → (rest : List ℕ) (t : At) (place : ℕ)
             → StandsAs S.stands self.now rest t → doing_of t ≡ does.Wants place

@@ -1,7 +1,7 @@
 -- Words that give options are answered otherwise by N12 alone.
 use Rattle.std.proofs.Common.{◌≡◌, ℕ, Bool, List, [], ◌∷◌, Option, None, Some, Ok, Err, inl, inr, refl, sym, subst, ◌∙◌}
-use Rattle.hum_path.proofs.Cases.{by_bool}
-use Rattle.hum_stage.specs.declared.faults.Command.{Command}
+use Rattle.hum_score.proofs.Cases.{by_bool}
+use Rattle.hum_words.specs.declared.commands.Command.{Command}
 use Rattle.hum_options.specs.declared.options.CommandOption.{CommandOption}
 use Rattle.hum_options.specs.declared.faults.PatternRefusal.{PatternRefusal}
 use Rattle.hum_options.specs.declared.faults.OptionRule.TheVariants.{N12}

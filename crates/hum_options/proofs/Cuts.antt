@@ -4,8 +4,8 @@ use Rattle.std.proofs.Common.{List, [], ◌∷◌, ◌++◌, length, take, drop,
 use Rattle.std.specs.List.{AllByRecursion, onto_first}
 use Rattle.std.proofs.lemmas.List.{take_all}
 use Rattle.std.proofs.lemmas.Bool.{or_parts, eqb-true, eq-eqb, ne_eqb}
-use Rattle.hum_record.specs.Spelling.{has_byte}
-use Rattle.hum_path.proofs.Cases.{by_bool}
+use Rattle.hum_score.specs.Spelling.{has_byte}
+use Rattle.hum_score.proofs.Cases.{by_bool}
 use Rattle.hum_options.specs.Cutting.{front, remainder, parts}
 
 -- a text is cut behind its front

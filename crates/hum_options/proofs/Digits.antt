@@ -11,7 +11,7 @@ use Rattle.std.proofs.lemmas.Fmt.{digits_value-decimal, decimal-digits_value}
 use Rattle.hum_kern.specs.Value.{number_from}
 use Rattle.hum_kern.proofs.Decimals.{own}
 use Rattle.hum_kern.proofs.Laws.{number_from-le}
-use Rattle.hum_record.specs.Spelling.{has_byte}
+use Rattle.hum_score.specs.Spelling.{has_byte}
 use Rattle.hum_options.specs.Numbers.{IsNumber, IsPositive, is_plain, digits_of, number_of, positive_of, above_zero}
 use Rattle.hum_options.proofs.Choices.{chosen}
 

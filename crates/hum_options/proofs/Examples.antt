@@ -9,8 +9,8 @@ use Rattle.hum_pattern.specs.Meaning.{IsExpression, IsNone}
 use Rattle.hum_frac.specs.Gcd.{gcd, gcd_in}
 use Rattle.hum_choices.specs.Extract as choice
 use Rattle.hum_choices.specs.declared.yank.YankRange.TheVariants.{Through, Onward, FromEnd}
-use Rattle.hum_stage.specs.declared.faults.Command.{Command}
-use Rattle.hum_stage.specs.declared.faults.Command.TheVariants as command
+use Rattle.hum_words.specs.declared.commands.Command.{Command}
+use Rattle.hum_words.specs.declared.commands.Command.TheVariants as command
 use Rattle.hum_options.specs.declared.faults.OptionRule.{OptionRule}
 use Rattle.hum_options.specs.declared.faults.OptionRule.TheVariants.{N8, N9, N10, N11, N12}
 use Rattle.hum_options.specs.declared.faults.PatternRefusal.TheVariants.{NoExpression, TooLarge}

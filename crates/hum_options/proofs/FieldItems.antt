@@ -8,8 +8,8 @@ use Rattle.std.proofs.lemmas.Bool.{leb-true, le-leb}
 use Rattle.std.proofs.lemmas.List.{append-nil}
 use Rattle.std.proofs.lemmas.Slice.Eq.{bytes_eq-Decides}
 use Rattle.hum_choices.specs.declared.extract.FieldRange.{FieldRange}
-use Rattle.hum_record.specs.Spelling.{has_byte}
-use Rattle.hum_path.proofs.Cases.{by_bool}
+use Rattle.hum_score.specs.Spelling.{has_byte}
+use Rattle.hum_score.proofs.Cases.{by_bool}
 use Rattle.hum_options.specs.Cutting.{front, remainder}
 use Rattle.hum_options.specs.Fields.{IsCount, count_of, through, onward, last_field, AreFields, one, last, span}
 use Rattle.hum_options.specs.Fields.{to_last, in_order, from_number, by_dash, fields_of}

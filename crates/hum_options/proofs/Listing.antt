@@ -9,8 +9,8 @@ use Rattle.std.proofs.lemmas.Result.{IfOk-weaker}
 use Rattle.std.proofs.lemmas.Bool.{leb-true, le-leb, lt-leb}
 use Rattle.std.proofs.lemmas.List.{append-nil, map-append}
 use Rattle.std.proofs.lemmas.List.Splits.{join_with_byte-slice_split, length-slice_split}
-use Rattle.hum_record.specs.Spelling.{has_byte}
-use Rattle.hum_path.proofs.Cases.{by_bool}
+use Rattle.hum_score.specs.Spelling.{has_byte}
+use Rattle.hum_score.proofs.Cases.{by_bool}
 use Rattle.hum_options.specs.Cutting.{front, remainder, parts}
 use Rattle.hum_options.specs.Items.{AreItems, one, more, AreListed, with_first, all_of, items_of}
 use Rattle.hum_options.specs.Read.{IsReadAs}

@@ -4,7 +4,7 @@ use Rattle.std.proofs.Common.{length, get_or, refl, ap, sym, ◌∙◌, arith, p
 use Rattle.std.specs.Prelude.{map, ◌||◌, if◌then◌else◌, nat_lt, remove}
 use Rattle.std.specs.List.{list_any, prefix_len}
 use Rattle.std.proofs.lemmas.Bool.{ltb-true, ltb-false, eqb-true}
-use Rattle.hum_path.proofs.Cases.{by_bool}
+use Rattle.hum_score.proofs.Cases.{by_bool}
 use Rattle.hum_options.specs.declared.given.GivenOption.{GivenOption}
 use Rattle.hum_options.specs.declared.values.Value.{Value}
 use Rattle.hum_options.specs.Given.{Given, GivenOf, value_at, AreKept}

@@ -1,6 +1,6 @@
 -- Names, as an item of a list gives them.
 use Rattle.std.proofs.Common.{◌≡◌, ap, ℕ, false, Some, List}
-use Rattle.hum_record.specs.Spelling.{has_byte}
+use Rattle.hum_score.specs.Spelling.{has_byte}
 use Rattle.hum_choices.specs.Cleave.{is_name}
 use Rattle.hum_options.specs.Names.{IsListedName, name_of}
 use Rattle.hum_options.proofs.Choices.{chosen}

@@ -8,8 +8,8 @@ use Rattle.std.proofs.lemmas.Bool.{eqb-true, leb-true, le-leb, ne_eqb}
 use Rattle.std.proofs.lemmas.List.{append-nil}
 use Rattle.hum_choices.specs.declared.yank.YankRange.{YankRange}
 use Rattle.hum_choices.specs.declared.yank.YankRange.TheVariants.{Through, Onward, ToEnd, FromEnd}
-use Rattle.hum_record.specs.Spelling.{has_byte}
-use Rattle.hum_path.proofs.Cases.{by_bool}
+use Rattle.hum_score.specs.Spelling.{has_byte}
+use Rattle.hum_score.proofs.Cases.{by_bool}
 use Rattle.hum_options.specs.Cutting.{front, remainder}
 use Rattle.hum_options.specs.Numbers.{number_of, positive_of}
 use Rattle.hum_options.specs.Passages.{greatest, IsPassage, IsDistance, ArePassages, one, span, onward, to_end}

@@ -2,8 +2,8 @@
 use Rattle.std.proofs.Common.{◌≡◌, ◌∙◌, inl, inr, refl, ap, sym, ℕ, true, false, List, [], ◌∷◌, ◌++◌, append_assoc}
 use Rattle.std.proofs.Common.{Option, None, Some, Ok, Err}
 use Rattle.std.proofs.lemmas.List.{append-nil}
-use Rattle.hum_path.proofs.Cases.{by_bool}
-use Rattle.hum_stage.specs.declared.faults.Command.{Command}
+use Rattle.hum_score.proofs.Cases.{by_bool}
+use Rattle.hum_words.specs.declared.commands.Command.{Command}
 use Rattle.hum_choices.specs.Options.{Options}
 use Rattle.hum_options.specs.declared.options.CommandOption.{CommandOption}
 use Rattle.hum_options.specs.declared.faults.OptionFault.{OptionFault}

@@ -5,8 +5,8 @@ use Rattle.std.specs.List.{AllByRecursion}
 use Rattle.std.specs.Option.{option_or}
 use Rattle.std.proofs.lemmas.Bool.{and_parts}
 use lib.Chars.{codes}
-use Rattle.hum_path.proofs.Cases.{by_bool}
-use Rattle.hum_stage.specs.declared.faults.Command.{Command}
+use Rattle.hum_score.proofs.Cases.{by_bool}
+use Rattle.hum_words.specs.declared.commands.Command.{Command}
 use Rattle.hum_options.specs.declared.faults.OptionRule.TheVariants.{N8, N11}
 use Rattle.hum_options.specs.declared.faults.OptionFault.{OptionFault}
 use Rattle.hum_options.specs.declared.reading.Turn.TheVariants.{Free}

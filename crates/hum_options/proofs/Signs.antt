@@ -4,7 +4,7 @@ use Rattle.std.specs.Prelude.{ℤ, pos, neg_ℤ, nat_abs}
 use Rattle.std.specs.Option.{option_map}
 use Rattle.std.specs.Str.{all_ascii_digits}
 use Rattle.std.proofs.lemmas.Bool.{eqb-true}
-use Rattle.hum_path.proofs.Cases.{by_bool}
+use Rattle.hum_score.proofs.Cases.{by_bool}
 use Rattle.hum_options.specs.Numbers.{IsSigned, plain, plus, minus, negated, number_of, signed_of}
 use Rattle.hum_options.proofs.Choices.{mapped}
 use Rattle.hum_options.proofs.Digits.{number_is, number_alone, number_digits, other_byte}

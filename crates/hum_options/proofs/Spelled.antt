@@ -1,7 +1,7 @@
 -- Words are answered by the options that they spell.
 use Rattle.std.proofs.Common.{ℕ, List, [], ◌++◌, Ok}
 use Rattle.std.proofs.lemmas.List.{append-nil}
-use Rattle.hum_stage.specs.declared.faults.Command.{Command}
+use Rattle.hum_words.specs.declared.commands.Command.{Command}
 use Rattle.hum_options.specs.declared.reading.Turn.TheVariants.{Free}
 use Rattle.hum_options.specs.Given.{Given}
 use Rattle.hum_options.specs.Answers.{Word}

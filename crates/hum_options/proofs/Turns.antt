@@ -4,7 +4,7 @@ use Rattle.std.proofs.Common.{◌∙◌, inl, inr, suc, ◌<◌, length, drop, d
 use denote.Ref.{Bor}
 use Rattle.hum_words.specs.declared.cutting.Piece.{Piece}
 use Rattle.hum_words.specs.declared.cutting.Piece.TheVariants as piece
-use Rattle.hum_stage.specs.declared.faults.Command.{Command}
+use Rattle.hum_words.specs.declared.commands.Command.{Command}
 use Rattle.hum_options.specs.declared.options.CommandOption.{CommandOption}
 use Rattle.hum_options.specs.declared.grammar.ValueError.{ValueError}
 use Rattle.hum_options.specs.declared.grammar.ValueError.TheVariants.{Grammar, Pattern as Refused, Memory as NoMemory}

@@ -4,8 +4,8 @@ use Rattle.std.specs.Prelude.{◌++◌, map, Option, None, Some, Result, Ok, Err
 use Rattle.std.specs.List.{list_any}
 use Rattle.std.specs.Option.{option_or}
 use lib.Chars.{codes}
-use Rattle.hum_stage.specs.declared.faults.Command.{Command}
-use Rattle.hum_stage.specs.declared.faults.Command.TheVariants as command
+use Rattle.hum_words.specs.declared.commands.Command.{Command}
+use Rattle.hum_words.specs.declared.commands.Command.TheVariants as command
 use Rattle.hum_options.specs.declared.options.ValueKind.{ValueKind}
 use Rattle.hum_options.specs.declared.options.ValueKind.TheVariants as kind
 use Rattle.hum_options.specs.declared.options.CommandOption.{CommandOption}

@@ -1,6 +1,6 @@
 -- Names, labels and what goes between data.
 use Rattle.std.specs.Prelude.{◌≡◌, ◌≢◌, ℕ, Bool, true, false, not, ◌&&◌, List, [], Option, None, Some, if◌then◌else◌}
-use Rattle.hum_record.specs.Spelling.{has_byte}
+use Rattle.hum_score.specs.Spelling.{has_byte}
 use Rattle.hum_choices.specs.Cleave.{is_name, fits_in_token}
 use Rattle.hum_kern.specs.Duration.{is_empty}
 

@@ -13,8 +13,8 @@ use Rattle.hum_choices.specs.Options.{Extract, Ditto, Timebase, Context, Trans, 
 use Rattle.hum_choices.specs.declared.ditto.DittoOptions.{DittoOptions}
 use Rattle.hum_choices.specs.declared.mint.MintOptions.{MintOptions}
 use Rattle.hum_choices.specs.declared.semits.SemitsOptions.{SemitsOptions}
-use Rattle.hum_stage.specs.declared.faults.Command.{Command}
-use Rattle.hum_stage.specs.declared.faults.Command.TheVariants as command
+use Rattle.hum_words.specs.declared.commands.Command.{Command}
+use Rattle.hum_words.specs.declared.commands.Command.TheVariants as command
 use Rattle.hum_options.specs.declared.options.ValueKind.{ValueKind}
 use Rattle.hum_options.specs.declared.options.ValueKind.TheVariants.{Alone, Fields, Names, Name, Text, Ranges, Label}
 use Rattle.hum_options.specs.declared.options.ValueKind.TheVariants.{Pattern, Count, Steps, Semitones, Duration}

@@ -2,7 +2,7 @@
 use Rattle.std.specs.Prelude.{◌≡◌, ◌↔◌, ◌⊎◌, ℕ, Bool, true, false, List, [], ◌∷◌, ◌++◌, None, Some, Err, MatchBool}
 use Rattle.std.specs.List.{AllByRecursion}
 use lib.Chars.{codes}
-use Rattle.hum_stage.specs.declared.faults.Command.{Command}
+use Rattle.hum_words.specs.declared.commands.Command.{Command}
 use Rattle.hum_options.specs.declared.options.CommandOption.{CommandOption}
 use Rattle.hum_options.specs.declared.faults.PatternRefusal.{PatternRefusal}
 use Rattle.hum_options.specs.declared.faults.OptionRule.{OptionRule}

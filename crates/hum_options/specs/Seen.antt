@@ -1,7 +1,7 @@
 -- What contracts see of options and words.
 use Rattle.std.specs.Prelude.{◌≡◌, ℕ, List, [], ◌∷◌, None, Some, Result, Ok, Err}
-use Rattle.hum_path.specs.Spines.{texts}
-use Rattle.hum_stage.specs.declared.faults.Command.{Command}
+use Rattle.hum_score.specs.Texts.{texts}
+use Rattle.hum_words.specs.declared.commands.Command.{Command}
 use Rattle.hum_words.specs.Pieces.{Item, items_of}
 use Rattle.hum_words.specs.Pieces as item
 use Rattle.hum_words.specs.declared.cutting.Piece.{Piece}

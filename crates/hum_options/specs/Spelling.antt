@@ -1,6 +1,6 @@
 -- Words that spell options.
 use Rattle.std.specs.Prelude.{◌≡◌, ◌↔◌, ℕ, true, false, List, [], ◌∷◌, ◌++◌, Some, Ok}
-use Rattle.hum_stage.specs.declared.faults.Command.{Command}
+use Rattle.hum_words.specs.declared.commands.Command.{Command}
 use Rattle.hum_options.specs.declared.options.ValueKind.{ValueKind}
 use Rattle.hum_options.specs.declared.options.CommandOption.{CommandOption}
 use Rattle.hum_options.specs.declared.reading.Turn.TheVariants.{Free}

@@ -8,7 +8,7 @@ ghost use Rattle.hum_options.specs.Given.{value_at, kind_at, AreKept};
 use crate::options::{ValueKind, excludes};
 use crate::values::{Name, Separator, Steps, Value, of_kind};
 use hum_choices::{FieldRange, TokenCount, YankRange};
-use hum_stage::Command;
+use hum_words::Command;
 use std::alloc::{AllocError, Global};
 use std::marker::Model;
 

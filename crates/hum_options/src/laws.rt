@@ -1,6 +1,6 @@
 //! What holds of all words, as contracts.
 ghost use Rattle.std.specs.Prelude.{ℕ, Bool, List};
-ghost use Rattle.hum_stage.specs.declared.faults.Command.{Command};
+ghost use Rattle.hum_words.specs.declared.commands.Command.{Command};
 ghost use Rattle.hum_options.specs.{Answers.Word, Spelling.AreReadAsSpelled};
 ghost use Rattle.hum_options.specs.{Refused.AreRefusedInOrder};
 

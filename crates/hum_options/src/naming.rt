@@ -1,7 +1,7 @@
 //! Names and labels.
 ghost use Rattle.std.specs.Prelude.{◌≡◌, ◌↔◌, List, ℕ, IfOk, IsTrue};
 ghost use Rattle.std.specs.Option.{option_map};
-ghost use Rattle.hum_path.specs.Spines.{texts};
+ghost use Rattle.hum_score.specs.Texts.{texts};
 ghost use Rattle.hum_options.specs.{Items.AreListed, Items.items_of, Read.IsReadAs};
 ghost use Rattle.hum_options.specs.Names.{IsListedName, name_of, IsLabel, is_label};
 

@@ -3,7 +3,7 @@ ghost use Rattle.std.specs.Prelude.{◌≡◌, ◌||◌, IfOk, codes};
 ghost use Rattle.std.specs.Option.{option_map};
 ghost use Rattle.hum_choices.specs.{Extract.choice_of, Timebase.pace_of};
 ghost use Rattle.hum_choices.specs.Options.{Context, Trans, Yank, span_of, markers_of, options_of};
-ghost use Rattle.hum_stage.specs.declared.faults.Command.TheVariants as command;
+ghost use Rattle.hum_words.specs.declared.commands.Command.TheVariants as command;
 ghost use Rattle.hum_options.specs.Answers.{is_alone};
 ghost use Rattle.hum_options.specs.Options.{table, is_spelled, option_of, excludes, are_in};
 ghost use Rattle.hum_options.specs.Options.{choice_meant, ditto_meant, pace_meant, span_meant, trans_meant};
@@ -17,7 +17,7 @@ use hum_choices::{
     MintOptions, RecipOptions, SemitsOptions, Span, TimebaseOptions, TransOptions, YankOptions,
 };
 use hum_pattern::Pattern;
-use hum_stage::Command;
+use hum_words::Command;
 use std::alloc::{AllocError, Global};
 
 /// What an option's value is.

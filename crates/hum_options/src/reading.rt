@@ -1,6 +1,6 @@
 //! Words, read as options.
 ghost use Rattle.std.specs.Prelude.{◌≡◌, [], ℕ};
-ghost use Rattle.hum_stage.specs.declared.faults.Command.{Command};
+ghost use Rattle.hum_words.specs.declared.commands.Command.{Command};
 ghost use Rattle.hum_options.specs.declared.reading.Turn.TheVariants.{Free, Awaits};
 ghost use Rattle.hum_options.specs.Answers.{next_option, Answers, IsAnswer};
 ghost use Rattle.hum_options.specs.Seen.{words_of, value_fault, Takes, Tells};
@@ -13,8 +13,7 @@ use crate::options::{CommandOption, option_of, put_together};
 use crate::values::Value;
 use hum_choices::CommandOptions;
 use hum_pattern::Pattern;
-use hum_stage::Command;
-use hum_words::Piece;
+use hum_words::{Command, Piece};
 use std::alloc::Global;
 
 /// Where words stand.

@@ -5,11 +5,12 @@ use Rattle.std.specs.declared.vec.Vec.{Vec}
 use Rattle.std.specs.declared.alloc.Global.{Global}
 use Rattle.std.specs.List.{list_any}
 use Rattle.std.proofs.lemmas.List.{at_drop_more, drop_all}
-use Rattle.hum_record.specs.Spelling.{is_empty}
-use Rattle.hum_path.specs.declared.signs.Sign.{Sign}
-use Rattle.hum_path.specs.Sign.{is_exchange}
-use Rattle.hum_path.specs.Spines.{texts, exchanges}
-use Rattle.hum_path.specs.Rules.{stays_unnamed, has_unnamed}
+use Rattle.hum_score.specs.Spelling.{is_empty}
+use Rattle.hum_score.specs.declared.spines.Sign.{Sign}
+use Rattle.hum_score.specs.Sign.{is_exchange}
+use Rattle.hum_score.specs.Texts.{texts}
+use Rattle.hum_score.specs.Spines.{exchanges}
+use Rattle.hum_score.specs.Rules.{stays_unnamed, has_unnamed}
 
 -- the first of the places left, and those behind it
 pub nameless_at : (names : List (Vec ℕ Global)) (j : ℕ) (name : Vec ℕ Global) {b : Bool}

@@ -2,13 +2,13 @@
 use Rattle.std.proofs.Common.{◌≡◌, ◌∙◌, ℕ, zero, suc, ◌<◌, List, [], ◌∷◌, length, map, Some, slice_get, get_or, refl, sym, ap, arith, subst}
 use Rattle.std.specs.List.{AllByRecursion}
 use Rattle.std.proofs.lemmas.List.{length-map}
-use Rattle.hum_record.specs.declared.Kind.TheVariants.{Global, Interpretation as AnyInterpretation}
-use Rattle.hum_record.specs.declared.SpinedKind.TheVariants.{Local, Interpretation, Values}
-use Rattle.hum_record.specs.Row.{Row, Comment, Spined, kind_of}
-use Rattle.hum_path.specs.declared.moved.Move.{Move}
-use Rattle.hum_path.specs.declared.moved.Move.TheVariants.{Same}
-use Rattle.hum_path.specs.Spines.{Path, Unopened, Spines, width, moves, moves_at, source, same_upto}
-use Rattle.hum_path.specs.Score.{IsOpen, path_after}
+use Rattle.hum_score.specs.declared.records.Kind.TheVariants.{Global, Interpretation as AnyInterpretation}
+use Rattle.hum_score.specs.declared.records.SpinedKind.TheVariants.{Local, Interpretation, Values}
+use Rattle.hum_score.specs.Row.{Row, Comment, Spined, kind_of}
+use Rattle.hum_score.specs.declared.spines.Move.{Move}
+use Rattle.hum_score.specs.declared.spines.Move.TheVariants.{Same}
+use Rattle.hum_score.specs.Spines.{Path, Unopened, Spines, width, moves, moves_at, source, same_upto}
+use Rattle.hum_score.specs.Score.{IsOpen, path_after}
 use Rattle.hum_path.specs.Chains.{origin_of, origins}
 use Rattle.hum_path.specs.Origins.{up, origin, AreOrigins}
 use Rattle.hum_path.proofs.Plain.{sound_width}

@@ -1,12 +1,12 @@
 -- Small scores, by the definitions.
 use Rattle.std.proofs.Common.{◌≡◌, ℕ, List, [], ◌∷◌, take, drop, None, Some, refl}
 use lib.Chars.{codes}
-use Rattle.hum_record.specs.declared.SpinedKind.TheVariants.{Interpretation, Values}
-use Rattle.hum_record.specs.Row.{Row, Comment, Spined}
-use Rattle.hum_path.specs.declared.moved.Move.TheVariants.{Same, Left, Right, Join as Joined, Added}
-use Rattle.hum_path.specs.declared.PathFault.TheVariants.{P1, P2, P3, P5, P6, P7}
-use Rattle.hum_path.specs.Spines.{Unopened, Spines, moves}
-use Rattle.hum_path.specs.Score.{path_after, passed, score_fault}
+use Rattle.hum_score.specs.declared.records.SpinedKind.TheVariants.{Interpretation, Values}
+use Rattle.hum_score.specs.Row.{Row, Comment, Spined}
+use Rattle.hum_score.specs.declared.spines.Move.TheVariants.{Same, Left, Right, Join as Joined, Added}
+use Rattle.hum_score.specs.declared.spines.PathFault.TheVariants.{P1, P2, P3, P5, P6, P7}
+use Rattle.hum_score.specs.Spines.{Unopened, Spines, moves}
+use Rattle.hum_score.specs.Score.{path_after, passed, score_fault}
 use Rattle.hum_path.specs.Chains.{history, future, reach, origins}
 
 pub one : List ℕ → Row

@@ -2,9 +2,9 @@
 use Rattle.std.proofs.Common.{◌≡◌, ℕ, suc, zero, ◌+◌, ◌<◌, false, List, [], ◌∷◌, length, drop, refl, arith, add-one}
 use Rattle.std.specs.declared.vec.Vec.{Vec}
 use Rattle.std.specs.declared.alloc.Global.{Global}
-use Rattle.hum_path.specs.declared.signs.Sign.{Sign}
-use Rattle.hum_path.specs.Spines.{texts}
-use Rattle.hum_path.specs.Rules.{mixes_join, has_mixed_join}
+use Rattle.hum_score.specs.declared.spines.Sign.{Sign}
+use Rattle.hum_score.specs.Texts.{texts}
+use Rattle.hum_score.specs.Rules.{mixes_join, has_mixed_join}
 
 pub mixes_short : (names : List (List ℕ)) (signs : List Sign) → length signs < 2 → false ≡ mixes_join names signs
 mixes_short [] [] h = refl

@@ -4,14 +4,14 @@ use Rattle.std.specs.List.{find, list_all}
 use Rattle.std.proofs.lemmas.Bool.{not-false}
 use Rattle.std.proofs.lemmas.Bool.Decides.{nat_tests}
 use Rattle.std.proofs.lemmas.List.{length-map}
-use Rattle.hum_record.specs.declared.SpinedKind.TheVariants.{Local, Interpretation, Values}
-use Rattle.hum_record.specs.Row.{Row, Comment, Spined}
-use Rattle.hum_path.specs.declared.PathFault.TheVariants.{P1, P2, P3, P4, P5, P6, P7, P9, P10, P11}
-use Rattle.hum_path.specs.Sign.{sign_of, is_exclusive}
-use Rattle.hum_path.specs.Spines.{Path, Unopened, Spines, width, exchanges, moves_under, names_after, renamed}
-use Rattle.hum_path.specs.Rules.{breaks, in_order, has_unnamed, has_bare, names_and_steers}
-use Rattle.hum_path.specs.Rules.{has_lone_join, is_pair_or_none, has_mixed_join}
-use Rattle.hum_path.specs.Score.{IsOpen, path_after}
+use Rattle.hum_score.specs.declared.records.SpinedKind.TheVariants.{Local, Interpretation, Values}
+use Rattle.hum_score.specs.Row.{Row, Comment, Spined}
+use Rattle.hum_score.specs.declared.spines.PathFault.TheVariants.{P1, P2, P3, P4, P5, P6, P7, P9, P10, P11}
+use Rattle.hum_score.specs.Sign.{sign_of, is_exclusive}
+use Rattle.hum_score.specs.Spines.{Path, Unopened, Spines, width, exchanges, moves_under, names_after, renamed}
+use Rattle.hum_score.specs.Rules.{breaks, in_order, has_unnamed, has_bare, names_and_steers}
+use Rattle.hum_score.specs.Rules.{has_lone_join, is_pair_or_none, has_mixed_join}
+use Rattle.hum_score.specs.Score.{IsOpen, path_after}
 use Rattle.hum_path.proofs.Plain.{find_head}
 
 -- at the opening

@@ -4,15 +4,15 @@ use Rattle.std.proofs.Common.{List, [], ◌∷◌, map, length, get_or, cond, ar
 use Rattle.std.specs.List.{AllByRecursion}
 use Rattle.std.proofs.lemmas.Bool.Decides.{nat_tests}
 use Rattle.std.proofs.lemmas.List.{length-map}
-use Rattle.hum_path.specs.declared.signs.Sign.{Sign}
-use Rattle.hum_path.specs.declared.signs.Sign.TheVariants.{Split, Join, Exchange, Add, End, Exclusive, Plain}
-use Rattle.hum_path.specs.declared.moved.Move.{Move}
-use Rattle.hum_path.specs.Sign.{sign_of, is_join, is_exchange, is_exclusive}
-use Rattle.hum_path.specs.Spines.{Spines, exchanges, partner, heirs_from, moves_under, renamed, names_after, source}
-use Rattle.hum_path.specs.Rules.{is_pair_or_none}
+use Rattle.hum_score.specs.declared.spines.Sign.{Sign}
+use Rattle.hum_score.specs.declared.spines.Sign.TheVariants.{Split, Join, Exchange, Add, End, Exclusive, Plain}
+use Rattle.hum_score.specs.declared.spines.Move.{Move}
+use Rattle.hum_score.specs.Sign.{sign_of, is_join, is_exchange, is_exclusive}
+use Rattle.hum_score.specs.Spines.{Spines, exchanges, partner, heirs_from, moves_under, renamed, names_after, source}
+use Rattle.hum_score.specs.Rules.{is_pair_or_none}
 use Rattle.hum_path.specs.Onward.{beginnings, onward, at_next, put_next, swapped, renamed_each, AgreesAt, Agrees, from_places}
 use Rattle.hum_path.proofs.Within.{exchanged_below, partner_below}
-use Rattle.hum_path.proofs.Cases.{by_bool}
+use Rattle.hum_score.proofs.Cases.{by_bool}
 
 -- what a function makes of all moves
 pub onward_by_moves : {X : Type 0} (f : Move → X) (added : X → X) (pair : List ℕ) (j : ℕ) (b : Bool) (signs : List Sign) (xs : List X)

@@ -8,12 +8,12 @@ use lib.Chars.{codes}
 use Rattle.std.proofs.lemmas.Bool.{and_parts, or_left, or_right}
 use Rattle.std.proofs.lemmas.Bool.Decides.{nat_tests}
 use Rattle.std.proofs.lemmas.Slice.Eq.{bytes_eq-Decides}
-use Rattle.hum_path.specs.declared.signs.Sign.TheVariants.{Split, Join, Exchange, Add, End, Exclusive, Plain}
-use Rattle.hum_path.specs.Sign.{sign_of, is_join, is_exchange, is_exclusive}
-use Rattle.hum_path.specs.Spines.{exchanges}
-use Rattle.hum_path.specs.Rules.{first_is, is_pair_or_none, has_lone_join, mixes_join, has_mixed_join, stays_unnamed, has_unnamed}
+use Rattle.hum_score.specs.declared.spines.Sign.TheVariants.{Split, Join, Exchange, Add, End, Exclusive, Plain}
+use Rattle.hum_score.specs.Sign.{sign_of, is_join, is_exchange, is_exclusive}
+use Rattle.hum_score.specs.Spines.{exchanges}
+use Rattle.hum_score.specs.Rules.{first_is, is_pair_or_none, has_lone_join, mixes_join, has_mixed_join, stays_unnamed, has_unnamed}
 use Rattle.hum_path.specs.Places.{IsJoin, IsExchange, AreBeside, IsLone, AreMixed, StaysUnnamed, AreExchanged, AreRulesByPlace}
-use Rattle.hum_path.proofs.Cases.{by_bool}
+use Rattle.hum_score.proofs.Cases.{by_bool}
 
 -- tests of a token
 

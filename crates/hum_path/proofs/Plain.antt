@@ -6,14 +6,14 @@ use Rattle.std.specs.List.{list_any, list_all, find}
 use Rattle.std.proofs.lemmas.List.{drop_all, length-map}
 use Rattle.std.proofs.lemmas.Bool.{and_parts}
 use Rattle.std.proofs.lemmas.Bool.Decides.{nat_tests}
-use Rattle.hum_path.specs.declared.signs.Sign.{Sign}
-use Rattle.hum_path.specs.declared.signs.Sign.TheVariants.{Split, Join, Exchange, Add, End, Exclusive, Plain}
-use Rattle.hum_path.specs.declared.PathFault.TheVariants.{P1, P2, P3, P4, P5, P6, P7, P9, P10, P11}
-use Rattle.hum_path.specs.declared.moved.Move.{Move}
-use Rattle.hum_path.specs.declared.moved.Move.TheVariants.{Same}
-use Rattle.hum_path.specs.Sign.{sign_of, is_exclusive, is_plain, has_exclusive}
-use Rattle.hum_path.specs.Spines.{Spines, exchanges, heirs_from, same_upto, moves_under, renamed, names_after}
-use Rattle.hum_path.specs.Rules.{breaks, in_order}
+use Rattle.hum_score.specs.declared.spines.Sign.{Sign}
+use Rattle.hum_score.specs.declared.spines.Sign.TheVariants.{Split, Join, Exchange, Add, End, Exclusive, Plain}
+use Rattle.hum_score.specs.declared.spines.PathFault.TheVariants.{P1, P2, P3, P4, P5, P6, P7, P9, P10, P11}
+use Rattle.hum_score.specs.declared.spines.Move.{Move}
+use Rattle.hum_score.specs.declared.spines.Move.TheVariants.{Same}
+use Rattle.hum_score.specs.Sign.{sign_of, is_exclusive, is_plain, has_exclusive}
+use Rattle.hum_score.specs.Spines.{Spines, exchanges, heirs_from, same_upto, moves_under, renamed, names_after}
+use Rattle.hum_score.specs.Rules.{breaks, in_order}
 
 -- none passes the test
 pub find_head : {X : Type 0} (p : X → Bool) (x : X) (xs : List X) → find p (x ∷ xs) ≡ None

@@ -3,11 +3,11 @@ use Rattle.std.proofs.Common.{◌≡◌, ◌≢◌, ◌∙◌, refl, sym, subst,
 use Rattle.std.proofs.Common.{◌++◌, length, Option, Some, None, Result, Ok, Err, cond, arith}
 use Rattle.std.specs.List.{find}
 use Rattle.std.proofs.lemmas.Bool.Decides.{nat_tests}
-use Rattle.hum_path.specs.declared.PathFault.{PathFault}
-use Rattle.hum_path.specs.declared.PathFault.TheVariants.{P1, P2, P3, P4, P5, P6, P7, P8, P9, P10, P11, Memory}
+use Rattle.hum_score.specs.declared.spines.PathFault.{PathFault}
+use Rattle.hum_score.specs.declared.spines.PathFault.TheVariants.{P1, P2, P3, P4, P5, P6, P7, P8, P9, P10, P11, Memory}
 use Rattle.hum_path.specs.declared.steering.NextSpines.{NextSpines}
-use Rattle.hum_path.specs.Spines.{Path, Spines}
-use Rattle.hum_path.specs.Rules.{breaks, in_order, Refuses}
+use Rattle.hum_score.specs.Spines.{Path, Spines}
+use Rattle.hum_score.specs.Rules.{breaks, in_order, Refuses}
 use Rattle.hum_path.specs.Step.{IsStep}
 use Rattle.hum_path.specs.Asked.{on_signs, IsStepBy}
 

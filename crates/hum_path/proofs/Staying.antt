@@ -11,21 +11,23 @@ use Rattle.std.proofs.lemmas.List.{length-map}
 use lib.Chars.{codes}
 use Rattle.std.specs.declared.vec.Vec.{Vec}
 use Rattle.std.specs.declared.alloc.Global.{Global}
-use Rattle.hum_record.specs.declared.Kind.TheVariants.{Global as AnyGlobal, Values as AnyValues}
-use Rattle.hum_record.specs.declared.Kind.TheVariants.{Interpretation as AnyInterpretation}
-use Rattle.hum_record.specs.declared.SpinedKind.TheVariants.{Local, Interpretation, Values}
-use Rattle.hum_record.specs.declared.SpinedKind.{SpinedKind}
-use Rattle.hum_record.specs.Spelling.{is_empty, IsTextOf}
-use Rattle.hum_record.specs.Row.{Row, Comment, Spined, kind_of, tokens_of, text_of}
-use Rattle.hum_path.specs.declared.signs.Sign.{Sign}
-use Rattle.hum_path.specs.declared.signs.Sign.TheVariants.{Split, Join, Exchange, Add, End, Exclusive, Plain}
-use Rattle.hum_path.specs.declared.PathFault.TheVariants.{P1}
-use Rattle.hum_path.specs.Sign.{sign_of, is_exclusive, is_plain, all_plain, steers}
-use Rattle.hum_path.specs.Spines.{Path, Unopened, Spines, width, exchanges, moves, moves_under}
-use Rattle.hum_path.specs.Spines.{same_upto, after, exclusives, path_in, texts}
-use Rattle.hum_path.specs.Rules.{breaks, breaks_as_text, in_order, fault_of, has_bare, has_unnamed}
-use Rattle.hum_path.specs.Rules.{has_lone_join, has_mixed_join}
-use Rattle.hum_path.specs.Rules.{mixes_join}
+use Rattle.hum_score.specs.declared.records.Kind.TheVariants.{Global as AnyGlobal, Values as AnyValues}
+use Rattle.hum_score.specs.declared.records.Kind.TheVariants.{Interpretation as AnyInterpretation}
+use Rattle.hum_score.specs.declared.records.SpinedKind.TheVariants.{Local, Interpretation, Values}
+use Rattle.hum_score.specs.declared.records.SpinedKind.{SpinedKind}
+use Rattle.hum_score.specs.Spelling.{is_empty, IsTextOf}
+use Rattle.hum_score.specs.Row.{Row, Comment, Spined, kind_of, tokens_of, text_of}
+use Rattle.hum_score.specs.declared.spines.Sign.{Sign}
+use Rattle.hum_score.specs.declared.spines.Sign.TheVariants.{Split, Join, Exchange, Add, End, Exclusive, Plain}
+use Rattle.hum_score.specs.declared.spines.PathFault.TheVariants.{P1}
+use Rattle.hum_score.specs.Sign.{sign_of, is_exclusive, is_plain, all_plain, steers}
+use Rattle.hum_score.specs.Spines.{Path, Unopened, Spines, width, exchanges, moves, moves_under}
+use Rattle.hum_score.specs.Spines.{same_upto, after, exclusives}
+use Rattle.hum_path.specs.Tracked.{path_in}
+use Rattle.hum_score.specs.Texts.{texts}
+use Rattle.hum_score.specs.Rules.{breaks, breaks_as_text, in_order, fault_of, has_bare, has_unnamed}
+use Rattle.hum_score.specs.Rules.{has_lone_join, has_mixed_join}
+use Rattle.hum_score.specs.Rules.{mixes_join}
 use Rattle.hum_path.specs.Step.{ComeFrom, IsStay, IsTidy}
 use Rattle.hum_path.proofs.Plain.{sound_width, plain_moves, plain_stays, not_exclusive}
 use Rattle.hum_path.proofs.Steady.{same_upto_length}

@@ -1,9 +1,9 @@
 -- Spines that stay where they are.
 use Rattle.std.proofs.Common.{◌≡◌, ◌∙◌, ℕ, zero, suc, ◌+◌, ◌<◌, List, [], ◌∷◌, length, refl, ap}
 use Rattle.std.proofs.Common.{arith, Some, slice_get, ◌++◌, ◌-◌, append_assoc}
-use Rattle.hum_path.specs.declared.moved.Move.{Move}
-use Rattle.hum_path.specs.declared.moved.Move.TheVariants.{Same}
-use Rattle.hum_path.specs.Spines.{same_upto}
+use Rattle.hum_score.specs.declared.spines.Move.{Move}
+use Rattle.hum_score.specs.declared.spines.Move.TheVariants.{Same}
+use Rattle.hum_score.specs.Spines.{same_upto}
 
 pub same_upto_length : (j n : ℕ) → length (same_upto j n) ≡ n
 same_upto_length j zero = refl

@@ -9,19 +9,19 @@ use Rattle.std.proofs.lemmas.Bool.Decides.{nat_tests}
 use Rattle.std.proofs.lemmas.List.{reverse-append, get_or-map}
 use Rattle.std.proofs.lemmas.List.Sums.{position_or_len_is, passes_at_first}
 use Rattle.std.proofs.lemmas.Option.{slice_get_within, get_or_from_slice_get, slice_get-get_or}
-use Rattle.hum_record.specs.declared.SpinedKind.TheVariants.{Local, Interpretation, Values}
-use Rattle.hum_record.specs.Row.{Row, Comment, Spined}
-use Rattle.hum_path.specs.declared.signs.Sign.{Sign}
-use Rattle.hum_path.specs.declared.signs.Sign.TheVariants.{Split, Join, Exchange, Add, End, Exclusive, Plain}
-use Rattle.hum_path.specs.declared.moved.Move.{Move}
-use Rattle.hum_path.specs.declared.moved.Move.TheVariants.{Same, Left, Right, Join as Joined, Added}
-use Rattle.hum_path.specs.Sign.{sign_of}
-use Rattle.hum_path.specs.Spines.{Path, Unopened, Spines, exchanges, partner, joins_at_front, heirs_from, same_upto, moves_at, moves_under}
-use Rattle.hum_path.specs.Rules.{fault_of, is_pair_or_none}
-use Rattle.hum_path.specs.Score.{IsOpen, path_after, passed}
+use Rattle.hum_score.specs.declared.records.SpinedKind.TheVariants.{Local, Interpretation, Values}
+use Rattle.hum_score.specs.Row.{Row, Comment, Spined}
+use Rattle.hum_score.specs.declared.spines.Sign.{Sign}
+use Rattle.hum_score.specs.declared.spines.Sign.TheVariants.{Split, Join, Exchange, Add, End, Exclusive, Plain}
+use Rattle.hum_score.specs.declared.spines.Move.{Move}
+use Rattle.hum_score.specs.declared.spines.Move.TheVariants.{Same, Left, Right, Join as Joined, Added}
+use Rattle.hum_score.specs.Sign.{sign_of}
+use Rattle.hum_score.specs.Spines.{Path, Unopened, Spines, exchanges, partner, joins_at_front, heirs_from, same_upto, moves_at, moves_under}
+use Rattle.hum_score.specs.Rules.{fault_of, is_pair_or_none}
+use Rattle.hum_score.specs.Score.{IsOpen, path_after, passed}
 use Rattle.hum_path.specs.Chains.{chain_of, columns, longer, history, goes_on, future}
 use Rattle.hum_path.specs.Turned.{above_of, place_above, place_below, IsJoinedFromRight, StepsTurn, ColumnsTurn}
-use Rattle.hum_path.proofs.Cases.{by_bool}
+use Rattle.hum_score.proofs.Cases.{by_bool}
 use Rattle.hum_path.proofs.Obeyed.{obeys}
 use Rattle.hum_path.proofs.Widths.{text_width, moves_width, columns_width}
 

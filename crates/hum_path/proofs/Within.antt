@@ -4,16 +4,17 @@ use Rattle.std.proofs.Common.{◌++◌, length, map, arith, inl, inr, ◌==◌, 
 use Rattle.std.proofs.lemmas.List.{length-map}
 use Rattle.std.specs.List.{AllByRecursion, find}
 use Rattle.std.proofs.lemmas.Bool.{cases_Bool}
-use Rattle.hum_path.specs.declared.signs.Sign.{Sign}
-use Rattle.hum_path.specs.declared.signs.Sign.TheVariants.{Split, Join, Exchange, Add, End, Exclusive, Plain}
-use Rattle.hum_path.specs.declared.moved.Move.{Move}
-use Rattle.hum_record.specs.declared.SpinedKind.TheVariants.{Local, Interpretation, Values}
-use Rattle.hum_record.specs.Row.{Row, Comment, Spined, tokens_of}
-use Rattle.hum_path.specs.Sign.{sign_of, is_join, is_exchange, steers}
+use Rattle.hum_score.specs.declared.spines.Sign.{Sign}
+use Rattle.hum_score.specs.declared.spines.Sign.TheVariants.{Split, Join, Exchange, Add, End, Exclusive, Plain}
+use Rattle.hum_score.specs.declared.spines.Move.{Move}
+use Rattle.hum_score.specs.declared.records.SpinedKind.TheVariants.{Local, Interpretation, Values}
+use Rattle.hum_score.specs.Row.{Row, Comment, Spined, tokens_of}
+use Rattle.hum_score.specs.Sign.{sign_of, is_join, is_exchange, steers}
 use Rattle.hum_path.specs.Step.{ComeFrom}
-use Rattle.hum_path.specs.Spines.{Path, Unopened, Spines, exchanges, partner, heirs, heirs_from}
-use Rattle.hum_path.specs.Spines.{same_upto, moves_at, moves, after, names_after, source, Tracked}
-use Rattle.hum_path.specs.Rules.{breaks, in_order, fault_of}
+use Rattle.hum_score.specs.Spines.{Path, Unopened, Spines, exchanges, partner, heirs, heirs_from}
+use Rattle.hum_score.specs.Spines.{same_upto, moves_at, moves, after, names_after, source}
+use Rattle.hum_path.specs.Tracked.{Tracked}
+use Rattle.hum_score.specs.Rules.{breaks, in_order, fault_of}
 
 -- moves that come from places below n
 abbrev pub From : ℕ → List Move → Type 0

@@ -1,10 +1,11 @@
 -- The rules on what the tokens of an interpretation ask of the spines.
 use Rattle.std.specs.Prelude.{◌≡◌, ◌≤◌, ℕ, List, [], ◌∷◌, length, Option, None, Result, Ok, Err}
-use Rattle.hum_path.specs.declared.PathFault.{PathFault}
-use Rattle.hum_path.specs.declared.PathFault.TheVariants.{P3, P4, P5, P6, P10, P11}
+use Rattle.hum_score.specs.declared.spines.PathFault.{PathFault}
+use Rattle.hum_score.specs.declared.spines.PathFault.TheVariants.{P3, P4, P5, P6, P10, P11}
 use Rattle.hum_path.specs.declared.steering.NextSpines.{NextSpines}
-use Rattle.hum_path.specs.Spines.{Path, moves_at, names_after, texts}
-use Rattle.hum_path.specs.Rules.{Refuses}
+use Rattle.hum_score.specs.Spines.{Path, moves_at, names_after}
+use Rattle.hum_score.specs.Texts.{texts}
+use Rattle.hum_score.specs.Rules.{Refuses}
 
 -- their order, where an interpretation is as wide as the spines
 abbrev pub on_signs : List PathFault

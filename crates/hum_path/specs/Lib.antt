@@ -1,8 +1,5 @@
-pub mod Sign
-pub mod Spines
+pub mod Tracked
 pub mod Onward
-pub mod Rules
-pub mod Score
 pub mod Places
 pub mod Chains
 pub mod Turned

@@ -1,10 +1,10 @@
 -- What is remembered of columns: one memory for each spine.
 use Rattle.std.specs.Prelude.{◌≡◌, ℕ, Bool, List, [], ◌∷◌, map, slice_index_or}
-use Rattle.hum_record.specs.Row.{Row}
-use Rattle.hum_path.specs.declared.moved.Move.{Move}
-use Rattle.hum_path.specs.declared.moved.Move.TheVariants.{Same, Left, Right, Join as Joined, Added}
-use Rattle.hum_path.specs.Spines.{moves}
-use Rattle.hum_path.specs.Score.{path_after}
+use Rattle.hum_score.specs.Row.{Row}
+use Rattle.hum_score.specs.declared.spines.Move.{Move}
+use Rattle.hum_score.specs.declared.spines.Move.TheVariants.{Same, Left, Right, Join as Joined, Added}
+use Rattle.hum_score.specs.Spines.{moves}
+use Rattle.hum_score.specs.Score.{path_after}
 use Rattle.hum_path.specs.Chains.{columns}
 
 -- What is remembered of a chain whose nearest cell comes first: the farthest is seen first.

@@ -1,13 +1,13 @@
 -- What spines have, carried on under signs.
 use Rattle.std.specs.Prelude.{◌≡◌, ℕ, ◌+◌, Bool, not, ◌&&◌, if◌then◌else◌}
 use Rattle.std.specs.Prelude.{List, [], ◌∷◌, ◌++◌, slice_index_or}
-use Rattle.hum_path.specs.declared.signs.Sign.{Sign}
-use Rattle.hum_path.specs.declared.signs.Sign.TheVariants.{Split, Join, Exchange, Add, End}
-use Rattle.hum_path.specs.declared.signs.Sign.TheVariants.{Exclusive, Plain}
-use Rattle.hum_path.specs.declared.moved.Move.{Move}
-use Rattle.hum_path.specs.declared.moved.Move.TheVariants.{Same, Left, Right, Join as Joined, Added}
-use Rattle.hum_path.specs.Sign.{sign_of, is_join, is_exchange, is_exclusive}
-use Rattle.hum_path.specs.Spines.{partner}
+use Rattle.hum_score.specs.declared.spines.Sign.{Sign}
+use Rattle.hum_score.specs.declared.spines.Sign.TheVariants.{Split, Join, Exchange, Add, End}
+use Rattle.hum_score.specs.declared.spines.Sign.TheVariants.{Exclusive, Plain}
+use Rattle.hum_score.specs.declared.spines.Move.{Move}
+use Rattle.hum_score.specs.declared.spines.Move.TheVariants.{Same, Left, Right, Join as Joined, Added}
+use Rattle.hum_score.specs.Sign.{sign_of, is_join, is_exchange, is_exclusive}
+use Rattle.hum_score.specs.Spines.{partner}
 
 -- for each sign, whether it begins a join
 abbrev pub beginnings : Bool → List Sign → List Bool

@@ -2,10 +2,10 @@
 use Rattle.std.specs.Prelude.{◌≡◌, ◌≢◌, ℕ, ◌+◌, ◌<◌, ◌⊎◌, ◌↔◌, true}
 use Rattle.std.specs.Prelude.{List, [], length, slice_index_or}
 use lib.Chars.{codes}
-use Rattle.hum_path.specs.declared.PathFault.TheVariants.{P3, P4, P5, P6}
-use Rattle.hum_path.specs.Sign.{sign_of, is_exclusive}
-use Rattle.hum_path.specs.Spines.{Spines}
-use Rattle.hum_path.specs.Rules.{breaks}
+use Rattle.hum_score.specs.declared.spines.PathFault.TheVariants.{P3, P4, P5, P6}
+use Rattle.hum_score.specs.Sign.{sign_of, is_exclusive}
+use Rattle.hum_score.specs.Spines.{Spines}
+use Rattle.hum_score.specs.Rules.{breaks}
 
 -- the token of a record at place j, from 0
 abbrev pub token_at : List (List ℕ) → ℕ → List ℕ

@@ -5,17 +5,19 @@ use Rattle.std.specs.List.{list_any, find, AllByRecursion}
 use Rattle.std.specs.declared.vec.Vec.{Vec}
 use Rattle.std.specs.declared.alloc.Global.{Global}
 use Rattle.std.specs.declared.alloc.AllocError.{AllocError}
-use Rattle.hum_record.specs.declared.Kind.TheVariants.{Values}
-use Rattle.hum_record.specs.Row.{Row, Comment, Spined, kind_of, text_of, width_of}
-use Rattle.hum_record.specs.Spelling.{IsTextOf, is_empty}
-use Rattle.hum_path.specs.declared.moved.Move.{Move}
+use Rattle.hum_score.specs.declared.records.Kind.TheVariants.{Values}
+use Rattle.hum_score.specs.Row.{Row, Comment, Spined, kind_of, text_of, width_of}
+use Rattle.hum_score.specs.Spelling.{IsTextOf, is_empty}
+use Rattle.hum_score.specs.declared.spines.Move.{Move}
 use Rattle.hum_path.specs.declared.moved.Moves.{Moves}
-use Rattle.hum_path.specs.declared.PathFault.{PathFault}
-use Rattle.hum_path.specs.declared.PathFault.TheVariants.{Memory}
+use Rattle.hum_score.specs.declared.spines.PathFault.{PathFault}
+use Rattle.hum_score.specs.declared.spines.PathFault.TheVariants.{Memory}
 use Rattle.hum_path.specs.declared.steering.NextSpines.{NextSpines}
-use Rattle.hum_path.specs.Sign.{steers}
-use Rattle.hum_path.specs.Spines.{Path, Tracked, moves, after, source, texts}
-use Rattle.hum_path.specs.Rules.{fault_of, breaks, in_order, Refuses}
+use Rattle.hum_score.specs.Sign.{steers}
+use Rattle.hum_score.specs.Spines.{Path, moves, after, source}
+use Rattle.hum_path.specs.Tracked.{Tracked}
+use Rattle.hum_score.specs.Texts.{texts}
+use Rattle.hum_score.specs.Rules.{fault_of, breaks, in_order, Refuses}
 use Rattle.hum_path.specs.Asked.{IsStepBy}
 
 -- each spine comes from one under a token of the record; a global comment has no tokens

@@ -2,13 +2,13 @@
 use Rattle.std.specs.Prelude.{◌≡◌, ℕ, ◌<◌, ◌≤◌, ◌⊎◌, List, [], ◌∷◌, ◌++◌, reverse}
 use Rattle.std.specs.Prelude.{Option, Some, None, slice_get}
 use Rattle.std.specs.List.{position}
-use Rattle.hum_record.specs.declared.SpinedKind.TheVariants.{Interpretation}
-use Rattle.hum_record.specs.Row.{Row, Comment, Spined}
-use Rattle.hum_path.specs.declared.moved.Move.{Move}
-use Rattle.hum_path.specs.declared.moved.Move.TheVariants.{Same, Left, Right, Join as Joined, Added}
-use Rattle.hum_path.specs.Spines.{Path, moves_at, after, width}
-use Rattle.hum_path.specs.Rules.{fault_of}
-use Rattle.hum_path.specs.Score.{IsOpen, path_after, passed}
+use Rattle.hum_score.specs.declared.records.SpinedKind.TheVariants.{Interpretation}
+use Rattle.hum_score.specs.Row.{Row, Comment, Spined}
+use Rattle.hum_score.specs.declared.spines.Move.{Move}
+use Rattle.hum_score.specs.declared.spines.Move.TheVariants.{Same, Left, Right, Join as Joined, Added}
+use Rattle.hum_score.specs.Spines.{Path, moves_at, after, width}
+use Rattle.hum_score.specs.Rules.{fault_of}
+use Rattle.hum_score.specs.Score.{IsOpen, path_after, passed}
 use Rattle.hum_path.specs.Chains.{goes_on, history, future}
 
 -- where the spine that comes by a move has its cell above; an added spine has none

@@ -2,14 +2,16 @@
 ghost use Rattle.std.specs.Prelude.{◌≡◌, ◌<◌, true, false, map, length, List, [], ℕ};
 ghost use Rattle.std.specs.Prelude.{slice_index_or, slice_get, slice_set, Some, IsTrue, IsErr, OnOk, OnErr, IfOk};
 ghost use Rattle.std.specs.List.{AllByRecursion};
-ghost use Rattle.hum_record.specs.declared.{SpinedKind.SpinedKind, Kind.TheVariants.Interpretation};
-ghost use Rattle.hum_record.specs.Row.{kind_of, width_of, tokens_of};
-ghost use Rattle.hum_record.specs.Spelling.{IsToken};
-ghost use Rattle.hum_path.specs.{Spines.source, Spines.same_upto, Step.ComeFrom};
+ghost use Rattle.hum_score.specs.declared.records.{SpinedKind.SpinedKind, Kind.TheVariants.Interpretation};
+ghost use Rattle.hum_score.specs.Row.{kind_of, width_of, tokens_of};
+ghost use Rattle.hum_score.specs.Spelling.{IsToken};
+ghost use Rattle.hum_score.specs.{Spines.source, Spines.same_upto};
+ghost use Rattle.hum_path.specs.{Step.ComeFrom};
 ghost use Rattle.hum_path.specs.Memories.{memory_of, seen_each, GoOn};
 
-use crate::moved::{Move, Moves};
-use hum_record::{Kind, Record};
+use crate::moved::Moves;
+use hum_record::Record;
+use hum_score::{Kind, Move};
 use std::alloc::{AllocError, Global};
 use std::marker::Model;
 

@@ -1,8 +1,10 @@
 //! What holds of every record and of every score, as contracts.
 ghost use Rattle.std.specs.Prelude.{ℕ, List};
-ghost use Rattle.hum_record.specs.Row.{Row};
-ghost use Rattle.hum_path.specs.{Spines.Path, Places.AreRulesByPlace, Turned.StepsTurn};
-ghost use Rattle.hum_path.specs.{Turned.ColumnsTurn, Score.IsOpen, Chains.origins};
+ghost use Rattle.hum_score.specs.Row.{Row};
+ghost use Rattle.hum_score.specs.{Spines.Path};
+ghost use Rattle.hum_path.specs.{Places.AreRulesByPlace, Turned.StepsTurn};
+ghost use Rattle.hum_path.specs.{Turned.ColumnsTurn, Chains.origins};
+ghost use Rattle.hum_score.specs.{Score.IsOpen};
 ghost use Rattle.hum_path.specs.{Origins.AreOrigins};
 
 /// Of an interpretation after others: P3 is broken exactly where some `*v` has no `*v` beside it;

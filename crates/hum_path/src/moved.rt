@@ -1,23 +1,9 @@
 //! Where the spines after a record come from.
 ghost use Rattle.std.specs.Prelude.{◌≡◌, ◌==◌, ◌<◌, ◌≤◌, Some, length, slice_get, IfSome, IfNone};
-ghost use Rattle.hum_path.specs.Spines.{same_upto};
+ghost use Rattle.hum_score.specs.Spines.{same_upto};
 
+use hum_score::Move;
 use std::marker::Model;
-
-/// Where a spine after a record comes from. Spines are counted from 0, from the left.
-#[derive(Clone, Copy, Debug, PartialEq, Eq)]
-pub enum Move {
-    /// It is that spine.
-    Same(u16),
-    /// It is the left child of that spine.
-    Left(u16),
-    /// It is the right child of that spine.
-    Right(u16),
-    /// It is what the spines from the first to the last are joined to.
-    Join(u16, u16),
-    /// It was added to the right of that spine.
-    Added(u16),
-}
 
 /// For each spine after a record, where it comes from.
 pub struct Moves {
@@ -38,8 +24,8 @@ impl Drop for Moves {
 
 impl Model for Moves {
     ghost use Rattle.std.specs.Prelude.{List, ◌≤◌};
-    ghost use Rattle.hum_path.specs.declared.moved.Move.{Move};
-    ghost use Rattle.hum_path.specs.Spines.{moves_in};
+    ghost use Rattle.hum_score.specs.declared.spines.Move.{Move};
+    ghost use Rattle.hum_path.specs.Tracked.{moves_in};
 
     ghost Value = { List Move };
 

@@ -1,13 +1,15 @@
 //! The opening spine that each spine comes from.
 ghost use Rattle.std.specs.Prelude.{◌≡◌, ◌∷◌, ◌<◌, map, length, List, [], Some, slice_get, false};
 ghost use Rattle.std.specs.Prelude.{IsTrue, IsErr, OnOk, OnErr, IfOk};
-ghost use Rattle.hum_record.specs.Row.{Row};
-ghost use Rattle.hum_path.specs.{Spines.moves, Score.IsOpen, Score.path_after, Chains.origin_of};
+ghost use Rattle.hum_score.specs.Row.{Row};
+ghost use Rattle.hum_score.specs.{Spines.moves, Score.IsOpen, Score.path_after};
+ghost use Rattle.hum_path.specs.{Chains.origin_of};
 ghost use Rattle.hum_path.specs.{Origins.origin, Origins.AreOrigins};
 
 use crate::carried::moves_some;
-use crate::moved::{Move, Moves};
+use crate::moved::Moves;
 use hum_record::Record;
+use hum_score::Move;
 use std::alloc::{AllocError, Global};
 use std::marker::Model;
 

@@ -1,25 +1,28 @@
 //! The tests of the path rules.
 ghost use Rattle.std.specs.Prelude.{◌≡◌, ◌≢◌, ◌<◌, length, drop, false, map, IfOk, IfSome};
 ghost use Rattle.std.specs.List.{list_any, list_all, find};
-ghost use Rattle.hum_path.specs.declared.PathFault.TheVariants.{Memory};
-ghost use Rattle.hum_path.specs.Sign.{sign_of, is_exclusive, is_path_indicator};
-ghost use Rattle.hum_path.specs.Spines.{Unopened, Spines, exchanges, path_in, texts};
-ghost use Rattle.hum_path.specs.Rules.{has_bare, stays_unnamed, has_unnamed, has_lone_join};
-ghost use Rattle.hum_path.specs.Rules.{mixes_join, has_mixed_join, names_and_steers, breaks};
-ghost use Rattle.hum_path.specs.Rules.{breaks_as_text, in_order};
+ghost use Rattle.hum_score.specs.declared.spines.PathFault.TheVariants.{Memory};
+ghost use Rattle.hum_score.specs.Sign.{sign_of, is_exclusive, is_path_indicator};
+ghost use Rattle.hum_score.specs.Spines.{Unopened, Spines, exchanges};
+ghost use Rattle.hum_path.specs.Tracked.{path_in};
+ghost use Rattle.hum_score.specs.Texts.{texts};
+ghost use Rattle.hum_score.specs.Rules.{has_bare, stays_unnamed, has_unnamed, has_lone_join};
+ghost use Rattle.hum_score.specs.Rules.{mixes_join, has_mixed_join, names_and_steers, breaks};
+ghost use Rattle.hum_score.specs.Rules.{breaks_as_text, in_order};
 ghost use Rattle.hum_path.specs.Asked.{on_signs};
-ghost use Rattle.hum_record.specs.{Spelling.is_empty, Row.tokens_of};
+ghost use Rattle.hum_score.specs.{Spelling.is_empty, Row.tokens_of};
 
-use crate::signs::{Sign, has_exclusive, token_sign};
-use crate::{MOST_SPINES, PathFault};
+use crate::MOST_SPINES;
+use crate::signs::has_exclusive;
 use hum_record::Record;
+use hum_score::{PathFault, Sign, token_sign};
 use std::alloc::{AllocError, Global};
 
 /// What each token of a record asks of the spines.
 pub(crate) fn signs(alloc: Global, row: &Record) -> Result<Vec<Sign>, AllocError>
     ensures { IfOk result (λ v. v.items ≡ map sign_of (tokens_of row.now)) }
 {
-    row.tokens().map(token_sign).collect(alloc)
+    row.tokens().map(|token| token_sign(token)).collect(alloc)
 }
 
 /// Whether an exclusive interpretation has no name.
@@ -92,7 +95,9 @@ fn has_mixed_join(names: &[Vec<u8>], signs: &[Sign]) -> bool
 fn all_exclusive(row: &Record) -> bool
     ensures { result ≡ list_all is_exclusive (map sign_of (tokens_of row.now)) }
 {
-    row.tokens().map(token_sign).all(|sign| sign.is_exclusive())
+    row.tokens()
+        .map(|token| token_sign(token))
+        .all(|sign| sign.is_exclusive())
 }
 
 /// Whether an exclusive interpretation stands beside a path indicator.

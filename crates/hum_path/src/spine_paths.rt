@@ -4,19 +4,19 @@ ghost use Rattle.std.specs.Prelude.{slice_index_or, Ok, Err, None, IfOk, IfErr, 
 ghost use Rattle.std.specs.Prelude.{◌==◌, ◌&&◌, not, length};
 ghost use Rattle.std.specs.List.{list_any};
 ghost use Rattle.std.specs.Allocator.{alloc_error};
-ghost use Rattle.hum_record.specs.Spelling.{is_empty};
-ghost use Rattle.hum_path.specs.Sign.{steers};
-ghost use Rattle.hum_path.specs.Spines.{Unopened, exclusives, width, moves, after};
-ghost use Rattle.hum_path.specs.Rules.{fault_of, Refuses, is_unfinished, is_closed};
+ghost use Rattle.hum_score.specs.Spelling.{is_empty};
+ghost use Rattle.hum_score.specs.Sign.{steers};
+ghost use Rattle.hum_score.specs.Spines.{Unopened, exclusives, width, moves, after};
+ghost use Rattle.hum_score.specs.Rules.{fault_of, Refuses, is_unfinished, is_closed};
 ghost use Rattle.hum_path.specs.Step.{ComeFrom, HasFollowed, HasSteered, IsStay, KeepsData};
-ghost use Rattle.hum_path.specs.declared.PathFault.TheVariants.{Memory, P8};
+ghost use Rattle.hum_score.specs.declared.spines.PathFault.TheVariants.{Memory, P8};
 
-use crate::PathFault;
 use crate::moved::Moves;
 use crate::rules::{has_nameless, text_fault};
 use crate::signs::steers;
 use crate::steering::{NextSpines, spines_after};
-use hum_record::{Kind, Record};
+use hum_record::Record;
+use hum_score::{Kind, PathFault};
 use std::alloc::{AllocError, Global};
 use std::marker::Model;
 
@@ -42,7 +42,8 @@ pub struct Paths {
 }
 
 impl Model for Paths {
-    ghost use Rattle.hum_path.specs.Spines.{Tracked, path_in, texts};
+    ghost use Rattle.hum_path.specs.Tracked.{Tracked, path_in};
+    ghost use Rattle.hum_score.specs.Texts.{texts};
     ghost use Rattle.hum_path.specs.Step.{IsTidy};
 
     ghost Value = { Tracked };
@@ -117,7 +118,6 @@ impl Paths {
     }
 
     /// The same of data with so many tokens.
-    #[inline]
     pub fn keeps_data(&self, width: usize) -> bool
         ensures keeps { result ≡ true → KeepsData self.now.path width }
         ensures exact { result ≡ (width == length (exclusives self.now.path)

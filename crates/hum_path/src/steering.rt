@@ -2,18 +2,19 @@
 ghost use Rattle.std.specs.Prelude.{◌≡◌, ◌≢◌, ◌+◌, ◌<◌, ◌≤◌, [], ◌∷◌, ◌++◌, false, map, length};
 ghost use Rattle.std.specs.Prelude.{slice_index_or, IfOk, OnOk};
 ghost use Rattle.std.specs.List.{find};
-ghost use Rattle.hum_record.specs.Row.{tokens_of};
-ghost use Rattle.hum_path.specs.Spines.{exchanges, joins_at_front, partner, heirs, heirs_from};
-ghost use Rattle.hum_path.specs.Spines.{same_upto, renamed, moves_at, path_in, Unopened, Spines};
-ghost use Rattle.hum_path.specs.Spines.{texts};
-ghost use Rattle.hum_path.specs.{Sign.sign_of, Rules.breaks, Asked.IsStepBy, Step.IsStep};
-ghost use Rattle.hum_path.specs.declared.PathFault.TheVariants.{P9};
+ghost use Rattle.hum_score.specs.Row.{tokens_of};
+ghost use Rattle.hum_score.specs.Spines.{exchanges, joins_at_front, partner, heirs, heirs_from};
+ghost use Rattle.hum_score.specs.Spines.{same_upto, renamed, moves_at, Unopened, Spines};
+ghost use Rattle.hum_path.specs.Tracked.{path_in};
+ghost use Rattle.hum_score.specs.Texts.{texts};
+ghost use Rattle.hum_score.specs.{Sign.sign_of, Rules.breaks};
+ghost use Rattle.hum_path.specs.{Asked.IsStepBy, Step.IsStep};
+ghost use Rattle.hum_score.specs.declared.spines.PathFault.TheVariants.{P9};
 
-use crate::moved::Move;
+use crate::MOST_SPINES;
 use crate::rules::{opening_fault, sign_fault, signs};
-use crate::signs::{Sign, token_sign};
-use crate::{MOST_SPINES, PathFault};
 use hum_record::Record;
+use hum_score::{Move, PathFault, Sign, token_sign};
 use std::alloc::{AllocError, Global};
 
 /// Where the spines come from, and their exclusive interpretations.

@@ -1,6 +1,6 @@
 -- What assemble means in a plan.
 use Rattle.std.proofs.Common.{◌≡◌, ◌∙◌, refl, ◌+◌, List, map, Option, Some}
-use Rattle.hum_record.specs.Row.{Row}
+use Rattle.hum_score.specs.Row.{Row}
 use Rattle.hum_stage.specs.declared.faults.Fault.{Fault}
 use Rattle.hum_assemble.specs.Meaning.{output, own_fault}
 use Rattle.hum_assemble.specs.Groups.{by_groups, fault_by_groups}

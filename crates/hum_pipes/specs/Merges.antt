@@ -1,6 +1,6 @@
 -- What assemble means in a plan: the groups of what its sources mean.
 use Rattle.std.specs.Prelude.{◌≡◌, ℕ, ◌+◌, ◌<◌, List, map, length, Some}
-use Rattle.hum_record.specs.Row.{Row}
+use Rattle.hum_score.specs.Row.{Row}
 use Rattle.hum_assemble.specs.Groups.{by_groups, fault_by_groups}
 use Rattle.hum_turns.specs.Flow.{Flow}
 use Rattle.hum_turns.specs.Plan.{inputs_end, or_own}

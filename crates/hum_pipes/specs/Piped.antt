@@ -1,7 +1,7 @@
 -- Two plans of which the second reads the first's text, and one plan with the stages of both.
 use Rattle.std.specs.Prelude.{◌≡◌, ℕ, pred, ◌+◌, ◌≤◌, List, ◌∷◌, ◌++◌, map, length, Some}
 use Rattle.std.specs.Option.{option_map}
-use Rattle.hum_record.specs.Row.{Row, text_of}
+use Rattle.hum_score.specs.Row.{Row, text_of}
 use Rattle.hum_stage.specs.declared.faults.Fault.{Fault}
 use Rattle.hum_stage.specs.declared.faults.End.{End}
 use Rattle.hum_stage.specs.declared.faults.End.TheVariants.{Closed, Broken}

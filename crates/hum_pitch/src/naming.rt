@@ -134,7 +134,6 @@ fn shown(is_shown: bool, repeated: Repeated) -> Repeated
 }
 
 /// Writes a number of any size behind a text.
-#[inline(never)]
 fn push_large(text: &mut Vec<u8>, number: u32) -> Result<(), AllocError>
     ensures { OnOk result (text.new.items ≡ text.old.items ++ decimal number) }
 {

@@ -83,7 +83,6 @@ pub(crate) fn push_repeated(text: &mut Vec<u8>, repeated: Repeated) -> Result<()
 ///
 /// # Errors
 /// Out of memory.
-#[inline]
 pub fn push_pitch(text: &mut Vec<u8>, pitch: Pitch) -> Result<(), AllocError>
     ensures written { OnOk result (text.new.items ≡ text.old.items ++ spelling (spelled pitch)) }
     ensures read { OnOk result (read_pitch (spelling (spelled pitch)) ≡ Some (spelled pitch)) }

@@ -28,7 +28,6 @@ const PERFECT: [bool; MOST] = [
 ];
 
 /// The semitones of the perfect or major interval of so many steps.
-#[inline(always)]
 pub(crate) fn natural_width(steps: u32) -> u8
     requires { steps ≤ 111 }
     ensures exact { result ≡ natural_width steps }
@@ -38,7 +37,6 @@ pub(crate) fn natural_width(steps: u32) -> u8
 }
 
 /// Whether intervals of so many steps are perfect, and not major or minor.
-#[inline(always)]
 pub(crate) fn can_be_perfect(steps: u32) -> bool
     requires { steps ≤ 111 }
     ensures { result ≡ can_be_perfect steps }

@@ -5,18 +5,18 @@ use Rattle.std.proofs.Common.{Option, None, slice_get}
 use Rattle.std.proofs.lemmas.Bool.Decides.{nat_tests}
 use Rattle.std.specs.Str.{bytes_eq}
 use lib.Chars.{codes}
-use Rattle.hum_record.specs.declared.SpinedKind.TheVariants.{Local, Interpretation, Values}
-use Rattle.hum_record.specs.Row.{Row, Comment, Spined}
-use Rattle.hum_path.specs.declared.signs.Sign.{Sign}
-use Rattle.hum_path.specs.declared.signs.Sign.TheVariants.{Split, Join, Exchange, Add, End, Exclusive, Plain}
-use Rattle.hum_path.specs.declared.moved.Move.{Move}
-use Rattle.hum_path.specs.Sign.{sign_of}
+use Rattle.hum_score.specs.declared.records.SpinedKind.TheVariants.{Local, Interpretation, Values}
+use Rattle.hum_score.specs.Row.{Row, Comment, Spined}
+use Rattle.hum_score.specs.declared.spines.Sign.{Sign}
+use Rattle.hum_score.specs.declared.spines.Sign.TheVariants.{Split, Join, Exchange, Add, End, Exclusive, Plain}
+use Rattle.hum_score.specs.declared.spines.Move.{Move}
+use Rattle.hum_score.specs.Sign.{sign_of}
 use Rattle.hum_path.specs.Places.{token_at, IsExchange, AreExchanged}
-use Rattle.hum_path.specs.Spines.{Path, Unopened, Spines, width, exchanges, heirs, moves_at, same_upto}
-use Rattle.hum_path.specs.Rules.{fault_of, is_pair_or_none}
-use Rattle.hum_path.specs.Score.{IsOpen, path_after}
+use Rattle.hum_score.specs.Spines.{Path, Unopened, Spines, width, exchanges, heirs, moves_at, same_upto}
+use Rattle.hum_score.specs.Rules.{fault_of, is_pair_or_none}
+use Rattle.hum_score.specs.Score.{IsOpen, path_after}
 use Rattle.hum_path.specs.Origins.{up, origin}
-use Rattle.hum_path.proofs.Cases.{by_bool}
+use Rattle.hum_score.proofs.Cases.{by_bool}
 use Rattle.hum_path.proofs.Obeyed.{obeys}
 use Rattle.hum_path.proofs.Places.{rules_by_place}
 use Rattle.hum_path.proofs.Plain.{sound_width}

@@ -8,15 +8,15 @@ use lib.Chars.{codes}
 use Rattle.std.proofs.lemmas.Bool.Decides.{nat_tests}
 use Rattle.std.proofs.lemmas.List.{length-append}
 use Rattle.std.proofs.lemmas.Slice.Eq.{bytes_eq-Decides}
-use Rattle.hum_path.specs.declared.signs.Sign.{Sign}
-use Rattle.hum_path.specs.declared.signs.Sign.TheVariants.{Split, Join, Exchange, Add, End, Exclusive, Plain}
-use Rattle.hum_path.specs.declared.moved.Move.{Move}
-use Rattle.hum_path.specs.declared.moved.Move.TheVariants.{Same, Left, Right, Join as Joined, Added}
-use Rattle.hum_path.specs.Sign.{sign_of, is_join, is_exchange}
+use Rattle.hum_score.specs.declared.spines.Sign.{Sign}
+use Rattle.hum_score.specs.declared.spines.Sign.TheVariants.{Split, Join, Exchange, Add, End, Exclusive, Plain}
+use Rattle.hum_score.specs.declared.spines.Move.{Move}
+use Rattle.hum_score.specs.declared.spines.Move.TheVariants.{Same, Left, Right, Join as Joined, Added}
+use Rattle.hum_score.specs.Sign.{sign_of, is_join, is_exchange}
 use Rattle.hum_path.specs.Places.{token_at, IsJoin, IsExchange}
-use Rattle.hum_path.specs.Spines.{Spines, exchanges, partner, joins_at_front, heirs, heirs_from, moves_at}
-use Rattle.hum_path.specs.Rules.{is_pair_or_none}
-use Rattle.hum_path.proofs.Cases.{by_bool}
+use Rattle.hum_score.specs.Spines.{Spines, exchanges, partner, joins_at_front, heirs, heirs_from, moves_at}
+use Rattle.hum_score.specs.Rules.{is_pair_or_none}
+use Rattle.hum_score.proofs.Cases.{by_bool}
 use Rattle.hum_path.proofs.Obeyed.{obeys}
 use Rattle.hum_places.specs.Heirs.{place_below, width_below, IsRun, IsQuiet, StepsByPlace}
 

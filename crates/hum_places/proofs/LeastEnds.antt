@@ -1,7 +1,7 @@
 -- The next end is the least after a time.
 use Rattle.std.proofs.Common.{◌≡◌, refl, sym, subst, ℕ, zero, suc, ◌<◌, List, [], ◌∷◌, Option, None, Some, true, false, slice_get, arith}
 use Rattle.std.proofs.lemmas.Bool.Decides.{nat_tests}
-use Rattle.hum_path.proofs.Cases.{by_bool}
+use Rattle.hum_score.proofs.Cases.{by_bool}
 use Rattle.hum_frac.specs.Ratio.{Ratio, IsBefore, is_before}
 use Rattle.hum_frac.proofs.Order.{NotBefore}
 use Rattle.hum_timebase.specs.Ends.{sooner, next_end}

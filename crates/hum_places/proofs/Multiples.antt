@@ -5,7 +5,7 @@ use Rattle.std.specs.Prelude.{slice_index_or, nat_lt}
 use Rattle.std.specs.List.{Contains}
 use Rattle.std.proofs.lemmas.Bool.Decides.{nat_tests}
 use native.Mathlib.Nat.{mul-lt-mul_of_pos_right, mul-le-mul_right, mul_right_comm, lt_of_mul-lt-mul_right}
-use Rattle.hum_path.proofs.Cases.{by_bool}
+use Rattle.hum_score.proofs.Cases.{by_bool}
 use Rattle.hum_frac.specs.Ratio.{Ratio, IsSame, IsBefore, is_before}
 use Rattle.hum_frac.specs.Multiples.{times, IsMultiple, is_multiple, first_after, first_from, multiples_between}
 use Rattle.hum_frac.proofs.Ratios.{after_first, before_from, multiple_test}

@@ -3,11 +3,11 @@ use Rattle.std.proofs.Common.{◌≡◌, ◌∙◌, refl, sym, ap, subst, ℕ, �
 use Rattle.std.proofs.Common.{map, replicate, Option, None, Some, Result, Ok, Err, arith}
 use Rattle.std.specs.Prelude.{is_some}
 use Rattle.std.specs.List.{list_any}
-use Rattle.hum_record.specs.declared.SpinedKind.TheVariants.{Values}
-use Rattle.hum_record.specs.Row.{Row, Spined}
+use Rattle.hum_score.specs.declared.records.SpinedKind.TheVariants.{Values}
+use Rattle.hum_score.specs.Row.{Row, Spined}
 use Rattle.hum_record.specs.Nulls.{null_row}
-use Rattle.hum_path.proofs.Cases.{by_bool}
-use Rattle.hum_path.specs.Score.{path_after}
+use Rattle.hum_score.proofs.Cases.{by_bool}
+use Rattle.hum_score.specs.Score.{path_after}
 use Rattle.hum_frac.specs.Ratio.{Ratio}
 use Rattle.hum_frac.specs.Multiples.{is_multiple, first_after, first_from, multiples_between}
 use Rattle.hum_frac.proofs.Ratios.{multiple_test}

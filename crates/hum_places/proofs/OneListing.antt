@@ -3,8 +3,8 @@ use Rattle.std.proofs.Common.{◌≡◌, ◌∙◌, refl, sym, ap, ℕ, zero, su
 use Rattle.std.proofs.Common.{length, Option, arith}
 use Rattle.std.specs.Prelude.{slice_index_or}
 use Rattle.std.specs.List.{Contains}
-use Rattle.hum_record.specs.Row.{Row}
-use Rattle.hum_path.proofs.Cases.{by_bool}
+use Rattle.hum_score.specs.Row.{Row}
+use Rattle.hum_score.proofs.Cases.{by_bool}
 use Rattle.hum_frac.specs.Ratio.{Ratio}
 use Rattle.hum_frac.specs.Multiples.{IsMultiple, is_multiple}
 use Rattle.hum_frac.proofs.Ratios.{multiple_test}

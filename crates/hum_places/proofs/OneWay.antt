@@ -5,17 +5,17 @@ use Rattle.std.proofs.Common.{Some, None, slice_get}
 use Rattle.std.proofs.lemmas.Bool.Decides.{nat_tests}
 use Rattle.std.specs.Str.{bytes_eq}
 use lib.Chars.{codes}
-use Rattle.hum_record.specs.declared.SpinedKind.TheVariants.{Local, Interpretation, Values}
-use Rattle.hum_record.specs.Row.{Row, Comment, Spined}
-use Rattle.hum_path.specs.declared.signs.Sign.{Sign}
-use Rattle.hum_path.specs.declared.signs.Sign.TheVariants.{Exclusive, Plain}
-use Rattle.hum_path.specs.declared.moved.Move.{Move}
-use Rattle.hum_path.specs.declared.moved.Move.TheVariants.{Same, Left, Right, Join as Joined, Added}
-use Rattle.hum_path.specs.Sign.{sign_of, is_join}
+use Rattle.hum_score.specs.declared.records.SpinedKind.TheVariants.{Local, Interpretation, Values}
+use Rattle.hum_score.specs.Row.{Row, Comment, Spined}
+use Rattle.hum_score.specs.declared.spines.Sign.{Sign}
+use Rattle.hum_score.specs.declared.spines.Sign.TheVariants.{Exclusive, Plain}
+use Rattle.hum_score.specs.declared.spines.Move.{Move}
+use Rattle.hum_score.specs.declared.spines.Move.TheVariants.{Same, Left, Right, Join as Joined, Added}
+use Rattle.hum_score.specs.Sign.{sign_of, is_join}
 use Rattle.hum_path.specs.Places.{token_at, IsJoin}
-use Rattle.hum_path.specs.Spines.{Path, Unopened, Spines, width, heirs, moves_at, same_upto}
-use Rattle.hum_path.specs.Rules.{fault_of}
-use Rattle.hum_path.proofs.Cases.{by_bool}
+use Rattle.hum_score.specs.Spines.{Path, Unopened, Spines, width, heirs, moves_at, same_upto}
+use Rattle.hum_score.specs.Rules.{fault_of}
+use Rattle.hum_score.proofs.Cases.{by_bool}
 use Rattle.hum_path.proofs.Steady.{same_upto_length, get-same_upto_first}
 use Rattle.hum_places.specs.Heirs.{place_below, width_below, IsRun, AreHeirs, AreStill, StaysByPlace, IsOneWay}
 use Rattle.hum_places.proofs.Heirs.{Asks, splits, joins, changes, adds, ends, nothing, asks, quiet_sign, after_at, own, width_is, by_place, is_text, other_text}

@@ -5,7 +5,7 @@ use Rattle.std.proofs.Common.{Some, slice_get}
 use Rattle.std.specs.Prelude.{nat_le, nat_lt, slice_index_or}
 use Rattle.std.proofs.lemmas.Bool.Decides.{nat_tests}
 use lib.Chars.{codes}
-use Rattle.hum_path.proofs.Cases.{by_bool}
+use Rattle.hum_score.proofs.Cases.{by_bool}
 use Rattle.hum_columns.specs.Spread.{JoinedToken, joins, touches, joins_in, spread, one_by_one, before_last}
 use Rattle.hum_places.specs.Spreading.{piece_at, is_joined, join_number, is_gone, place_in, Stands, IsElsewhere}
 use Rattle.hum_places.specs.Spreading.{AreOneByOne, Touch, AreSpread, SpreadsByPlace}

@@ -4,7 +4,7 @@ use Rattle.std.proofs.Common.{◌==◌, Bool, true, false, not, ◌&&◌, ◌||�
 use Rattle.std.specs.Prelude.{nat_le, slice_index_or}
 use Rattle.std.proofs.lemmas.Bool.Decides.{nat_tests}
 use lib.Chars.{codes}
-use Rattle.hum_path.proofs.Cases.{by_bool}
+use Rattle.hum_score.proofs.Cases.{by_bool}
 use Rattle.hum_columns.specs.Spread.{JoinedToken, joins, goes_on, tokens_in, joins_in}
 use Rattle.hum_columns.specs.Spread.{join_alone, first_alone, join_done, first_done, one_by_one}
 use Rattle.hum_places.proofs.Spreading.{one, shown, row}

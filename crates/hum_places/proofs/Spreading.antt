@@ -4,7 +4,7 @@ use Rattle.std.proofs.Common.{◌==◌, Bool, true, false, not, ◌&&◌, ◌||�
 use Rattle.std.proofs.Common.{Some, slice_get}
 use Rattle.std.specs.Prelude.{nat_le}
 use lib.Chars.{codes}
-use Rattle.hum_path.proofs.Cases.{by_bool}
+use Rattle.hum_score.proofs.Cases.{by_bool}
 use Rattle.hum_columns.specs.Spread.{JoinedToken, goes_on, joins_in}
 use Rattle.hum_places.specs.Spreading.{piece_at, is_joined, begun, is_gone, place_in, join_number}
 

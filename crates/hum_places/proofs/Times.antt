@@ -2,10 +2,10 @@
 use Rattle.std.proofs.Common.{List, [], ◌∷◌, map, Option, None, Some, arith}
 use Rattle.std.specs.Prelude.{is_some}
 use Rattle.std.specs.List.{list_any}
-use Rattle.hum_record.specs.declared.SpinedKind.TheVariants.{Local, Interpretation, Values}
-use Rattle.hum_record.specs.Row.{Row, Comment, Spined}
-use Rattle.hum_path.proofs.Cases.{by_bool}
-use Rattle.hum_path.specs.Score.{path_after}
+use Rattle.hum_score.specs.declared.records.SpinedKind.TheVariants.{Local, Interpretation, Values}
+use Rattle.hum_score.specs.Row.{Row, Comment, Spined}
+use Rattle.hum_score.proofs.Cases.{by_bool}
+use Rattle.hum_score.specs.Score.{path_after}
 use Rattle.hum_frac.specs.Ratio.{Ratio, is_before}
 use Rattle.hum_timebase.specs.Notes.{timed_in, notes_of}
 use Rattle.hum_timebase.specs.Ends.{Note, latest, sooner, beyond, next_end, living_before, living_after}

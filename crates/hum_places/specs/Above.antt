@@ -1,12 +1,12 @@
 -- The cell above each spine, by the places of cells, and where one comes to by going up.
 use Rattle.std.specs.Prelude.{◌≡◌, ◌≢◌, ℕ, ◌+◌, ◌<◌, ◌≤◌, ◌⊎◌, ◌↔◌}
 use Rattle.std.specs.Prelude.{List, [], ◌∷◌, length, None, slice_get}
-use Rattle.hum_record.specs.declared.SpinedKind.TheVariants.{Interpretation}
-use Rattle.hum_record.specs.Row.{Row, Comment, Spined}
+use Rattle.hum_score.specs.declared.records.SpinedKind.TheVariants.{Interpretation}
+use Rattle.hum_score.specs.Row.{Row, Comment, Spined}
 use Rattle.hum_path.specs.Places.{IsExchange}
-use Rattle.hum_path.specs.Spines.{Path, Unopened, Spines, width, moves_at}
-use Rattle.hum_path.specs.Rules.{fault_of}
-use Rattle.hum_path.specs.Score.{path_after}
+use Rattle.hum_score.specs.Spines.{Path, Unopened, Spines, width, moves_at}
+use Rattle.hum_score.specs.Rules.{fault_of}
+use Rattle.hum_score.specs.Score.{path_after}
 use Rattle.hum_path.specs.Origins.{up, origin}
 use Rattle.hum_places.specs.Heirs.{place_below, width_below}
 

@@ -3,10 +3,10 @@ use Rattle.std.specs.Prelude.{◌≡◌, ℕ, ◌+◌, ◌<◌, ◌↔◌, true}
 use Rattle.std.specs.Prelude.{List, [], ◌∷◌, ◌++◌, length, map}
 use Rattle.std.specs.Prelude.{slice_index_or, Option, None, Some, is_some, Ok, slice_get}
 use Rattle.std.specs.List.{list_any, Contains}
-use Rattle.hum_record.specs.declared.SpinedKind.TheVariants.{Values}
-use Rattle.hum_record.specs.Row.{Row, Spined}
+use Rattle.hum_score.specs.declared.records.SpinedKind.TheVariants.{Values}
+use Rattle.hum_score.specs.Row.{Row, Spined}
 use Rattle.hum_record.specs.Nulls.{null_row}
-use Rattle.hum_path.specs.Score.{path_after}
+use Rattle.hum_score.specs.Score.{path_after}
 use Rattle.hum_frac.specs.Ratio.{Ratio, IsBefore}
 use Rattle.hum_frac.specs.Multiples.{times, IsMultiple}
 use Rattle.hum_timebase.specs.Notes.{timed_in, notes_of}

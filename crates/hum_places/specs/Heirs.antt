@@ -4,13 +4,13 @@ use Rattle.std.specs.Prelude.{Bool, false, ◌&&◌, ◌||◌}
 use Rattle.std.specs.Prelude.{if◌then◌else◌, List, length, Some, None, slice_get}
 use Rattle.std.specs.Str.{bytes_eq}
 use lib.Chars.{codes}
-use Rattle.hum_record.specs.declared.SpinedKind.TheVariants.{Interpretation}
-use Rattle.hum_record.specs.Row.{Row, Comment, Spined}
-use Rattle.hum_path.specs.declared.moved.Move.{Move}
-use Rattle.hum_path.specs.declared.moved.Move.TheVariants.{Same, Left, Right, Join as Joined, Added}
+use Rattle.hum_score.specs.declared.records.SpinedKind.TheVariants.{Interpretation}
+use Rattle.hum_score.specs.Row.{Row, Comment, Spined}
+use Rattle.hum_score.specs.declared.spines.Move.{Move}
+use Rattle.hum_score.specs.declared.spines.Move.TheVariants.{Same, Left, Right, Join as Joined, Added}
 use Rattle.hum_path.specs.Places.{token_at, IsJoin, IsExchange}
-use Rattle.hum_path.specs.Spines.{Path, Unopened, Spines, width, moves, moves_at}
-use Rattle.hum_path.specs.Rules.{fault_of}
+use Rattle.hum_score.specs.Spines.{Path, Unopened, Spines, width, moves, moves_at}
+use Rattle.hum_score.specs.Rules.{fault_of}
 
 -- whether the token at place j is this text
 abbrev pub reads : List (List ℕ) → List ℕ → ℕ → Bool

@@ -1,6 +1,6 @@
 //! The records that timebase puts on a grid, by the multiples that they stand at.
 ghost use Rattle.std.specs.Prelude.{ℕ, List, Option};
-ghost use Rattle.hum_record.specs.Row.{Row};
+ghost use Rattle.hum_score.specs.Row.{Row};
 ghost use Rattle.hum_frac.specs.Ratio.{Ratio};
 ghost use Rattle.hum_choices.specs.Timebase.{Pace};
 ghost use Rattle.hum_places.specs.Grid.{GridByMultiples, IsOneGrid};

@@ -1,8 +1,8 @@
 //! Where each spine comes from, place by place.
 ghost use Rattle.std.specs.Prelude.{◌<◌, ℕ, List, length};
-ghost use Rattle.hum_record.specs.Row.{Row};
-ghost use Rattle.hum_path.specs.Spines.{Path};
-ghost use Rattle.hum_path.specs.Score.{IsOpen};
+ghost use Rattle.hum_score.specs.Row.{Row};
+ghost use Rattle.hum_score.specs.Spines.{Path};
+ghost use Rattle.hum_score.specs.Score.{IsOpen};
 ghost use Rattle.hum_path.specs.Origins.{AreOrigins};
 ghost use Rattle.hum_places.specs.Heirs.{StepsByPlace, StaysByPlace, IsOneWay};
 ghost use Rattle.hum_places.specs.Above.{CellsAreAbove, OriginsAreAbove, Ascends};

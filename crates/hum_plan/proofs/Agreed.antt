@@ -4,14 +4,14 @@ use Rattle.std.proofs.Common.{ap, subst}
 use Rattle.std.proofs.Common.{option_map}
 use Rattle.std.specs.Bool.{beq}
 use Rattle.std.specs.Prelude.{nat_le}
-use Rattle.hum_path.proofs.Cases.{by_bool}
+use Rattle.hum_score.proofs.Cases.{by_bool}
 use Rattle.hum_words.specs.Branches.{lines_of, branches_of}
 use Rattle.hum_words.specs.Cutting.{Cut, cut_line}
 use Rattle.hum_words.specs.Pieces.{Item}
 use Rattle.hum_words.specs.Text.{fault_of}
-use Rattle.hum_stage.specs.Words.{command_of}
-use Rattle.hum_stage.specs.declared.faults.Command.{Command}
-use Rattle.hum_stage.specs.declared.faults.Command.TheVariants as command
+use Rattle.hum_words.specs.Commands.{command_of}
+use Rattle.hum_words.specs.declared.commands.Command.{Command}
+use Rattle.hum_words.specs.declared.commands.Command.TheVariants as command
 use Rattle.hum_options.specs.Answers.{Word}
 use Rattle.hum_options.proofs.Agreed.{answer_fits}
 use Rattle.hum_plan.specs.declared.faults.PlanFault.{PlanFault}

@@ -5,7 +5,7 @@ use Rattle.std.specs.Str.{bytes_eq}
 use Rattle.std.specs.Map.{lookup, values_of}
 use Rattle.std.specs.Prelude.{option_map, find}
 use Rattle.indexmap.specs.IndexMap.{insert_entry}
-use Rattle.hum_path.proofs.Cases.{by_bool}
+use Rattle.hum_score.proofs.Cases.{by_bool}
 use Rattle.hum_plan.specs.declared.branches.Branch.{Branch}
 use Rattle.hum_plan.specs.Branches.{branch_of, with_branch, first_unused}
 

@@ -4,14 +4,14 @@ use lib.Chars.{codes}
 use Rattle.hum_words.specs.Branches.{lines_of, branches_from, branches_of}
 use Rattle.hum_words.specs.Characters.{trimmed}
 use Rattle.hum_words.specs.Cutting.{cut}
-use Rattle.hum_stage.specs.declared.faults.Command.TheVariants as command
+use Rattle.hum_words.specs.declared.commands.Command.TheVariants as command
 use Rattle.hum_options.specs.Answers.{Answer, Answers}
 use Rattle.hum_options.specs.declared.faults.OptionRule.TheVariants as option
 use Rattle.hum_plan.specs.declared.faults.PlanRule.TheVariants.{N2, N3, N4, N5, N6, N7, N9, N11}
 use Rattle.hum_plan.specs.declared.faults.PlanFault.{PlanFault}
 use Rattle.hum_plan.specs.Faults.{broken}
 use Rattle.hum_plan.specs.Stages.{Read}
-use Rattle.hum_stage.specs.Words.{command_of}
+use Rattle.hum_words.specs.Commands.{command_of}
 use Rattle.hum_plan.specs.Answers.{Outline, Outcome, nothing, LinesAnswer, StagesAnswer, names_joined, with_stage}
 use Rattle.hum_plan.specs.Answers.{ended, whole_fault}
 

@@ -3,9 +3,9 @@ use Rattle.std.proofs.Common.{◌≡◌, false, List, Option, None, Some}
 use Rattle.std.proofs.lemmas.Bool.{not-true}
 use Rattle.std.specs.Option.{option_map}
 use Rattle.std.proofs.Common.{arith}
-use Rattle.hum_path.proofs.Cases.{by_bool}
+use Rattle.hum_score.proofs.Cases.{by_bool}
 use Rattle.hum_choices.specs.Options as meant
-use Rattle.hum_stage.specs.declared.faults.Command.{Command}
+use Rattle.hum_words.specs.declared.commands.Command.{Command}
 use Rattle.hum_options.specs.Answers.{Word, is_rid}
 use Rattle.hum_options.specs.Given.{Given}
 use Rattle.hum_options.specs.Options.{both, meant as meant_by}

@@ -7,11 +7,11 @@ use Rattle.std.proofs.lemmas.List.{length-append}
 use Rattle.std.proofs.lemmas.Slice.Eq.{bytes_eq-Decides}
 use Rattle.std.specs.List.{list_any}
 use Rattle.std.specs.Str.{bytes_eq}
-use Rattle.hum_path.proofs.Cases.{by_bool}
+use Rattle.hum_score.proofs.Cases.{by_bool}
 use Rattle.hum_words.specs.Cutting.{cut_line}
-use Rattle.hum_stage.specs.Words.{word_of}
-use Rattle.hum_stage.specs.declared.faults.Command.{Command}
-use Rattle.hum_stage.specs.declared.faults.Command.TheVariants as command
+use Rattle.hum_words.specs.Commands.{word_of}
+use Rattle.hum_words.specs.declared.commands.Command.{Command}
+use Rattle.hum_words.specs.declared.commands.Command.TheVariants as command
 use Rattle.hum_options.specs.Answers.{Word, text_of_word}
 use Rattle.hum_plan.specs.declared.branches.Branch.{Branch}
 use Rattle.hum_plan.specs.Stages.{Options}

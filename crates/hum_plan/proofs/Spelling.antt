@@ -9,11 +9,11 @@ use Rattle.std.proofs.lemmas.Bool.Decides.{nat_tests}
 use Rattle.std.specs.List.{list_all}
 use Rattle.std.specs.Option.{option_or}
 use lib.Chars.{codes}
-use Rattle.hum_path.proofs.Cases.{by_bool}
+use Rattle.hum_score.proofs.Cases.{by_bool}
 use Rattle.hum_choices.specs.Options as meant
 use Rattle.hum_choices.specs.declared.rid.RidOptions.{RidOptions}
-use Rattle.hum_stage.specs.declared.faults.Command.{Command}
-use Rattle.hum_stage.specs.declared.faults.Command.TheVariants as command
+use Rattle.hum_words.specs.declared.commands.Command.{Command}
+use Rattle.hum_words.specs.declared.commands.Command.TheVariants as command
 use Rattle.hum_options.specs.declared.faults.OptionFault.{OptionFault}
 use Rattle.hum_options.specs.Answers.{Word, IsAnswer, is_rid, has_none, text_of_word, rid_answer, rid_of, rid_fault}
 use Rattle.hum_options.specs.Letters.{is_letter_word, has_letter, drops, dropped}

@@ -16,7 +16,7 @@ use Rattle.std.specs.List.{find, list_all}
 use Rattle.std.specs.Prelude.{IsSome, nat_lt, nat_le}
 use Rattle.std.specs.Str.{bytes_eq, IsUtf8, is_utf8}
 use lib.Chars.{codes}
-use Rattle.hum_path.proofs.Cases.{by_bool}
+use Rattle.hum_score.proofs.Cases.{by_bool}
 use Rattle.hum_words.specs.Branches.{branches_of, lines_of}
 use Rattle.hum_words.specs.Cutting.{Cut, cut_line}
 use Rattle.hum_words.specs.Names.{is_name, front_of, name_in}
@@ -27,9 +27,9 @@ use Rattle.hum_words.specs.Writing.{IsWritten}
 use Rattle.hum_words.specs.declared.text.PlanTextFault.{PlanTextFault}
 use Rattle.hum_words.proofs.Decided.{cut_as_written, refused_as_wrong}
 use Rattle.hum_words.proofs.Ends.{with_colon, ends_in, front_is}
-use Rattle.hum_stage.specs.Words.{commands, word_of, command_of}
-use Rattle.hum_stage.specs.declared.faults.Command.{Command}
-use Rattle.hum_stage.specs.declared.faults.Command.TheVariants as command
+use Rattle.hum_words.specs.Commands.{commands, word_of, command_of}
+use Rattle.hum_words.specs.declared.commands.Command.{Command}
+use Rattle.hum_words.specs.declared.commands.Command.TheVariants as command
 use Rattle.hum_options.specs.Answers.{Word, has_none}
 use Rattle.hum_options.specs.Seen.{words_before_bar}
 use Rattle.hum_plan.specs.declared.branches.Branch.{Branch}

@@ -10,9 +10,9 @@ use Rattle.hum_words.specs.Names.{name_in}
 use Rattle.hum_words.specs.Pieces.{Item}
 use Rattle.hum_words.specs.Pieces as item
 use Rattle.hum_words.specs.Text.{fault_of}
-use Rattle.hum_stage.specs.Words.{command_of}
-use Rattle.hum_stage.specs.declared.faults.Command.{Command}
-use Rattle.hum_stage.specs.declared.faults.Command.TheVariants as command
+use Rattle.hum_words.specs.Commands.{command_of}
+use Rattle.hum_words.specs.declared.commands.Command.{Command}
+use Rattle.hum_words.specs.declared.commands.Command.TheVariants as command
 use Rattle.hum_options.specs.Answers.{Word, Answer, IsAnswer}
 use Rattle.hum_plan.specs.declared.faults.PlanRule.TheVariants.{N2, N3, N4, N5, N6, N7, N8, N9}
 use Rattle.hum_plan.specs.declared.faults.PlanRule.TheVariants.{N10, N11}

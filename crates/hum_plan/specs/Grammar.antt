@@ -11,9 +11,9 @@ use Rattle.hum_words.specs.Pieces.{Item}
 use Rattle.hum_words.specs.Pieces as item
 use Rattle.hum_words.specs.Text.{longest}
 use Rattle.hum_words.specs.Writing.{IsWritten}
-use Rattle.hum_stage.specs.Words.{word_of}
-use Rattle.hum_stage.specs.declared.faults.Command.{Command}
-use Rattle.hum_stage.specs.declared.faults.Command.TheVariants as command
+use Rattle.hum_words.specs.Commands.{word_of}
+use Rattle.hum_words.specs.declared.commands.Command.{Command}
+use Rattle.hum_words.specs.declared.commands.Command.TheVariants as command
 use Rattle.hum_choices.specs.declared.rid.RidOptions.{RidOptions}
 use Rattle.hum_options.specs.Answers.{Word, is_rid, has_none, text_of_word}
 use Rattle.hum_options.specs.Letters.{is_letter_word, dropped}

@@ -8,9 +8,9 @@ use Rattle.hum_words.specs.Pieces.{Item}
 use Rattle.hum_words.specs.Text.{fault_of}
 use Rattle.hum_words.specs.Writing.{IsWritten, IsWrongAt}
 use Rattle.hum_words.specs.declared.text.PlanTextFault.{PlanTextFault}
-use Rattle.hum_stage.specs.Words.{word_of}
-use Rattle.hum_stage.specs.declared.faults.Command.{Command}
-use Rattle.hum_stage.specs.declared.faults.Command.TheVariants as command
+use Rattle.hum_words.specs.Commands.{word_of}
+use Rattle.hum_words.specs.declared.commands.Command.{Command}
+use Rattle.hum_words.specs.declared.commands.Command.TheVariants as command
 use Rattle.hum_options.specs.Answers.{Word}
 use Rattle.hum_options.specs.Refused.{BreaksFirst}
 use Rattle.hum_options.specs.declared.faults.OptionFault.{OptionFault}

@@ -15,8 +15,7 @@ use crate::draft::Draft;
 use crate::faults::{PlanError, PlanRule, broken, in_line};
 use crate::stages::{Options, PlanStage};
 use hum_options::read_options;
-use hum_stage::Command;
-use hum_words::Piece;
+use hum_words::{Command, Piece};
 use std::alloc::{AllocError, Global};
 
 /// How many stages a plan may have.

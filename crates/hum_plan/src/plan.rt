@@ -10,8 +10,7 @@ use crate::draft::Draft;
 use crate::faults::{PlanError, PlanFault, PlanRule, of_text};
 use crate::lines::read_lines;
 use crate::stages::{Options, PlanStage};
-use hum_stage::Command;
-use hum_words::{line_count, plan_text};
+use hum_words::{Command, line_count, plan_text};
 use std::alloc::Global;
 use std::marker::Model;
 

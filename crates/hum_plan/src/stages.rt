@@ -2,7 +2,7 @@
 ghost use Rattle.std.specs.Prelude.{◌≡◌};
 
 use hum_choices::CommandOptions;
-use hum_stage::Command;
+use hum_words::Command;
 
 /// What a stage does.
 #[derive(Drop)]

@@ -6,8 +6,8 @@ use Rattle.std.proofs.lemmas.Bool.{cases_Bool, or_parts}
 use Rattle.std.proofs.lemmas.List.{get_or_append_left, take-append-le, take_more, take_at}
 use Rattle.hum_text.specs.declared.Limits.{Limits}
 use Rattle.hum_text.specs.Text.{without_cr, ends_in_cr}
-use Rattle.hum_record.specs.Row.{Row, text_of}
-use Rattle.hum_record.specs.Spelling.{has_byte, reading}
+use Rattle.hum_score.specs.Row.{Row, text_of}
+use Rattle.hum_score.specs.Spelling.{has_byte, reading}
 use Rattle.hum_record.specs.Lines.{IsLine, IsRead}
 
 -- no byte of a text is CR that is read as a record

@@ -7,17 +7,17 @@ use Rattle.hum_text.specs.Text.{lines, fault_of}
 use Rattle.hum_text.specs.Reading.{Reader, Holds}
 use Rattle.hum_text.proofs.ReadingLemmas.{given-front}
 use Rattle.hum_text.proofs.FrontLemmas.{given-before}
-use Rattle.hum_record.specs.declared.RecordFault.{RecordFault}
-use Rattle.hum_record.specs.Row.{Row}
-use Rattle.hum_record.specs.Spelling.{reading}
-use Rattle.hum_path.specs.declared.PathFault.{PathFault}
-use Rattle.hum_path.specs.Spines.{Path, Unopened, after}
-use Rattle.hum_path.specs.Rules.{is_unfinished, fault_of as path_fault_of}
+use Rattle.hum_score.specs.declared.records.RecordFault.{RecordFault}
+use Rattle.hum_score.specs.Row.{Row}
+use Rattle.hum_score.specs.Spelling.{reading}
+use Rattle.hum_score.specs.declared.spines.PathFault.{PathFault}
+use Rattle.hum_score.specs.Spines.{Path, Unopened, after}
+use Rattle.hum_score.specs.Rules.{is_unfinished, fault_of as path_fault_of}
 use Rattle.hum_stage.specs.declared.faults.Rule.{Rule}
 use Rattle.hum_stage.specs.declared.faults.Rule.TheVariants as rule
 use Rattle.hum_stage.specs.declared.faults.End.{End}
 use Rattle.hum_stage.specs.declared.faults.End.TheVariants.{Closed}
-use Rattle.hum_stage.specs.Score.{through, Follow, IsScore}
+use Rattle.hum_score.specs.InOrder.{through, Follow, IsScore}
 use Rattle.hum_stage.proofs.Scores.{through-append}
 use Rattle.hum_read.specs.Denoted.{read_after, on_spines, unless, onward, denoted, up_to, standard}
 use Rattle.hum_read.specs.Denoted.{Score, score_of, end_at, broken_at, closed, ending, text_rule}

@@ -2,12 +2,12 @@
 use Rattle.std.proofs.Common.{◌≡◌, ◌∙◌, refl, ap, ℕ, ◌+◌, Bool, true, false, cond, List, [], ◌∷◌, length, Option, None, Some, add-one}
 use Rattle.hum_text.specs.declared.TextFault.{TextFault}
 use Rattle.hum_text.specs.Text.{lines}
-use Rattle.hum_record.specs.Row.{Row}
-use Rattle.hum_path.specs.declared.PathFault.{PathFault}
-use Rattle.hum_path.specs.declared.PathFault.TheVariants as path
-use Rattle.hum_path.specs.Spines.{Unopened}
-use Rattle.hum_path.specs.Rules.{is_unfinished, fault_of as path_fault_of}
-use Rattle.hum_path.specs.Score.{path_after, fault_or, score_fault}
+use Rattle.hum_score.specs.Row.{Row}
+use Rattle.hum_score.specs.declared.spines.PathFault.{PathFault}
+use Rattle.hum_score.specs.declared.spines.PathFault.TheVariants as path
+use Rattle.hum_score.specs.Spines.{Unopened}
+use Rattle.hum_score.specs.Rules.{is_unfinished, fault_of as path_fault_of}
+use Rattle.hum_score.specs.Score.{path_after, fault_or, score_fault}
 use Rattle.hum_stage.specs.declared.faults.Rule.TheVariants as rule
 use Rattle.hum_read.specs.Denoted.{Score, unless, onward, denoted, up_to, broken_at, closed, score_of}
 use Rattle.hum_read.specs.Faults.{AreReadAs, rule_at, IsOfItsRecords}

@@ -15,11 +15,11 @@ use Rattle.hum_text.specs.Reading.{GivesNext as LinesGiveNext}
 use Rattle.hum_text.specs.Reading.{GivesLine}
 use Rattle.hum_text.proofs.PollLemmas.{line-polls}
 use Rattle.hum_text.proofs.ReadingLemmas.{drop-all}
-use Rattle.hum_record.specs.Row.{Row}
+use Rattle.hum_score.specs.Row.{Row}
 use Rattle.hum_stage.specs.declared.faults.End.{End as EndOf}
 use Rattle.hum_read.specs.declared.ReadError.{ReadError}
 use Rattle.hum_read.specs.declared.ReadError.TheVariants as error
-use Rattle.hum_record.specs.Spelling.{has_byte}
+use Rattle.hum_score.specs.Spelling.{has_byte}
 use Rattle.hum_read.specs.Denoted.{standard}
 use Rattle.hum_read.specs.Steps.{IsTidy, Nexts, ReadsLine, given_by, end_of, stop_by}
 use Rattle.hum_read.proofs.Polling.{has-line, text-ended, text-stopped}

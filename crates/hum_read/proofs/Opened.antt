@@ -2,7 +2,8 @@
 use Rattle.std.proofs.Common.{◌≡◌, ℕ, ◌^◌, List, [], false, None, refl, ap, sym, ◌∙◌}
 use Rattle.hum_text.specs.declared.Limits.{Limits}
 use Rattle.hum_text.specs.Reading.{Reader, Holds, opening}
-use Rattle.hum_path.specs.Spines.{Unopened, Tracked}
+use Rattle.hum_score.specs.Spines.{Unopened}
+use Rattle.hum_path.specs.Tracked.{Tracked}
 use Rattle.hum_read.specs.Denoted.{standard}
 use Rattle.hum_read.specs.Reading.{Scores, IsFresh, HasRead}
 use Rattle.hum_read.specs.Steps.{IsTidy}

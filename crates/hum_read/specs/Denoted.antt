@@ -5,15 +5,15 @@ use Rattle.hum_text.specs.declared.Limits.{Limits}
 use Rattle.hum_text.specs.declared.TextFault.{TextFault}
 use Rattle.hum_text.specs.declared.TextFault.TheVariants as text
 use Rattle.hum_text.specs.Text.{lines, fault_of}
-use Rattle.hum_record.specs.declared.RecordFault.{RecordFault}
-use Rattle.hum_record.specs.Row.{Row}
-use Rattle.hum_record.specs.Spelling.{reading}
-use Rattle.hum_path.specs.declared.PathFault.{PathFault}
-use Rattle.hum_path.specs.Spines.{Path, Unopened, after}
-use Rattle.hum_path.specs.Rules.{is_unfinished, fault_of as path_fault_of}
+use Rattle.hum_score.specs.declared.records.RecordFault.{RecordFault}
+use Rattle.hum_score.specs.Row.{Row}
+use Rattle.hum_score.specs.Spelling.{reading}
+use Rattle.hum_score.specs.declared.spines.PathFault.{PathFault}
+use Rattle.hum_score.specs.Spines.{Path, Unopened, after}
+use Rattle.hum_score.specs.Rules.{is_unfinished, fault_of as path_fault_of}
 use Rattle.hum_stage.specs.declared.faults.Rule.{Rule}
 use Rattle.hum_stage.specs.declared.faults.Rule.TheVariants as rule
-use Rattle.hum_stage.specs.declared.faults.Command.TheVariants.{Read}
+use Rattle.hum_words.specs.declared.commands.Command.TheVariants.{Read}
 use Rattle.hum_stage.specs.declared.faults.End.{End}
 pub use Rattle.hum_stage.specs.Refusals.{record_rule, path_rule}
 use Rattle.hum_stage.specs.declared.faults.End.TheVariants.{Closed, Broken}

@@ -1,10 +1,10 @@
 -- The first rule that a score breaks, told by its records alone.
 use Rattle.std.specs.Prelude.{◌≡◌, ℕ, List, [], ◌∷◌, Option, None, Some, Ok, option_map}
 use Rattle.hum_text.specs.Text.{lines, fault_of}
-use Rattle.hum_record.specs.Row.{Row}
-use Rattle.hum_record.specs.Spelling.{reading}
-use Rattle.hum_path.specs.declared.PathFault.{PathFault}
-use Rattle.hum_path.specs.Score.{score_fault}
+use Rattle.hum_score.specs.Row.{Row}
+use Rattle.hum_score.specs.Spelling.{reading}
+use Rattle.hum_score.specs.declared.spines.PathFault.{PathFault}
+use Rattle.hum_score.specs.Score.{score_fault}
 use Rattle.hum_stage.specs.declared.faults.Rule.{Rule}
 use Rattle.hum_read.specs.Denoted.{path_rule, standard, score_of}
 

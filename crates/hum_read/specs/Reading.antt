@@ -5,11 +5,12 @@ use Rattle.std.specs.Prelude.{Option, None, Some, Result, Ok, Err}
 use Rattle.hum_text.specs.declared.TextFault.{TextFault}
 use Rattle.hum_text.specs.Calls.{IsCalled}
 use Rattle.hum_text.specs.Reading.{Reader, opening, Holds, bytes_read, NeedsRead, IsUnread, IsRead}
-use Rattle.hum_record.specs.Row.{Row}
-use Rattle.hum_path.specs.Spines.{Unopened, Tracked}
+use Rattle.hum_score.specs.Row.{Row}
+use Rattle.hum_score.specs.Spines.{Unopened}
+use Rattle.hum_path.specs.Tracked.{Tracked}
 use Rattle.hum_stage.specs.declared.faults.End.{End}
 use Rattle.hum_stage.specs.declared.faults.End.TheVariants.{Closed}
-use Rattle.hum_stage.specs.Score.{through, IsScore, IsClosed}
+use Rattle.hum_score.specs.InOrder.{through, IsScore, IsClosed}
 use Rattle.hum_read.specs.declared.ReadError.{ReadError}
 use Rattle.hum_read.specs.declared.ReadError.TheVariants as error
 use Rattle.hum_read.specs.Denoted.{Score, denoted, standard, score_of, end_at}

@@ -7,10 +7,10 @@ use Rattle.hum_text.specs.declared.TextFault.TheVariants as text
 use Rattle.hum_text.specs.declared.calls.TheConstants.{LARGEST_READ}
 use Rattle.hum_text.specs.Reading.{Reader, Holds, NeedsRead, IsUnread, IsFed, bytes_read, left_to_do}
 use Rattle.hum_record.specs.Lines.{IsRead}
-use Rattle.hum_record.specs.Row.{Row}
-use Rattle.hum_path.specs.Spines.{Unopened}
+use Rattle.hum_score.specs.Row.{Row}
+use Rattle.hum_score.specs.Spines.{Unopened}
 use Rattle.hum_stage.specs.declared.faults.End.{End}
-use Rattle.hum_stage.specs.Score.{through, IsScore}
+use Rattle.hum_score.specs.InOrder.{through, IsScore}
 use Rattle.hum_stage.specs.declared.faults.Rule.{Rule}
 use Rattle.hum_stage.specs.declared.faults.Rule.TheVariants.{S1, S2, S3, S7}
 use Rattle.hum_read.specs.declared.ReadError.{ReadError}

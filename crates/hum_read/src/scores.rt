@@ -1,13 +1,13 @@
 //! A score, read from a source record by record.
 ghost use Rattle.std.specs.Prelude.{◌≡◌, ◌≢◌, ℕ, ◌<◌, ◌≤◌, ◌⊎◌, true, false, length};
 ghost use Rattle.std.specs.Prelude.{List, [], None, Some, Ok, Err, IfOk, IfErr, IfSome, OnOk};
-ghost use Rattle.hum_path.specs.Spines.{after};
-ghost use Rattle.hum_path.specs.Rules.{fault_of, Refuses};
+ghost use Rattle.hum_score.specs.Spines.{after};
+ghost use Rattle.hum_score.specs.Rules.{fault_of, Refuses};
 ghost use Rattle.std.specs.Io.KnownBytes.{Consumes, IsAtEnd};
 ghost use Rattle.hum_read.specs.Denoted.{end_at};
 ghost use Rattle.hum_read.specs.Steps.{stop_by};
 ghost use Rattle.hum_stage.specs.Refusals.{rule_in};
-ghost use Rattle.hum_record.specs.Spelling.{has_byte};
+ghost use Rattle.hum_score.specs.Spelling.{has_byte};
 ghost use Rattle.hum_text.specs.Reading.{NeedsRead, IsUnread, IsFed, bytes_read, left_to_do};
 
 use crate::ReadError;
@@ -48,7 +48,6 @@ fn stop(stopped: &mut Option<Result<End, ReadError>>, stage: u8, given: u64, fau
 }
 
 /// Takes the spines past a record.
-#[inline]
 fn pass(paths: &mut Paths, row: &Record) -> Result<(), PathFault>
     ensures valid { OnOk result (fault_of paths.old.path row.now ≡ None) }
     ensures after { OnOk result (paths.new.path ≡ after paths.old.path row.now) }
@@ -137,7 +136,6 @@ impl<R: Source> ScoreReader<R> {
     }
 
     /// The record of the line that was just read, or none where it is refused.
-    #[inline]
     fn read_line(&mut self, pool: &mut Spare) -> Option<Record>
         requires going { self.old.stopped ≡ None }
         requires short { length self.old.lines.line ≤ 1048576 }
@@ -182,7 +180,6 @@ impl<R: Source> ScoreReader<R> {
     }
 
     /// Why nothing more comes, once it has stopped: the end, or a failed read or running out of memory.
-    #[inline]
     pub fn stopped(&self) -> Option<Result<End, ReadError>>
         ensures { result ≡ self.now.stopped }
     {
@@ -258,7 +255,6 @@ impl<R: Source> ScoreReader<R> {
     }
 
     /// The same where the line is no short one of plain data.
-    #[inline(never)]
     fn next_long(&mut self, pool: &mut Spare) -> Option<Record>
         requires { self.old.stopped ≡ None }
         ensures { Nexts R.remaining R.calls R.failed self.old (given_by result self.new.stopped) self.new }
@@ -270,7 +266,6 @@ impl<R: Source> ScoreReader<R> {
     }
 
     /// The same where this is what the next line is read as, if it has a token for each spine.
-    #[inline(always)]
     fn give(&mut self, pool: &mut Spare, row: Record) -> Option<Record>
         requires going { self.old.stopped ≡ None }
         requires ahead { IsAhead self.old.lines row }
@@ -284,7 +279,6 @@ impl<R: Source> ScoreReader<R> {
     }
 
     /// The same where it is known how many bytes the line has.
-    #[inline(always)]
     fn give_short(&mut self, pool: &mut Spare, line: ShortLine) -> Option<Record>
         requires going { self.old.stopped ≡ None }
         requires ahead { IsAheadTo self.old.lines line.record line.size }
@@ -309,7 +303,6 @@ impl<R: Source> ScoreReader<R> {
     }
 
     /// The same of any line, or where none was read as yet.
-    #[inline(never)]
     fn next_any(&mut self, pool: &mut Spare) -> Option<Record>
         requires { self.old.stopped ≡ None }
         ensures { Nexts R.remaining R.calls R.failed self.old (given_by result self.new.stopped) self.new }

@@ -2,9 +2,9 @@
 use Rattle.std.proofs.Common.{◌≡◌, ◌∙◌, sym, ap, refl, ℕ, zero, suc, ◌+◌, ◌<◌, ◌≤◌, List, [], ◌∷◌, ◌++◌, length}
 use Rattle.std.proofs.Common.{replicate, append_assoc, append-nil, arith}
 use Rattle.std.proofs.lemmas.List.{replicate-append-replicate}
-use Rattle.hum_record.specs.declared.SpinedKind.{SpinedKind}
-use Rattle.hum_record.specs.declared.SpinedKind.TheVariants.{Local, Interpretation, Values}
-use Rattle.hum_record.specs.Spelling.{IsToken}
+use Rattle.hum_score.specs.declared.records.SpinedKind.{SpinedKind}
+use Rattle.hum_score.specs.declared.records.SpinedKind.TheVariants.{Local, Interpretation, Values}
+use Rattle.hum_score.specs.Spelling.{IsToken}
 use Rattle.hum_record.specs.Building.{Draft, spelled}
 use Rattle.hum_record.specs.Nulls.{null_of}
 use Rattle.hum_record.proofs.Drafts.{spelled_front}

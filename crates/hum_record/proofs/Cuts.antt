@@ -8,8 +8,8 @@ use Rattle.std.proofs.lemmas.List.Folds.{list_any-append}
 use Rattle.std.proofs.lemmas.List.{append-nil}
 use Rattle.std.proofs.Math.Seq.{take-suc}
 use mir.Val.{bool_byte}
-use Rattle.hum_record.specs.declared.SpinedKind.{SpinedKind}
-use Rattle.hum_record.specs.Spelling.{has_byte, kind_of_token, same_kind, parts}
+use Rattle.hum_score.specs.declared.records.SpinedKind.{SpinedKind}
+use Rattle.hum_score.specs.Spelling.{has_byte, kind_of_token, same_kind, parts}
 use Rattle.hum_record.specs.Fields.{ends_from}
 use Rattle.hum_record.specs.Cutting.{tabs_from}
 use Rattle.hum_record.proofs.Laws.{parts_filled}

@@ -2,10 +2,10 @@
 use Rattle.std.proofs.Common.{◌≡◌, ◌≢◌, ℕ, ◌+◌, ◌≤◌, List, [], ◌∷◌, ◌++◌, length, refl, sym, ap, ◌∙◌, arith, append_assoc, length-append}
 use Rattle.std.specs.Prelude.{Bool, true, false}
 use Rattle.std.specs.List.{AllByRecursion}
-use Rattle.hum_record.specs.declared.Kind.TheVariants.{Global}
-use Rattle.hum_record.specs.declared.SpinedKind.{SpinedKind}
-use Rattle.hum_record.specs.Row.{Row, Comment, Spined, kind_of, tokens_of}
-use Rattle.hum_record.specs.Spelling.{IsToken, IsTextOf, parts}
+use Rattle.hum_score.specs.declared.records.Kind.TheVariants.{Global}
+use Rattle.hum_score.specs.declared.records.SpinedKind.{SpinedKind}
+use Rattle.hum_score.specs.Row.{Row, Comment, Spined, kind_of, tokens_of}
+use Rattle.hum_score.specs.Spelling.{IsToken, IsTextOf, parts}
 use Rattle.hum_record.specs.Fields.{ends_from}
 use Rattle.hum_record.specs.Building.{spelled, tab_between, tokens_in, IsDraft}
 use Rattle.hum_record.proofs.Ends.{ends_push}

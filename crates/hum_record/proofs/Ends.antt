@@ -6,8 +6,8 @@ use Rattle.std.specs.List.{join_with_byte}
 use Rattle.std.specs.Prelude.{slice_range}
 use Rattle.std.proofs.lemmas.List.Splits.{join_with_byte-slice_split}
 use Rattle.std.proofs.lemmas.List.{append-nil, drop_at, take_at}
-use Rattle.hum_record.specs.Row.{Row, Comment, Spined, tokens_of, width_of, token_at}
-use Rattle.hum_record.specs.Spelling.{IsTextOf, parts}
+use Rattle.hum_score.specs.Row.{Row, Comment, Spined, tokens_of, width_of, token_at}
+use Rattle.hum_score.specs.Spelling.{IsTextOf, parts}
 use Rattle.hum_record.specs.Fields.{ends_from, begins_at, row_in, AreFields}
 use Rattle.hum_record.specs.Coming.{tokens_by, LieIn}
 

@@ -1,10 +1,10 @@
 -- Small texts, read by the definitions.
 use Rattle.std.proofs.Common.{◌≡◌, [], ◌∷◌, ◌++◌, true, false, Ok, Err, refl}
 use lib.Chars.{codes}
-use Rattle.hum_record.specs.declared.SpinedKind.TheVariants.{Values}
-use Rattle.hum_record.specs.declared.RecordFault.TheVariants.{S4, S5, S6, S8}
-use Rattle.hum_record.specs.Row.{Comment, Spined, text_of, with_chosen}
-use Rattle.hum_record.specs.Spelling.{reading}
+use Rattle.hum_score.specs.declared.records.SpinedKind.TheVariants.{Values}
+use Rattle.hum_score.specs.declared.records.RecordFault.TheVariants.{S4, S5, S6, S8}
+use Rattle.hum_score.specs.Row.{Comment, Spined, text_of, with_chosen}
+use Rattle.hum_score.specs.Spelling.{reading}
 
 two_tokens : reading (codes "4c" ++ 9 ∷ codes "2e") ≡ Ok (Spined Values (codes "4c" ∷ codes "2e" ∷ []))
 two_tokens = refl

@@ -8,11 +8,11 @@ use Rattle.std.specs.Simd.Lanes.{chunk, put_chunk}
 use Rattle.hum_record.specs.Building.{spelled}
 use Rattle.hum_record.specs.Contents.{filled_from, is_null}
 use Rattle.std.specs.List.{AllByRecursion}
-use Rattle.hum_record.specs.declared.Kind.TheVariants.{Values as AnyValues}
-use Rattle.hum_record.specs.declared.SpinedKind.TheVariants.{Local, Interpretation, Values}
+use Rattle.hum_score.specs.declared.records.Kind.TheVariants.{Values as AnyValues}
+use Rattle.hum_score.specs.declared.records.SpinedKind.TheVariants.{Local, Interpretation, Values}
 use Rattle.hum_record.specs.Fields.{ends_from, begins_at, row_in, AreFields}
-use Rattle.hum_record.specs.Row.{Row, Comment, Spined, kind_of, tokens_of, width_of, text_of}
-use Rattle.hum_record.specs.Spelling.{IsToken, IsTextOf, parts}
+use Rattle.hum_score.specs.Row.{Row, Comment, Spined, kind_of, tokens_of, width_of, text_of}
+use Rattle.hum_score.specs.Spelling.{IsToken, IsTextOf, parts}
 use Rattle.hum_record.proofs.Ends.{part_lies, ends_push, length-ends_from, width_counts}
 use Rattle.hum_record.proofs.Laws.{parts_filled, only, row_read}
 use Rattle.hum_record.proofs.Left.{parts_are}

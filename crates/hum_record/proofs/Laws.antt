@@ -9,14 +9,14 @@ use Rattle.std.specs.Prelude.{◌==◌}
 use Rattle.std.proofs.lemmas.List.Splits.{join_with_byte-slice_split, slice_split_at, slice_split_none, length-slice_split}
 use Rattle.std.proofs.lemmas.List.Elements.{All-from_recursion}
 use Rattle.std.proofs.lemmas.List.Folds.{list_any-append}
-use Rattle.hum_record.specs.declared.SpinedKind.{SpinedKind}
-use Rattle.hum_record.specs.declared.SpinedKind.TheVariants.{Local, Interpretation, Values}
-use Rattle.hum_record.specs.declared.RecordFault.{RecordFault}
-use Rattle.hum_record.specs.declared.RecordFault.TheVariants.{S4, S5, S6, S8, L1, Memory}
-use Rattle.hum_record.specs.Row.{Row, Comment, Spined, width_of, token_at, tokens_of, text_of}
-use Rattle.hum_record.specs.Spelling.{Breaks, has_byte, is_comment, is_empty, kind_of_token, kind_of_first}
-use Rattle.hum_record.specs.Spelling.{same_kind, mixes_kinds, kind_of_tokens, parts, IsToken, IsTokenOf}
-use Rattle.hum_record.specs.Spelling.{IsTextOf, spined, reading, Gives, Fails}
+use Rattle.hum_score.specs.declared.records.SpinedKind.{SpinedKind}
+use Rattle.hum_score.specs.declared.records.SpinedKind.TheVariants.{Local, Interpretation, Values}
+use Rattle.hum_score.specs.declared.records.RecordFault.{RecordFault}
+use Rattle.hum_score.specs.declared.records.RecordFault.TheVariants.{S4, S5, S6, S8, L1, Memory}
+use Rattle.hum_score.specs.Row.{Row, Comment, Spined, width_of, token_at, tokens_of, text_of}
+use Rattle.hum_score.specs.Spelling.{Breaks, has_byte, is_comment, is_empty, kind_of_token, kind_of_first}
+use Rattle.hum_score.specs.Spelling.{same_kind, mixes_kinds, kind_of_tokens, parts, IsToken, IsTokenOf}
+use Rattle.hum_score.specs.Spelling.{IsTextOf, spined, reading, Gives, Fails}
 use Rattle.std.specs.Prelude.{IfOk, IfErr, MatchResult}
 use Rattle.hum_record.specs.Fields.{row_in, AreFields, ends_from}
 use Rattle.hum_record.proofs.Parts.{kind_of_parts}

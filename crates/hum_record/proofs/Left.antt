@@ -7,9 +7,9 @@ use Rattle.std.proofs.lemmas.List.{length-take-le, drop-set-lt, length-set, take
 use Rattle.std.proofs.lemmas.List.Edits.{drop-paste, take-paste, length-paste}
 use Rattle.std.proofs.Math.Seq.{paste}
 use Rattle.std.specs.List.{copy_within, AllByRecursion, list_any}
-use Rattle.hum_record.specs.declared.SpinedKind.{SpinedKind}
-use Rattle.hum_record.specs.Row.{Row, Comment, Spined, tokens_of, width_of, chosen, with_chosen}
-use Rattle.hum_record.specs.Spelling.{IsToken, IsTextOf, parts}
+use Rattle.hum_score.specs.declared.records.SpinedKind.{SpinedKind}
+use Rattle.hum_score.specs.Row.{Row, Comment, Spined, tokens_of, width_of, chosen, with_chosen}
+use Rattle.hum_score.specs.Spelling.{IsToken, IsTextOf, parts}
 use Rattle.hum_record.specs.Fields.{ends_from, row_in, AreFields}
 use Rattle.hum_record.specs.Building.{spelled}
 use Rattle.hum_record.proofs.Ends.{length-ends_from, ends_push}

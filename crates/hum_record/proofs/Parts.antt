@@ -8,7 +8,7 @@ use Rattle.std.proofs.lemmas.List.Folds.{list_any_none, list_any_at}
 use Rattle.std.specs.List.{onto_first}
 use Rattle.std.proofs.lemmas.Bool.{eqb-true}
 use Rattle.std.proofs.lemmas.Bool.Decides.{eqb_tells}
-use Rattle.hum_record.specs.Spelling.{parts, has_byte, kind_of_token, kind_of_first}
+use Rattle.hum_score.specs.Spelling.{parts, has_byte, kind_of_token, kind_of_first}
 
 first_onto : (x : ℕ) (xs : List ℕ) (ts : List (List ℕ)) → kind_of_token (x ∷ xs) ≡ kind_of_first (onto_first x ts)
 first_onto x xs [] = refl

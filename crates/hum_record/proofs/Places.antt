@@ -14,7 +14,7 @@ use Rattle.std.proofs.Math.Nat.{add-mul-mod_self_right}
 use Rattle.std.proofs.lemmas.Bool.Decides.{nat_tests}
 use Rattle.std.proofs.lemmas.Simd.{mask_l-lt, trailing_mask_l}
 use native.Mathlib.Nat.{pow-suc, mul_comm, zero-div, div-one, div-div-eq-div-mul, mod-eq_of_lt, two-pow-succ}
-use Rattle.hum_record.specs.Spelling.{has_byte}
+use Rattle.hum_score.specs.Spelling.{has_byte}
 use Rattle.hum_record.specs.Cutting.{bits_of, tabs_from}
 
 lowest : (b : Bool) (n : ℕ) → ((cond b 1 0 + 2 * n) / 2) ≡ n

@@ -8,9 +8,9 @@ use Rattle.std.specs.List.{list_any, onto_first}
 use Rattle.std.specs.Simd.Lanes.{mask_l}
 use Rattle.std.proofs.lemmas.Simd.{bit_mask_l}
 use Rattle.std.proofs.lemmas.Nat.Bits.{bit_at_and, bit_at-zero}
-use Rattle.hum_record.specs.declared.SpinedKind.{SpinedKind}
-use Rattle.hum_record.specs.declared.SpinedKind.TheVariants.{Local, Interpretation, Values}
-use Rattle.hum_record.specs.Spelling.{is_empty, is_comment, same_kind, kind_of_token, kind_of_first, mixes_kinds, kind_of_tokens, parts}
+use Rattle.hum_score.specs.declared.records.SpinedKind.{SpinedKind}
+use Rattle.hum_score.specs.declared.records.SpinedKind.TheVariants.{Local, Interpretation, Values}
+use Rattle.hum_score.specs.Spelling.{is_empty, is_comment, same_kind, kind_of_token, kind_of_first, mixes_kinds, kind_of_tokens, parts}
 use Rattle.hum_record.specs.Cutting.{bits_of}
 use mir.Val.{bool_byte}
 use Rattle.std.proofs.lemmas.Bool.{eqb-true}

@@ -5,7 +5,7 @@ use Rattle.std.proofs.lemmas.Bool.{cases_lt, cond-false}
 use Rattle.std.proofs.lemmas.List.{set-get_or, drop_all, get_or-set_other, get_or_past}
 use Rattle.std.proofs.lemmas.List.Sums.{prefix_len-le-length, prefix_len_passes, prefix_len_stops}
 use Rattle.std.specs.List.{copy_within, list_any}
-use Rattle.hum_record.specs.Row.{chosen}
+use Rattle.hum_score.specs.Row.{chosen}
 use Rattle.hum_record.specs.Building.{spelled}
 use Rattle.hum_record.specs.Fields.{ends_from, begins_at}
 use Rattle.hum_record.specs.Selecting.{marked_from, front_of, moved_of}

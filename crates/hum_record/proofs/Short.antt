@@ -14,10 +14,10 @@ use lib.Count.{count_trailing_zeros, under}
 use lib.Pow.{pow_mono}
 use native.Mathlib.Nat.{two-pow-succ}
 use Rattle.memchr.specs.Find.{IsFirstByte, is_byte}
-use Rattle.hum_record.specs.declared.Kind.TheVariants.{Values as AnyValues}
-use Rattle.hum_record.specs.declared.SpinedKind.TheVariants.{Values}
-use Rattle.hum_record.specs.Row.{Row, Comment, Spined, kind_of, text_of}
-use Rattle.hum_record.specs.Spelling.{IsTextOf, has_byte, is_comment, reading, parts}
+use Rattle.hum_score.specs.declared.records.Kind.TheVariants.{Values as AnyValues}
+use Rattle.hum_score.specs.declared.records.SpinedKind.TheVariants.{Values}
+use Rattle.hum_score.specs.Row.{Row, Comment, Spined, kind_of, text_of}
+use Rattle.hum_score.specs.Spelling.{IsTextOf, has_byte, is_comment, reading, parts}
 use Rattle.hum_record.specs.Fields.{AreFields, ends_from, row_in}
 use Rattle.hum_record.specs.Cutting.{bits_of, set_places, tabs_from}
 use Rattle.hum_record.specs.Lines.{IsBehind, IsLine, IsRead, IsReadTo}

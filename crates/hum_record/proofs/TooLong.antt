@@ -1,7 +1,7 @@
 -- Tokens behind those of a record in the making: those that are too long for a record stay so.
 use Rattle.std.proofs.Common.{◌≡◌, ◌∙◌, sym, ap, subst, ℕ, Bool, true, false, List, ◌++◌, ◌≤◌, length, arith}
 use Rattle.std.proofs.lemmas.Bool.{false≢true}
-use Rattle.hum_record.specs.declared.SpinedKind.{SpinedKind}
+use Rattle.hum_score.specs.declared.records.SpinedKind.{SpinedKind}
 use Rattle.hum_record.specs.Building.{Draft, spelled}
 use Rattle.hum_record.proofs.Drafts.{spelled_front}
 use Rattle.hum_record.specs.RecordDraft.{Holds}

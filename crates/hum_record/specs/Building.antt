@@ -3,8 +3,8 @@ use Rattle.std.specs.Prelude.{◌≡◌, ℕ, ◌≤◌, Bool, false, List, [], 
 use Rattle.std.specs.Prelude.{◌==◌, if◌then◌else◌}
 use Rattle.std.specs.Prelude.{Option, None, Some, Box}
 use Rattle.std.specs.List.{join_with_byte, AllByRecursion}
-use Rattle.hum_record.specs.declared.SpinedKind.{SpinedKind}
-use Rattle.hum_record.specs.Spelling.{IsToken, parts}
+use Rattle.hum_score.specs.declared.records.SpinedKind.{SpinedKind}
+use Rattle.hum_score.specs.Spelling.{IsToken, parts}
 use Rattle.hum_record.specs.Fields.{ends_from, Written}
 
 -- its kind and its tokens so far, and whether memory ran out

@@ -3,10 +3,10 @@ use Rattle.std.specs.Prelude.{◌≡◌, ◌==◌, ◌+◌, ◌/◌, ◌%◌, �
 use Rattle.std.specs.Prelude.{List, [], ◌∷◌, map}
 use Rattle.std.specs.Prelude.{Ok, if◌then◌else◌}
 use Rattle.std.specs.Simd.Lanes.{mask_l}
-use Rattle.hum_record.specs.declared.SpinedKind.TheVariants.{Values}
+use Rattle.hum_score.specs.declared.records.SpinedKind.TheVariants.{Values}
 use Rattle.hum_record.specs.declared.tokens.Cut.{Cut}
 use Rattle.hum_record.specs.declared.tokens.Cut.TheVariants.{Plain, Whole, Broken}
-use Rattle.hum_record.specs.Spelling.{has_byte, kind_of_tokens, parts}
+use Rattle.hum_score.specs.Spelling.{has_byte, kind_of_tokens, parts}
 use Rattle.hum_record.specs.Fields.{ends_from}
 
 -- the places of the tabs in a text whose first byte has this place

@@ -1,8 +1,8 @@
 -- What a record's fields stand for.
 use Rattle.std.specs.Prelude.{◌≡◌, ℕ, zero, suc, ◌+◌, List, [], ◌∷◌, length}
 use Rattle.std.specs.Prelude.{slice_index, if◌then◌else◌}
-use Rattle.hum_record.specs.Row.{Row, Comment, Spined, tokens_of}
-use Rattle.hum_record.specs.Spelling.{IsTextOf, is_comment, kind_of_token, parts}
+use Rattle.hum_score.specs.Row.{Row, Comment, Spined, tokens_of}
+use Rattle.hum_score.specs.Spelling.{IsTextOf, is_comment, kind_of_token, parts}
 
 -- where each of some tokens ends in their text; the first begins at a place, and a tab follows each
 abbrev pub ends_from : ℕ → List (List ℕ) → List ℕ

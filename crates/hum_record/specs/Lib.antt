@@ -1,5 +1,3 @@
-pub mod Row
-pub mod Spelling
 pub mod Fields
 pub mod Coming
 pub mod Lines

@@ -1,9 +1,9 @@
 -- Lines, and what stands behind a text.
 use Rattle.std.specs.Prelude.{◌≡◌, ◌<◌, ◌+◌, ◌⊎◌, ℕ, List, length, slice_index, take, Some, Ok}
 use Rattle.memchr.specs.Find.{IsFirstByte, is_byte}
-use Rattle.hum_record.specs.declared.Kind.TheVariants.{Values}
-use Rattle.hum_record.specs.Row.{Row, kind_of, text_of}
-use Rattle.hum_record.specs.Spelling.{IsTextOf, reading}
+use Rattle.hum_score.specs.declared.records.Kind.TheVariants.{Values}
+use Rattle.hum_score.specs.Row.{Row, kind_of, text_of}
+use Rattle.hum_score.specs.Spelling.{IsTextOf, reading}
 
 -- LF stands in some bytes behind a text that ends at a place: there, or behind a CR.
 abbrev pub IsBehind : List ℕ → ℕ → ℕ → Type 0

@@ -1,9 +1,9 @@
 -- Null tokens, which stand where a spine has nothing to say.
 use Rattle.std.specs.Prelude.{ℕ, List, replicate}
 use lib.Chars.{codes}
-use Rattle.hum_record.specs.declared.SpinedKind.{SpinedKind}
-use Rattle.hum_record.specs.declared.SpinedKind.TheVariants.{Local, Interpretation, Values}
-use Rattle.hum_record.specs.Row.{Row, Spined}
+use Rattle.hum_score.specs.declared.records.SpinedKind.{SpinedKind}
+use Rattle.hum_score.specs.declared.records.SpinedKind.TheVariants.{Local, Interpretation, Values}
+use Rattle.hum_score.specs.Row.{Row, Spined}
 
 -- the null token of a kind
 abbrev pub null_of : SpinedKind → List ℕ

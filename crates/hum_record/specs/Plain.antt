@@ -2,8 +2,8 @@
 use Rattle.std.specs.Prelude.{◌≡◌, ◌==◌, ◌&&◌, ◌||◌, ◌+◌, ◌*◌, ℕ, Bool, false, List, [], ◌∷◌}
 use Rattle.std.specs.Prelude.{◌++◌, take, drop, map, bit_and, Ok}
 use Rattle.std.specs.Simd.Lanes.{mask_l}
-use Rattle.hum_record.specs.declared.SpinedKind.TheVariants.{Values}
-use Rattle.hum_record.specs.Spelling.{has_byte, is_comment, kind_of_tokens, parts}
+use Rattle.hum_score.specs.declared.records.SpinedKind.TheVariants.{Values}
+use Rattle.hum_score.specs.Spelling.{has_byte, is_comment, kind_of_tokens, parts}
 use Rattle.hum_record.specs.Cutting.{bits_of}
 use Rattle.hum_record.specs.Fields.{ends_from}
 use Rattle.hum_record.specs.Lines.{IsBehind}

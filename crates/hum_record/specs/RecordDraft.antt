@@ -1,8 +1,8 @@
 -- A record in the making that may grow too long.
 use Rattle.std.specs.Prelude.{◌≡◌, ◌<◌, ◌≤◌, ℕ, Bool, true, false, List, length}
 use Rattle.std.specs.Prelude.{Option, None, Some, IsTrue}
-use Rattle.hum_record.specs.declared.SpinedKind.{SpinedKind}
-use Rattle.hum_record.specs.Row.{Row, Spined}
+use Rattle.hum_score.specs.declared.records.SpinedKind.{SpinedKind}
+use Rattle.hum_score.specs.Row.{Row, Spined}
 use Rattle.hum_record.specs.Building.{Draft, spelled}
 
 -- The fields hold tokens of a kind, or that these are too long for a record.

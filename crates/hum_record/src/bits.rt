@@ -2,7 +2,7 @@
 ghost use Rattle.std.specs.Prelude.{◌≡◌, ◌+◌, ◌-◌, ◌*◌, ◌≤◌, length};
 ghost use Rattle.std.specs.Simd.Lanes.{chunk};
 ghost use Rattle.hum_record.specs.Cutting.{bits_of};
-ghost use Rattle.hum_record.specs.Spelling.{has_byte};
+ghost use Rattle.hum_score.specs.Spelling.{has_byte};
 
 use std::simd::prelude::*;
 

@@ -1,6 +1,6 @@
 //! The text of a record, and where its tokens end in it.
 ghost use Rattle.std.specs.Prelude.{◌≡◌, ◌≤◌, ◌<◌, ◌+◌, ◌-◌, ◌*◌, ◌^◌, ◌++◌, ◌∷◌, [], length, take};
-ghost use Rattle.std.specs.Prelude.{bit_and};
+ghost use Rattle.std.specs.Prelude.{bit_and, slice_index};
 ghost use Rattle.std.specs.Prelude.{ℕ, OnOk, IfErr, Ok, true, false, vec_len};
 ghost use Rattle.hum_record.specs.Building.{tab_between, spelled};
 ghost use Rattle.hum_record.specs.Contents.{filled_from};
@@ -8,8 +8,8 @@ ghost use Rattle.hum_record.specs.Cutting.{set_places};
 ghost use Rattle.hum_record.specs.Fields.{AreFields, ends_from, row_in, written};
 ghost use Rattle.hum_record.specs.Lines.{IsLine};
 ghost use Rattle.hum_record.specs.Plain.{HasPlaces};
-ghost use Rattle.hum_record.specs.Row.{chosen};
-ghost use Rattle.hum_record.specs.Spelling.{has_byte, reading, parts, Fails};
+ghost use Rattle.hum_score.specs.Row.{chosen};
+ghost use Rattle.hum_score.specs.Spelling.{has_byte, reading, parts, Fails};
 
 use crate::filling::{WHOLE, put_filled};
 use crate::leaving::move_in_front;
@@ -44,7 +44,6 @@ pub struct Body {
 
 // Written out, so that a proof of who drops a record sees one call and not the drop of each field.
 impl Drop for Body {
-    #[inline]
     fn drop(self) {
         let Body {
             held: _held,
@@ -71,7 +70,7 @@ impl Model for Body {
 
 /// Fills up a list to this length, where it is shorter.
 #[inline(never)]
-fn fill_bytes(held: &mut Vec<u8>, count: usize) -> Result<(), AllocError>
+pub fn fill_bytes(held: &mut Vec<u8>, count: usize) -> Result<(), AllocError>
     ensures kept { take (vec_len held.old) held.new.items ≡ held.old.items }
     ensures more { vec_len held.old ≤ vec_len held.new }
     ensures room { OnOk result (count ≤ vec_len held.new) }
@@ -97,7 +96,6 @@ fn fill_places(places: &mut Vec<u32>, count: usize) -> Result<(), AllocError>
 }
 
 /// The same, but most often it is as long already.
-#[inline]
 fn give_bytes(held: &mut Vec<u8>, count: usize) -> Result<(), AllocError>
     ensures kept { take (vec_len held.old) held.new.items ≡ held.old.items }
     ensures more { vec_len held.old ≤ vec_len held.new }
@@ -109,7 +107,6 @@ fn give_bytes(held: &mut Vec<u8>, count: usize) -> Result<(), AllocError>
     Ok(())
 }
 
-#[inline]
 pub fn give_places(places: &mut Vec<u32>, count: usize) -> Result<(), AllocError>
     ensures kept { take (vec_len places.old) places.new.items ≡ places.old.items }
     ensures more { vec_len places.old ≤ vec_len places.new }
@@ -118,6 +115,19 @@ pub fn give_places(places: &mut Vec<u32>, count: usize) -> Result<(), AllocError
     if places.len() < count {
         return fill_places(places, count);
     }
+    Ok(())
+}
+
+/// Puts a text in place of what is held, and LF behind it.
+fn hold(held: &mut Vec<u8>, text: &[u8]) -> Result<(), AllocError>
+    ensures text { OnOk result (take (length text.now) held.new.items ≡ text.now) }
+    ensures room { OnOk result (length text.now < vec_len held.new) }
+    ensures ended { OnOk result (slice_index held.new.items (length text.now) ≡ 10) }
+{
+    held.clear();
+    held.extend_from_slice(text)?;
+    fill_bytes(held, text.len() + 1)?;
+    held[text.len()] = b'\n';
     Ok(())
 }
 
@@ -135,7 +145,6 @@ impl Body {
     }
 
     /// The text.
-    #[inline]
     pub fn text(&self) -> &[u8]
         ensures { result.now ≡ self.now.text }
     {
@@ -143,7 +152,6 @@ impl Body {
     }
 
     /// The text, and LF.
-    #[inline]
     pub fn text_lf(&self) -> &[u8]
         requires { 0 < length self.now.text }
         ensures { result.now ≡ self.now.text ++ 10 ∷ [] }
@@ -152,7 +160,6 @@ impl Body {
     }
 
     /// Where each of its tokens ends in it.
-    #[inline]
     pub fn ends(&self) -> &[u32]
         ensures { result.now ≡ self.now.ends }
     {
@@ -160,7 +167,6 @@ impl Body {
     }
 
     /// How many tokens end in it.
-    #[inline]
     pub fn width(&self) -> usize
         ensures { result ≡ length self.now.ends }
     {
@@ -168,13 +174,11 @@ impl Body {
     }
 
     /// How much room there is for a text, without more memory.
-    #[inline]
     pub fn room(&self) -> usize {
         self.held.len()
     }
 
     /// Leaves nothing but room.
-    #[inline]
     pub fn clear(&mut self)
         ensures { self.new ≡ written [] [] }
     {
@@ -211,7 +215,8 @@ impl Body {
         ensures { result ≡ true → (len : ℕ) × IsLine held.now len × (len ≤ 1048576)
             × (self.new.text ≡ take len held.now) × HasPlaces (take len held.now) self.new.ends }
     {
-        self.clear();
+        self.len = 0;
+        self.count = 0;
         let Some(line) = put_line(&mut self.places, held) else {
             return false;
         };
@@ -235,14 +240,12 @@ impl Body {
         ensures read { OnOk result (reading text.now ≡ Ok (row_in text.now)) }
         ensures refused { IfErr result (λ fault. Fails fault (reading text.now)) }
     {
-        self.clear();
+        self.len = 0;
+        self.count = 0;
         cut(&mut self.places, text)?;
         let count = self.places.len();
         fill_places(&mut self.places, count)?;
-        self.held.clear();
-        self.held.extend_from_slice(text)?;
-        fill_bytes(&mut self.held, text.len() + 1)?;
-        self.held[text.len()] = b'\n';
+        hold(&mut self.held, text)?;
         self.len = text.len();
         self.count = count;
         Ok(())
@@ -250,7 +253,6 @@ impl Body {
 
     /// Puts what another one is in place of this where that is short, as most are, or else nothing; and
     /// tells which.
-    #[inline]
     pub fn copy_short(&mut self, other: &Body) -> bool
         ensures copied { result ≡ true → self.new ≡ other.now }
         ensures kept { result ≡ false → self.new ≡ self.old }
@@ -301,7 +303,8 @@ impl Body {
             ≡ ends_from 0 (filled_from (parts above.now.text) (parts row.now.text)) }
         ensures at_most { result ≡ true → length self.new.text ≤ 1048576 }
     {
-        self.clear();
+        self.len = 0;
+        self.count = 0;
         let most = row.len + above.len;
         if most >= MOST_BYTES
             || row.held.len() - row.len < WHOLE
@@ -312,7 +315,8 @@ impl Body {
         let Ok(()) = give_bytes(&mut self.held, most + 2 * WHOLE) else {
             return false;
         };
-        let Ok(()) = give_places(&mut self.places, row.count) else {
+        let count = row.width();
+        let Ok(()) = give_places(&mut self.places, count) else {
             return false;
         };
         let Some(len) = put_filled(
@@ -320,20 +324,19 @@ impl Body {
             &mut self.places,
             &row.held,
             row.len,
-            &row.places[..row.count],
+            row.ends(),
             &above.held,
             above.len,
-            &above.places[..above.count],
+            above.ends(),
         ) else {
             return false;
         };
         self.len = len;
-        self.count = row.count;
+        self.count = count;
         true
     }
 
     /// Puts what another one is in place of this.
-    #[inline]
     pub fn copy_of(&mut self, other: &Body) -> Result<(), AllocError>
         ensures { OnOk result (self.new ≡ other.now) }
     {
@@ -347,11 +350,9 @@ impl Body {
     fn copy_any(&mut self, other: &Body) -> Result<(), AllocError>
         ensures { OnOk result (self.new ≡ other.now) }
     {
-        self.clear();
-        self.held.clear();
-        self.held.extend_from_slice(other.text())?;
-        fill_bytes(&mut self.held, other.len + 1)?;
-        self.held[other.len] = b'\n';
+        self.len = 0;
+        self.count = 0;
+        hold(&mut self.held, other.text())?;
         self.places.clear();
         self.places.extend_from_slice(other.ends())?;
         fill_places(&mut self.places, other.count)?;
@@ -361,7 +362,6 @@ impl Body {
     }
 
     /// Leaves the selected tokens alone.
-    #[inline]
     pub fn leave(&mut self, selection: &Selection)
         requires cut { self.old.ends ≡ ends_from 0 (parts self.old.text) }
         requires as_wide { length selection.now ≡ length self.old.ends }
@@ -407,7 +407,6 @@ impl Body {
 
     /// The same of a token of 1 to 16 bytes, as most are, where there is room for it and no doubt that the
     /// text isn't too long, or else nothing; and tells which.
-    #[inline]
     pub fn add_near(&mut self, token: &[u8]) -> bool
         ensures text { result ≡ true
             → self.new.text ≡ self.old.text ++ (tab_between self.old.ends ++ token.now) }

@@ -3,9 +3,9 @@ ghost use Rattle.std.specs.Prelude.{◌≡◌, ◌≢◌, ◌+◌, ◌<◌, ◌�
 ghost use Rattle.std.specs.Prelude.{length, IsTrue, Err, OnOk, OnErr, IfErr};
 ghost use Rattle.std.specs.Allocator.{alloc_error};
 ghost use Rattle.std.specs.Prelude.{is_some, true, IfOk, if◌then◌else◌};
-ghost use Rattle.hum_record.specs.Spelling.{IsToken};
+ghost use Rattle.hum_score.specs.Spelling.{IsToken};
 ghost use Rattle.hum_record.specs.Building.{tab_between, text_in, ends_in};
-ghost use Rattle.hum_record.specs.declared.RecordFault.TheVariants.{L1, Memory};
+ghost use Rattle.hum_score.specs.declared.records.RecordFault.TheVariants.{L1, Memory};
 
 use crate::body::Body;
 use crate::reading::Record;
@@ -55,7 +55,7 @@ impl Model for RecordBuilder {
 
 impl RecordBuilder {
     ghost use Rattle.hum_record.specs.Building.{Draft, spelled};
-    ghost use Rattle.hum_record.specs.Row.{Spined};
+    ghost use Rattle.hum_score.specs.Row.{Spined};
 
     /// A record of a kind, as yet without tokens.
     pub fn new(alloc: Global, kind: SpinedKind) -> Self

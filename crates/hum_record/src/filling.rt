@@ -4,7 +4,7 @@ ghost use Rattle.std.specs.Prelude.{slice_range, take, IfSome, if◌then◌else�
 ghost use Rattle.hum_record.specs.Building.{spelled};
 ghost use Rattle.hum_record.specs.Contents.{filled_from, is_null};
 ghost use Rattle.hum_record.specs.Fields.{ends_from};
-ghost use Rattle.hum_record.specs.Spelling.{parts};
+ghost use Rattle.hum_score.specs.Spelling.{parts};
 
 use std::simd::prelude::*;
 
@@ -12,7 +12,6 @@ use std::simd::prelude::*;
 pub const WHOLE: usize = 16;
 
 /// Whether a null token stands between two places.
-#[inline(always)]
 fn is_null_at(text: &[u8], begin: usize, end: usize) -> bool
     requires order { begin ≤ end }
     requires within { end ≤ length text.now }
@@ -23,7 +22,6 @@ fn is_null_at(text: &[u8], begin: usize, end: usize) -> bool
 
 /// Puts what stands between two places of some bytes at a place of a text, where it is short, and tells
 /// where it ends.
-#[inline(always)]
 fn put_short(text: &mut [u8], at: usize, held: &[u8], begin: usize, end: usize) -> Option<usize>
     requires order { begin ≤ end }
     requires filled { end + 16 ≤ length held.now }
@@ -40,7 +38,6 @@ fn put_short(text: &mut [u8], at: usize, held: &[u8], begin: usize, end: usize) 
 }
 
 /// The same of a token of a row, or where that is null of what stands above it.
-#[inline(always)]
 fn put_one(
     text: &mut [u8],
     at: usize,

@@ -1,6 +1,7 @@
 //! A text that grows by short parts.
 ghost use Rattle.std.specs.Prelude.{◌≡◌, ◌≤◌, ◌+◌, ◌++◌, ◌==◌, [], OnOk, OnErr, length, take, vec_len};
 
+use crate::body::fill_bytes;
 use crate::putting::put_token;
 use std::alloc::{AllocError, Global};
 use std::marker::Model;
@@ -35,10 +36,7 @@ fn widen(held: &mut Vec<u8>, len: usize, part: &[u8]) -> Result<(), AllocError>
     ensures room { OnOk result (len + length part.now ≤ vec_len held.new) }
 {
     let count = len.saturating_add(part.len()).saturating_add(MORE_BYTES);
-    if held.len() < count {
-        held.resize(count, 0)?;
-    }
-    Ok(())
+    fill_bytes(held, count)
 }
 
 impl GrowingText {
@@ -53,7 +51,6 @@ impl GrowingText {
     }
 
     /// How many bytes it has.
-    #[inline]
     pub fn len(&self) -> usize
         ensures { result ≡ length self.now }
     {
@@ -61,7 +58,6 @@ impl GrowingText {
     }
 
     /// Whether it has none.
-    #[inline]
     pub fn is_empty(&self) -> bool
         ensures { result ≡ (length self.now == 0) }
     {
@@ -69,7 +65,6 @@ impl GrowingText {
     }
 
     /// Its bytes.
-    #[inline]
     pub fn as_slice(&self) -> &[u8]
         ensures { result.now ≡ self.now }
     {
@@ -77,7 +72,6 @@ impl GrowingText {
     }
 
     /// Leaves nothing but room.
-    #[inline]
     pub fn clear(&mut self)
         ensures { self.new ≡ [] }
     {

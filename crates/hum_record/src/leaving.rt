@@ -1,8 +1,8 @@
 //! Tokens that are left of a record, in its own memory.
 ghost use Rattle.std.specs.Prelude.{◌≡◌, ◌<◌, ◌≤◌, ◌+◌, ◌-◌, ◌*◌, ◌^◌, ◌==◌, length, take, if◌then◌else◌};
 ghost use Rattle.std.specs.List.{copy_within};
-ghost use Rattle.hum_record.specs.Row.{chosen};
-ghost use Rattle.hum_record.specs.Spelling.{parts};
+ghost use Rattle.hum_score.specs.Row.{chosen};
+ghost use Rattle.hum_score.specs.Spelling.{parts};
 ghost use Rattle.hum_record.specs.Building.{spelled};
 ghost use Rattle.hum_record.specs.Fields.{begins_at, ends_from};
 

@@ -1,18 +1,10 @@
 //! Records of a Humdrum score: what one line says, as its kind and its tokens.
 //!
-//! A line whose text begins with `!!` is a *global comment* and belongs to no spine. Any other
-//! line has one *token* for each spine, a tab between two, and its tokens are all local comments
-//! (they begin with `!`), all interpretations (they begin with `*`) or all data (they begin with
-//! neither). The rules are those of the Humdrum Toolkit's reference manual, in its chapter on the
-//! syntax (<https://www.humdrum.org/guide/ch05/>).
+//! What a record is, [`hum_score`] says.
 //!
 //! [`Record::parse_into`] reads a line, and [`Record::retain`] leaves some of its tokens alone;
 //! [`RecordBuilder`] makes a record token by token; [`RecordDraft`] does so where it may grow too long.
 #![tactic(auto)]
-
-ghost use Rattle.std.specs.Prelude.{◌≡◌};
-ghost use Rattle.hum_record.specs.Row.{as_kind};
-ghost use Rattle.hum_record.specs.declared.RecordFault.TheVariants.{Memory};
 
 mod bits;
 mod body;
@@ -35,88 +27,12 @@ mod wide;
 pub use building::RecordBuilder;
 pub use contents::{is_barline, is_data, is_filled, is_null};
 pub use growing::GrowingText;
+pub use hum_score::{Kind, RecordFault, SpinedKind};
 pub use nulls::{null_of, null_record};
 pub use reading::{Record, ShortLine};
 pub use record_draft::RecordDraft;
 pub use selection::Selection;
 pub use spare::Spare;
-use std::alloc::{AllocError, AllocFailed};
-use thiserror::Error;
 
 /// How many bytes the text of a record may have.
 pub const MOST_BYTES: usize = 1_048_576;
-
-/// What a record is.
-#[derive(Clone, Copy, Debug, PartialEq, Eq)]
-pub enum Kind {
-    /// A global comment: it begins with `!!`, and has no tokens.
-    Global,
-    /// Local comments: each token begins with `!`.
-    Local,
-    /// Interpretations: each token begins with `*`.
-    Interpretation,
-    /// Data: no token begins with `!` or `*`.
-    Values,
-}
-
-/// What the tokens of a spined record are. All of them are of this one kind.
-#[derive(Clone, Copy, PartialEq, Eq)]
-pub enum SpinedKind {
-    /// Local comments: each token begins with `!`, and none with `!!`.
-    Local,
-    /// Interpretations: each token begins with `*`.
-    Interpretation,
-    /// Data: no token begins with `!` or `*`.
-    Values,
-}
-
-impl From<SpinedKind> for Kind {
-    ghost from_gives = { λ spined kind. kind ≡ as_kind spined };
-
-    fn from(spined: SpinedKind) -> Kind {
-        match spined {
-            SpinedKind::Local => Kind::Local,
-            SpinedKind::Interpretation => Kind::Interpretation,
-            SpinedKind::Values => Kind::Values,
-        }
-    }
-}
-
-/// Why a text is no record, or a token has no place in one.
-#[derive(Clone, Copy, Debug, PartialEq, Eq, Error)]
-pub enum RecordFault {
-    /// Two tabs in a row, or a tab at an end of the line.
-    #[error("S4: an empty token")]
-    S4,
-    /// Comments, interpretations and data side by side.
-    #[error("S5: tokens of different kinds in one record")]
-    S5,
-    /// A local comment with a token that begins with `!!`.
-    #[error("S6: a local comment with a token that begins with !!")]
-    S6,
-    /// A carriage return within the line.
-    #[error("S8: a carriage return within the line")]
-    S8,
-    /// A record of over 1,048,576 bytes.
-    #[error("L1: a record of over 1,048,576 bytes")]
-    L1,
-    /// Memory ran out.
-    #[error("out of memory")]
-    Memory,
-}
-
-impl From<AllocError> for RecordFault {
-    ghost from_gives = { λ _ e. e ≡ Memory };
-
-    fn from(_e: AllocError) -> RecordFault {
-        RecordFault::Memory
-    }
-}
-
-impl<T: Drop> From<AllocFailed<T>> for RecordFault {
-    ghost from_gives = { λ _ e. e ≡ Memory };
-
-    fn from(_e: AllocFailed<T>) -> RecordFault {
-        RecordFault::Memory
-    }
-}

@@ -31,7 +31,6 @@ pub struct LineEnd {
 }
 
 /// Where LF stands among `N` bytes, or a byte that seldom stands in data, as the bits of a number.
-#[inline(always)]
 pub fn stop_bits<const N: usize>(held: &[u8], at: usize) -> u64
     requires few { N ≤ 64 }
     requires within { at + N ≤ length held.now }
@@ -46,7 +45,6 @@ pub fn stop_bits<const N: usize>(held: &[u8], at: usize) -> u64
 
 /// Whether no token is empty of those that begin in a word, by the bits of where its tokens end. `head` is
 /// 1 where one begins with the word, or 0.
-#[inline(always)]
 pub fn is_apart(head: u64, ends: u64) -> bool
     requires { head ≤ 1 }
     ensures { result ≡ true → bit_and (head + 2 * ends) ends ≡ 0 }
@@ -56,7 +54,6 @@ pub fn is_apart(head: u64, ends: u64) -> bool
 }
 
 /// Where LF stands behind a text that ends at a place: there, or behind a CR, in front of another place.
-#[inline(always)]
 fn lf_behind(held: &[u8], len: usize, end: usize) -> Option<usize>
     requires near { len < end }
     requires within { end ≤ length held.now }
@@ -71,7 +68,6 @@ fn lf_behind(held: &[u8], len: usize, end: usize) -> Option<usize>
     None
 }
 
-#[inline(always)]
 fn is_cr_lf(held: &[u8], len: usize, end: usize) -> bool
     requires near { len < end }
     requires within { end ≤ length held.now }
@@ -82,7 +78,6 @@ fn is_cr_lf(held: &[u8], len: usize, end: usize) -> bool
 
 /// The end of a line that ends among the `N` bytes from a place on, by the bits of the stops among these, if
 /// the bytes up to there show plain data.
-#[inline(always)]
 pub fn line_end<const N: usize>(held: &[u8], at: usize, head: u64, stops: u64) -> Option<LineEnd>
     requires few { N ≤ 64 }
     requires within { at + N ≤ length held.now }
@@ -108,7 +103,6 @@ pub fn line_end<const N: usize>(held: &[u8], at: usize, head: u64, stops: u64) -
 }
 
 /// Puts the place of the lowest of some bits into a list, and answers the others.
-#[inline(always)]
 fn put_place(places: &mut [u32], end: usize, start: u32, bits: u64) -> u64
     requires some { 0 < bits }
     requires room { end < length places.old }
@@ -148,7 +142,6 @@ pub fn put_places(places: &mut [u32], count: usize, start: u32, bits: u64) -> us
 }
 
 /// Puts the first `N` bytes of what is held in front of what stands in a list.
-#[inline(always)]
 pub fn copy_near<const N: usize>(text: &mut [u8], held: &[u8])
     requires filled { N ≤ length held.now }
     requires room { N ≤ length text.old }
@@ -158,7 +151,6 @@ pub fn copy_near<const N: usize>(text: &mut [u8], held: &[u8])
 }
 
 /// The same of places.
-#[inline]
 pub fn copy_places(places: &mut [u32], held: &[u32])
     requires filled { 8 ≤ length held.now }
     requires room { 8 ≤ length places.old }

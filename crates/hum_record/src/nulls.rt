@@ -1,6 +1,7 @@
 //! Null tokens, which stand where a spine has nothing to say.
 ghost use Rattle.std.specs.Prelude.{◌≡◌, ◌≤◌, ◌++◌, length, IfOk, OnOk};
-ghost use Rattle.hum_record.specs.{Building.spelled, Row.text_of, Spelling.IsToken};
+ghost use Rattle.hum_record.specs.{Building.spelled};
+ghost use Rattle.hum_score.specs.{Row.text_of, Spelling.IsToken};
 ghost use Rattle.hum_record.specs.Nulls.{null_of, nulls, null_row};
 
 use crate::building::RecordBuilder;

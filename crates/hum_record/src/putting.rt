@@ -37,7 +37,6 @@ fn put_any(text: &mut [u8], at: usize, token: &[u8])
 }
 
 /// Puts a token at a place of a text, and answers where it ends. Most tokens are short.
-#[inline]
 pub fn put_token(text: &mut [u8], at: usize, token: &[u8]) -> usize
     requires within { at + length token.now ≤ length text.old }
     ensures text { text.new ≡ paste text.old at token.now (length token.now) }

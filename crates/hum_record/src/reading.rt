@@ -1,18 +1,18 @@
 //! A record, and how a line is read as one.
 ghost use Rattle.std.specs.Prelude.{◌≡◌, ◌≢◌, ◌<◌, ◌≤◌, true, false, Ok, IfOk, IfErr, OnOk, MatchResult};
 ghost use Rattle.std.specs.Prelude.{IfSome, length, take, ◌++◌, ◌∷◌, []};
-ghost use Rattle.hum_record.specs.Spelling.{IsTokenOf, IsTextOf, has_byte, is_comment, reading};
-ghost use Rattle.hum_record.specs.Spelling.{Gives, Fails, Breaks};
+ghost use Rattle.hum_score.specs.Spelling.{IsTokenOf, IsTextOf, has_byte, is_comment, reading};
+ghost use Rattle.hum_score.specs.Spelling.{Gives, Fails, Breaks};
 ghost use Rattle.hum_record.specs.Fields.{AreFields, row_in};
 ghost use Rattle.hum_record.specs.Lines.{IsRead, IsReadTo};
 ghost use Rattle.hum_record.specs.Plain.{EndsLine};
-ghost use Rattle.hum_record.specs.Row.{Row, kind_of, row_of, tokens_of, width_of, token_at, text_of};
-ghost use Rattle.hum_record.specs.Row.{Spined, with_chosen};
+ghost use Rattle.hum_score.specs.Row.{Row, kind_of, row_of, tokens_of, width_of, token_at, text_of};
+ghost use Rattle.hum_score.specs.Row.{Spined, with_chosen};
 ghost use Rattle.hum_record.specs.Contents.{filled_from};
-ghost use Rattle.hum_record.specs.declared.Kind.TheVariants.{Values};
-ghost use Rattle.hum_record.specs.declared.SpinedKind.TheVariants.{Values as SpinedValues};
+ghost use Rattle.hum_score.specs.declared.records.Kind.TheVariants.{Values};
+ghost use Rattle.hum_score.specs.declared.records.SpinedKind.TheVariants.{Values as SpinedValues};
 ghost use Rattle.std.specs.List.{list_any};
-ghost use Rattle.hum_record.specs.declared.RecordFault.TheVariants.{Memory};
+ghost use Rattle.hum_score.specs.declared.records.RecordFault.TheVariants.{Memory};
 
 use crate::body::Body;
 use crate::iter::Tokens;
@@ -53,7 +53,7 @@ impl Drop for Record {
 }
 
 impl Model for Record {
-    ghost use Rattle.hum_record.specs.Row.{Row};
+    ghost use Rattle.hum_score.specs.Row.{Row};
 
     ghost Value = { Row };
 
@@ -223,7 +223,6 @@ impl Record {
     }
 
     /// The record of a line of several words.
-    #[inline(never)]
     fn parse_wide(spare: &mut Spare, held: &[u8]) -> Option<Record>
         ensures { IfSome result (IsRead held.now) }
     {
@@ -278,7 +277,6 @@ impl Record {
 
     /// Becomes a copy of another record where that is short, as most are, or else stays as it is; and
     /// tells which.
-    #[inline]
     pub fn copy_short(&mut self, other: &Record) -> bool
         ensures copied { result ≡ true → self.new ≡ other.now }
         ensures kept { result ≡ false → self.new ≡ self.old }
@@ -287,7 +285,6 @@ impl Record {
     }
 
     /// The same of a longer one where there is room for it.
-    #[inline]
     pub fn copy_far(&mut self, other: &Record) -> bool
         ensures copied { result ≡ true → self.new ≡ other.now }
         ensures kept { result ≡ false → self.new ≡ self.old }
@@ -297,7 +294,6 @@ impl Record {
 
     /// Data whose null tokens are filled by what stands above them in other data, in what is left of a record
     /// that is done with, where all tokens are short; or else nothing.
-    #[inline]
     pub fn filled_from(&self, above: &Record, spare: &mut Spare) -> Option<Record>
         requires kind { kind_of self.now ≡ Values }
         requires kind_above { kind_of above.now ≡ Values }
@@ -315,7 +311,6 @@ impl Record {
     }
 
     /// Leaves the selected tokens alone, at least one of which there is, in the record's own memory.
-    #[inline]
     pub fn retain(&mut self, selection: &Selection)
         requires as_wide { length selection.now ≡ width_of self.old }
         requires some { list_any (λ b. b) selection.now ≡ true }
@@ -325,7 +320,6 @@ impl Record {
     }
 
     /// What the record is.
-    #[inline]
     pub fn kind(&self) -> Kind
         ensures kind { result ≡ kind_of self.now }
         ensures lawful { IsTextOf self.now (text_of self.now) }
@@ -340,7 +334,6 @@ impl Record {
     }
 
     /// How many tokens it has, one for each spine: 0 for a global comment.
-    #[inline]
     pub fn width(&self) -> usize
         ensures { result ≡ width_of self.now }
     {
@@ -348,7 +341,6 @@ impl Record {
     }
 
     /// The token of the spine `j`, counted from 0.
-    #[inline]
     pub fn token(&self, j: usize) -> &[u8]
         requires { j < width_of self.now }
         ensures token { result.now ≡ token_at self.now j }
@@ -358,7 +350,6 @@ impl Record {
     }
 
     /// The tokens, from the left: one for each spine, and none of a global comment.
-    #[inline]
     pub fn tokens(&self) -> Tokens<'_>
         ensures { result ≡ tokens_of self.now }
     {
@@ -366,7 +357,6 @@ impl Record {
     }
 
     /// The whole text, and LF.
-    #[inline]
     pub fn text_lf(&self) -> &[u8]
         ensures { result.now ≡ text_of self.now ++ 10 ∷ [] }
     {
@@ -374,7 +364,6 @@ impl Record {
     }
 
     /// The whole text: the tokens, a tab between two.
-    #[inline]
     pub fn text(&self) -> &[u8]
         ensures text { result.now ≡ text_of self.now }
         ensures at_most { length (text_of self.now) ≤ 1048576 }
@@ -420,7 +409,6 @@ fn has_return(text: &[u8]) -> bool
 }
 
 /// Whether a text is a global comment.
-#[inline]
 fn is_global(text: &[u8]) -> bool
     ensures { result ≡ is_comment text.now }
 {

@@ -1,9 +1,9 @@
 //! A record in the making that may grow too long.
 ghost use Rattle.std.specs.Prelude.{◌≡◌, ◌≢◌, ℕ, List, [], ◌∷◌, ◌++◌, Err, OnOk, IfErr};
 ghost use Rattle.std.specs.Allocator.{alloc_error};
-ghost use Rattle.hum_record.specs.declared.SpinedKind.{SpinedKind};
+ghost use Rattle.hum_score.specs.declared.records.SpinedKind.{SpinedKind};
 ghost use Rattle.std.specs.Prelude.{◌<◌, true};
-ghost use Rattle.hum_record.specs.Spelling.{IsToken};
+ghost use Rattle.hum_score.specs.Spelling.{IsToken};
 ghost use Rattle.hum_record.specs.RecordDraft.{Holds, IsMade, IsSpent};
 
 use crate::building::RecordBuilder;
@@ -21,7 +21,6 @@ pub struct RecordDraft {
 
 // Written out, so that a caller's proof sees one call and not the drop of each field.
 impl Drop for RecordDraft {
-    #[inline]
     fn drop(self) {
         let RecordDraft {
             builder: _builder,

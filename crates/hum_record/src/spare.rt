@@ -42,13 +42,11 @@ impl Spare {
     }
 
     /// Whether one stands in front, in which the next record is made at once.
-    #[inline(always)]
     pub fn has_first(&self) -> bool {
         self.first.is_some()
     }
 
     /// Whether one stands in front, brought there from behind where it has to be.
-    #[inline(always)]
     pub fn bring_first(&mut self) -> bool {
         if self.first.is_none() {
             self.first = self.others.pop();
@@ -63,7 +61,6 @@ impl Spare {
     }
 
     /// The same, but what isn't kept is handed back.
-    #[inline]
     pub fn offer(&mut self, row: Record) -> Option<Record> {
         if self.first.is_some() {
             return self.offer_behind(row);
@@ -83,7 +80,6 @@ impl Spare {
     }
 
     /// Hands out what is left of one, which may hold anything.
-    #[inline]
     pub(crate) fn take(&mut self) -> Option<Box<Body>> {
         match self.first.take() {
             Some(body) => Some(body),
@@ -92,7 +88,6 @@ impl Spare {
     }
 
     /// The same of the first one alone.
-    #[inline(always)]
     pub(crate) fn take_first(&mut self) -> Option<Box<Body>> {
         if self.first.is_none() {
             return None;
@@ -113,7 +108,6 @@ impl Spare {
     }
 
     /// Hands out what is left of one, or where nothing is, new buffers.
-    #[inline]
     pub(crate) fn take_or_new(&mut self, alloc: Global) -> Result<Box<Body>, AllocError> {
         match self.first.take() {
             Some(body) => Ok(body),

@@ -2,9 +2,9 @@
 ghost use Rattle.std.specs.Prelude.{◌≡◌, ◌<◌, ◌≤◌, ◌+◌, ◌^◌, ◌&&◌, [], ◌++◌, length, IfOk, OnOk, true, false};
 ghost use Rattle.std.specs.Prelude.{slice_index, slice_range};
 ghost use Rattle.std.specs.List.{list_any};
-ghost use Rattle.hum_record.specs.Spelling.{kind_of_token, kind_of_tokens, parts};
-ghost use Rattle.hum_record.specs.Spelling.{is_comment, same_kind};
-ghost use Rattle.hum_record.specs.declared.SpinedKind.TheVariants.{Local};
+ghost use Rattle.hum_score.specs.Spelling.{kind_of_token, kind_of_tokens, parts};
+ghost use Rattle.hum_score.specs.Spelling.{is_comment, same_kind};
+ghost use Rattle.hum_score.specs.declared.records.SpinedKind.TheVariants.{Local};
 ghost use Rattle.hum_record.specs.Fields.{begins_at, ends_from};
 ghost use Rattle.hum_record.specs.Cutting.{bits_of, tabs_from, IsCut};
 ghost use Rattle.hum_record.specs.Plain.{has_mark};

@@ -60,7 +60,6 @@ pub fn put_line(places: &mut Vec<u32>, held: &[u8]) -> Option<FarLine>
 }
 
 /// Puts the first words of what is held in front of what stands in a text.
-#[inline]
 pub fn copy_words(text: &mut [u8], held: &[u8], words: usize)
     requires filled { 64 * words ≤ length held.now }
     requires room { 64 * words ≤ length text.old }
@@ -72,7 +71,6 @@ pub fn copy_words(text: &mut [u8], held: &[u8], words: usize)
 }
 
 /// Puts the first groups of eight places in front of what stands in a list.
-#[inline]
 pub fn copy_groups(places: &mut [u32], held: &[u32], groups: usize)
     requires filled { 8 * groups ≤ length held.now }
     requires room { 8 * groups ≤ length places.old }

@@ -1,8 +1,8 @@
 -- Small scores, by the definitions.
 use Rattle.std.proofs.Common.{◌≡◌, true, false, List, [], ◌∷◌, refl}
 use lib.Chars.{codes}
-use Rattle.hum_record.specs.declared.SpinedKind.TheVariants.{Local, Interpretation, Values}
-use Rattle.hum_record.specs.Row.{Row, Comment, Spined}
+use Rattle.hum_score.specs.declared.records.SpinedKind.TheVariants.{Local, Interpretation, Values}
+use Rattle.hum_score.specs.Row.{Row, Comment, Spined}
 use Rattle.hum_stage.specs.Outcome.{settled}
 use Rattle.hum_stage.specs.Decided.{decisions}
 use Rattle.hum_choices.specs.declared.rid.RidOptions.{RidOptions}

@@ -5,7 +5,7 @@ ghost use Rattle.std.specs.Prelude.{◌<◌, length, ◌≡◌, false, not, ◌&
 ghost use Rattle.std.specs.List.{list_all};
 ghost use Rattle.std.specs.Str.{bytes_eq};
 ghost use Rattle.hum_record.specs.Contents.{is_data};
-ghost use Rattle.hum_record.specs.Row.{tokens_of};
+ghost use Rattle.hum_score.specs.Row.{tokens_of};
 ghost use Rattle.hum_rid.specs.Rid.{rid, drops, all_are};
 
 pub use hum_choices::RidOptions;
@@ -28,7 +28,6 @@ fn none_differs(row: &Record, token: &[u8]) -> bool
 }
 
 /// Whether a record is dropped.
-#[inline(never)]
 fn drops(options: &RidOptions, row: &Record) -> bool
     ensures { result ≡ drops options.now row.now }
 {
@@ -50,7 +49,6 @@ fn drops(options: &RidOptions, row: &Record) -> bool
 }
 
 /// Whether a record of this text is data: its first byte tells.
-#[inline(always)]
 fn begins_data(text: &[u8]) -> bool
     requires { 0 < length text.now }
     ensures { result ≡ is_data text.now }
@@ -78,7 +76,7 @@ impl Decides for Dropping {
 
     type Due = AtMostOne;
 
-    ghost use Rattle.hum_stage.specs.declared.faults.Command.TheVariants.{Rid as RidCommand};
+    ghost use Rattle.hum_words.specs.declared.commands.Command.TheVariants.{Rid as RidCommand};
 
     ghost command = { RidCommand };
 
@@ -101,7 +99,6 @@ impl Decides for Dropping {
         }
     }
 
-    #[inline(always)]
     fn leaves(&self, next: &Record) -> bool {
         begins_data(next.text()) && self.keeps_data
     }

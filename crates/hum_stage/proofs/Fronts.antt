@@ -6,8 +6,8 @@ use Rattle.std.specs.Prelude.{nat_le}
 use Rattle.std.specs.Option.{option_to_list}
 use Rattle.std.proofs.lemmas.List.{take_all}
 use Rattle.std.proofs.lemmas.Bool.Decides.{nat_tests}
-use Rattle.hum_record.specs.Row.{Row}
-use Rattle.hum_path.specs.Score.{passed, IsOpen}
+use Rattle.hum_score.specs.Row.{Row}
+use Rattle.hum_score.specs.Score.{passed, IsOpen}
 use Rattle.hum_stage.specs.Outcome.{Outcome, Becomes, Refused, Undecided, refusal, waiting}
 use Rattle.hum_stage.specs.Outcome.{held_of}
 use Rattle.hum_stage.specs.Look.{Look, IsSteady, outcome_at, outcome_of, outcomes_from}

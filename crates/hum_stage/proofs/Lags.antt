@@ -7,12 +7,12 @@ use Rattle.std.specs.Prelude.{is_some, Result, Ok, Err, nat_lt, ◌||◌, MatchO
 use Rattle.std.proofs.lemmas.Bool.Decides.{nat_tests}
 use Rattle.std.proofs.lemmas.List.{length_push}
 use Rattle.std.proofs.lemmas.Option.{none-some, slice_get_past, slice_get_within}
-use Rattle.hum_record.specs.Row.{Row}
-use Rattle.hum_path.specs.Score.{passed}
-use Rattle.hum_stage.specs.declared.faults.Command.{Command}
+use Rattle.hum_score.specs.Row.{Row}
+use Rattle.hum_score.specs.Score.{passed}
+use Rattle.hum_words.specs.declared.commands.Command.{Command}
 use Rattle.hum_stage.specs.declared.faults.Rule.{Rule}
 use Rattle.hum_stage.specs.declared.faults.End.{End}
-use Rattle.hum_stage.specs.Score.{IsScore}
+use Rattle.hum_score.specs.InOrder.{IsScore}
 use Rattle.hum_stage.specs.Outcome.{held_of}
 use Rattle.hum_stage.specs.Meaning.{Moment, MayPut, MayEnd, opening, after_put, after_take, after_end}
 use Rattle.hum_stage.specs.Meaning.{all_of, held_at, state_of, resting_state, TookFirst}

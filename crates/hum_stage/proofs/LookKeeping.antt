@@ -3,13 +3,13 @@ use Rattle.std.proofs.Common.{◌≡◌, ◌∙◌, refl, sym, ap, ℕ, ◌+◌,
 use Rattle.std.specs.Prelude.{nat_le, Option, Some, None, Result, Ok, Err}
 use Rattle.std.proofs.lemmas.Bool.Decides.{nat_tests}
 use Rattle.std.proofs.lemmas.List.{take_all}
-use Rattle.hum_record.specs.Row.{Row}
-use Rattle.hum_path.specs.Spines.{Path, Unopened}
-use Rattle.hum_path.specs.Rules.{is_unfinished}
-use Rattle.hum_path.specs.Score.{IsOpen, path_after}
+use Rattle.hum_score.specs.Row.{Row}
+use Rattle.hum_score.specs.Spines.{Path, Unopened}
+use Rattle.hum_score.specs.Rules.{is_unfinished}
+use Rattle.hum_score.specs.Score.{IsOpen, path_after}
 use Rattle.hum_stage.specs.declared.faults.Rule.{Rule}
 use Rattle.hum_stage.specs.declared.faults.Rule.TheVariants.{H1}
-use Rattle.hum_stage.specs.Score.{through, Follow}
+use Rattle.hum_score.specs.InOrder.{through, Follow}
 use Rattle.hum_stage.specs.Outcome.{Refused, Undecided, settled, refusal}
 use Rattle.hum_stage.specs.Meaning.{KeepsScore}
 use Rattle.hum_stage.specs.Look.{Look, outcome_of, outcomes_from}

@@ -1,10 +1,10 @@
 -- One record more of a score.
 use Rattle.std.proofs.Common.{◌≡◌, ◌∙◌, sym, ap, List, [], ◌∷◌, ◌++◌}
 use Rattle.std.specs.Prelude.{None}
-use Rattle.hum_record.specs.Row.{Row}
-use Rattle.hum_path.specs.Spines.{Path, Unopened, after}
-use Rattle.hum_path.specs.Rules.{fault_of}
-use Rattle.hum_stage.specs.Score.{through, IsScore}
+use Rattle.hum_score.specs.Row.{Row}
+use Rattle.hum_score.specs.Spines.{Path, Unopened, after}
+use Rattle.hum_score.specs.Rules.{fault_of}
+use Rattle.hum_score.specs.InOrder.{through, IsScore}
 use Rattle.hum_stage.proofs.Scores.{Follow-append, through-append}
 
 pub one_more : (p : List Row) (r : Row) (path : Path) → IsScore p → path ≡ through Unopened p

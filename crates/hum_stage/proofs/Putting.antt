@@ -6,8 +6,8 @@ use Rattle.std.proofs.lemmas.List.{map-append}
 use Rattle.std.specs.Prelude.{nat_le, Result, Ok, Err}
 use Rattle.std.proofs.lemmas.Bool.Decides.{nat_tests}
 use Rattle.std.proofs.lemmas.Option.{none-some}
-use Rattle.hum_record.specs.Row.{Row}
-use Rattle.hum_path.specs.Score.{passed, IsOpen}
+use Rattle.hum_score.specs.Row.{Row}
+use Rattle.hum_score.specs.Score.{passed, IsOpen}
 use Rattle.hum_stage.specs.Order.{passed-push}
 use Rattle.hum_stage.specs.declared.faults.Rule.{Rule}
 use Rattle.hum_stage.specs.declared.faults.Rule.TheVariants.{H1}

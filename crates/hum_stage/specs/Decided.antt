@@ -2,12 +2,12 @@
 use Rattle.std.specs.Prelude.{◌≡◌, ℕ, ◌-◌, ◌<◌, nat_le, false}
 use Rattle.std.specs.Prelude.{List, [], ◌∷◌, length, if◌then◌else◌}
 use Rattle.std.specs.Prelude.{Option, Some, None, Result, Ok, Err}
-use Rattle.hum_record.specs.Row.{Row}
-use Rattle.hum_path.specs.Spines.{Path, Unopened}
-use Rattle.hum_path.specs.Rules.{is_unfinished}
-use Rattle.hum_path.specs.Score.{IsOpen, path_after}
-use Rattle.hum_stage.specs.Score.{through, Follow}
-use Rattle.hum_stage.specs.declared.faults.Command.{Command}
+use Rattle.hum_score.specs.Row.{Row}
+use Rattle.hum_score.specs.Spines.{Path, Unopened}
+use Rattle.hum_score.specs.Rules.{is_unfinished}
+use Rattle.hum_score.specs.Score.{IsOpen, path_after}
+use Rattle.hum_score.specs.InOrder.{through, Follow}
+use Rattle.hum_words.specs.declared.commands.Command.{Command}
 use Rattle.hum_stage.specs.declared.faults.Rule.{Rule}
 use Rattle.hum_stage.specs.declared.faults.Rule.TheVariants.{L2}
 use Rattle.hum_stage.specs.Limits.{in_room}

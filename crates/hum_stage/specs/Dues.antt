@@ -1,6 +1,6 @@
 -- Records that are due.
 use Rattle.std.specs.Prelude.{◌≡◌, List, [], ◌∷◌, Option, None, Some}
-use Rattle.hum_record.specs.Row.{Row}
+use Rattle.hum_score.specs.Row.{Row}
 
 -- the next of those that were due was taken, if there was one, and these are left
 abbrev pub IsNext : List Row → List Row → Option Row → Type 0

@@ -2,8 +2,8 @@
 use Rattle.std.specs.Prelude.{ℕ, zero, suc, ◌+◌, ◌-◌, ◌<◌, ◌≤◌, Bool, true, false, not}
 use Rattle.std.specs.Prelude.{List, [], ◌∷◌, take, length}
 use Rattle.std.specs.List.{prefix_len, range_with_len}
-use Rattle.hum_record.specs.Row.{Row}
-use Rattle.hum_stage.specs.Score.{IsScore}
+use Rattle.hum_score.specs.Row.{Row}
+use Rattle.hum_score.specs.InOrder.{IsScore}
 use Rattle.hum_stage.specs.Outcome.{Outcome, Becomes, Refused, Undecided, settled, held_of}
 
 abbrev pub is_decided : Outcome → Bool

@@ -11,12 +11,12 @@ use Rattle.std.proofs.lemmas.Bool.Decides.{nat_tests}
 use Rattle.std.proofs.lemmas.List.{take-append-le, take_all, length-take-le, take-append-drop}
 use Rattle.std.proofs.lemmas.List.Sums.{prefix_len_is, prefix_len-le-length, prefix_len_passes}
 use Rattle.std.proofs.lemmas.List.FromFn.{length-range_with_len, get_or-range_with_len}
-use Rattle.hum_record.specs.Row.{Row}
-use Rattle.hum_path.specs.Score.{IsOpen, passed}
+use Rattle.hum_score.specs.Row.{Row}
+use Rattle.hum_score.specs.Score.{IsOpen, passed}
 use Rattle.hum_stage.specs.declared.faults.Rule.{Rule}
 use Rattle.hum_stage.specs.declared.faults.Rule.TheVariants.{L2}
 use Rattle.hum_stage.specs.Outcome.{AllDecided, Outcome, Becomes, Refused, Undecided, settled, waiting, held_of}
-use Rattle.hum_stage.specs.Score.{IsScore}
+use Rattle.hum_score.specs.InOrder.{IsScore}
 use Rattle.hum_stage.specs.Meaning.{Goes}
 use Rattle.hum_stage.specs.Order.{open_passed, passed-push}
 use Rattle.hum_stage.specs.Decided.{Decision, decisions, limit}

@@ -3,9 +3,9 @@ use Rattle.std.specs.Prelude.{◌≡◌, ℕ, ◌≤◌, Bool, false}
 use Rattle.std.specs.Prelude.{List, [], ◌∷◌, ◌++◌, map, length}
 use Rattle.std.specs.Prelude.{Option, Some, None}
 use Rattle.std.specs.Option.{option_to_list}
-use Rattle.hum_record.specs.Row.{Row}
-use Rattle.hum_path.specs.Score.{passed}
-use Rattle.hum_stage.specs.declared.faults.Command.{Command}
+use Rattle.hum_score.specs.Row.{Row}
+use Rattle.hum_score.specs.Score.{passed}
+use Rattle.hum_words.specs.declared.commands.Command.{Command}
 use Rattle.hum_stage.specs.declared.faults.Fault.{Fault}
 use Rattle.hum_stage.specs.declared.faults.End.{End}
 use Rattle.hum_stage.specs.Outcome.{Outcome, Becomes, Refused, Undecided, refusal}

@@ -4,14 +4,14 @@ use Rattle.std.proofs.Common.{List, [], ◌∷◌, ◌++◌, take, length, arith
 use Rattle.std.specs.Prelude.{nat_le, Option, Some, None, is_some, Result, Ok, Err}
 use Rattle.std.proofs.lemmas.Bool.Decides.{nat_tests}
 use Rattle.std.proofs.lemmas.List.{take_all}
-use Rattle.hum_record.specs.Row.{Row}
-use Rattle.hum_path.specs.Rules.{is_unfinished}
-use Rattle.hum_path.specs.Score.{IsClosed, path_after, passed}
-use Rattle.hum_stage.specs.declared.faults.Command.{Command}
+use Rattle.hum_score.specs.Row.{Row}
+use Rattle.hum_score.specs.Rules.{is_unfinished}
+use Rattle.hum_score.specs.Score.{IsClosed, path_after, passed}
+use Rattle.hum_words.specs.declared.commands.Command.{Command}
 use Rattle.hum_stage.specs.declared.faults.Rule.{Rule}
 use Rattle.hum_stage.specs.declared.faults.Rule.TheVariants.{L2, H1}
 use Rattle.hum_stage.specs.declared.faults.End.{End}
-use Rattle.hum_stage.specs.Score.{through}
+use Rattle.hum_score.specs.InOrder.{through}
 use Rattle.hum_stage.specs.Outcome.{Outcome, Becomes, Refused, Undecided, AllDecided}
 use Rattle.hum_stage.specs.Meaning.{Meaning, IsLawful, IsWithinLag, DecidesClosed, Moment}
 use Rattle.hum_stage.specs.Order.{open_score, open_passed}

@@ -4,7 +4,7 @@ use Rattle.std.specs.Prelude.{◌++◌, length}
 use Rattle.std.specs.Prelude.{if◌then◌else◌, Option, Some, None, is_some, drop}
 use Rattle.std.specs.Prelude.{MatchOption, slice_get}
 use Rattle.hum_stage.specs.declared.faults.Rule.{Rule}
-use Rattle.hum_stage.specs.declared.faults.Command.{Command}
+use Rattle.hum_words.specs.declared.commands.Command.{Command}
 use Rattle.hum_stage.specs.declared.faults.Fault.{Fault}
 use Rattle.hum_stage.specs.declared.faults.End.{End}
 use Rattle.hum_stage.specs.declared.faults.End.TheVariants.{Closed, Broken}
@@ -12,8 +12,8 @@ use Rattle.hum_stage.specs.declared.faults.State.{State}
 use Rattle.hum_stage.specs.declared.faults.State.TheVariants.{Wants, Gives, Done}
 use Rattle.hum_stage.specs.declared.faults.Readiness.{Readiness}
 use Rattle.hum_stage.specs.declared.faults.Readiness.TheVariants as ready
-use Rattle.hum_record.specs.Row.{Row}
-use Rattle.hum_stage.specs.Score.{IsScore, IsClosed}
+use Rattle.hum_score.specs.Row.{Row}
+use Rattle.hum_score.specs.InOrder.{IsScore, IsClosed}
 use Rattle.hum_stage.specs.Lag.{LagsAtMost, ArePutAtWants, HoldsByLag}
 use Rattle.hum_stage.specs.Outcome.{Outcome, Becomes, Refused, Undecided, AllDecided, settled, refusal, held_of}
 use Rattle.hum_stage.specs.declared.TheConstants.{MOST_RECORDS}

@@ -1,8 +1,8 @@
 -- Records in their order, and the newest first.
 use Rattle.std.proofs.Common.{◌≡◌, refl, List, [], ◌∷◌, ◌++◌}
-use Rattle.hum_record.specs.Row.{Row}
-use Rattle.hum_path.specs.Score.{passed, path_after, IsOpen}
-use Rattle.hum_stage.specs.Score.{Follow, IsScore}
+use Rattle.hum_score.specs.Row.{Row}
+use Rattle.hum_score.specs.Score.{passed, path_after, IsOpen}
+use Rattle.hum_score.specs.InOrder.{Follow, IsScore}
 
 pub passed-push : (past p : List Row) (r : Row) → passed past (p ++ r ∷ []) ≡ r ∷ passed past p
 passed-push past [] r = refl

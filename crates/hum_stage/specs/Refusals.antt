@@ -1,9 +1,9 @@
 -- Refusals, and what a call says that may refuse. Where memory ran out nothing is claimed.
 use Rattle.std.specs.Prelude.{Option, None, Some, Result, Ok, Err}
-use Rattle.hum_record.specs.declared.RecordFault.{RecordFault}
-use Rattle.hum_record.specs.declared.RecordFault.TheVariants as of_record
-use Rattle.hum_path.specs.declared.PathFault.{PathFault}
-use Rattle.hum_path.specs.declared.PathFault.TheVariants as of_path
+use Rattle.hum_score.specs.declared.records.RecordFault.{RecordFault}
+use Rattle.hum_score.specs.declared.records.RecordFault.TheVariants as of_record
+use Rattle.hum_score.specs.declared.spines.PathFault.{PathFault}
+use Rattle.hum_score.specs.declared.spines.PathFault.TheVariants as of_path
 use Rattle.hum_stage.specs.declared.faults.Rule.{Rule}
 use Rattle.hum_stage.specs.declared.faults.Rule.TheVariants as rule
 use Rattle.hum_stage.specs.declared.faults.Refusal.{Refusal}

@@ -10,8 +10,9 @@ ghost use Rattle.hum_stage.specs.Standing.{Standing, StandsCounted, fault_in, is
 use crate::contract::Stage;
 use crate::deciding::Decides;
 use crate::due::DueRecords;
-use crate::faults::{Command, End, Fault, Readiness, Refusal, Rule, State, resting};
+use crate::faults::{End, Fault, Readiness, Refusal, Rule, State, resting};
 use hum_record::{Record, Spare};
+use hum_words::Command;
 use std::alloc::{AllocError, Global};
 use std::mem::{forget, replace};
 
@@ -72,9 +73,7 @@ impl<C: Decides> AtOnce<C> {
         }
     }
 
-    /// Breaks a rule at the last record that was put, which then becomes nothing. It happens once, so
-    /// it isn't inlined where each record passes.
-    #[inline(never)]
+    /// Breaks a rule at the last record that was put, which then becomes nothing.
     fn refuse(&mut self, rule: Rule)
         ensures fault { self.new ≡ record self.old {
           due = self.new.due;
@@ -230,7 +229,6 @@ impl<C: Decides> AtOnce<C> {
     }
 
     /// Whether the next record becomes itself, there is room for it, and nothing has to be remembered of it.
-    #[inline(always)]
     fn leaves(&self, next: &Record) -> bool
         ensures going { result ≡ true → self.now.stopped ≡ None }
         ensures left { result ≡ true → Leaves (C.follows self.now.memory) next.now }
@@ -242,7 +240,6 @@ impl<C: Decides> AtOnce<C> {
     /// Puts one record more, as [`Stage::put_and_take`] does, whatever becomes of it.
     // What happens seldom is a call, so that a record that becomes one other pays for none of it. The place is
     // empty, so that nothing in it has to be dropped.
-    #[inline(never)]
     fn put_any(
         &mut self,
         next: Record,

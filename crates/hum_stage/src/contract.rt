@@ -61,9 +61,6 @@ pub trait Stage {
 
     /// Puts one record more, as [`Stage::put`] does, takes at once the first record that it settles, if it
     /// is easily had, into a place for it, and tells what it is ready for then.
-    // A function of its own for each command: in one for all of them each record would pay for the
-    // registers and the room on the stack that any of them takes.
-    #[inline(never)]
     fn put_and_take(
         &mut self,
         next: Record,
@@ -84,7 +81,6 @@ pub trait Stage {
 
     /// Takes the next record that is settled, as [`Stage::take`] does, and tells what it is ready for
     /// then. A record that it makes of its own is made in what the pool has left of one that is done with.
-    #[inline(always)]
     fn take_and_ask(&mut self, _pool: &mut Spare) -> Result<(Option<Record>, Readiness), AllocError>
         ensures ok { IfOk result (λ r. HasTaken (stands self.old) (stands self.new) r.0) }
         ensures ready { IfOk result (λ r. ShowsReadiness (stands self.new) r.1) }

@@ -1,14 +1,15 @@
 //! A command that decides each record at once.
 ghost use Rattle.std.specs.Prelude.{◌≡◌, true, [], List, Result};
-ghost use Rattle.hum_record.specs.Row.{Row};
-ghost use Rattle.hum_stage.specs.declared.faults.Command.{Command};
+ghost use Rattle.hum_score.specs.Row.{Row};
+ghost use Rattle.hum_words.specs.declared.commands.Command.{Command};
 ghost use Rattle.hum_stage.specs.Meaning.{KeepsScore};
 ghost use Rattle.hum_stage.specs.Decided.{Decision, at_once, MayStep, HasStepped, Leaves};
 ghost use Rattle.hum_stage.specs.Refusals.{IfTold};
 
 use crate::due::DueRecords;
-use crate::faults::{Command, Refusal};
+use crate::faults::Refusal;
 use hum_record::Record;
+use hum_words::Command;
 use std::alloc::Global;
 
 /// A command that decides each record at once, with what it remembers of the records so far.
@@ -45,7 +46,6 @@ pub trait Decides {
 
     /// Whether the next record becomes itself, and nothing has to be remembered of it. What takes long to find
     /// out isn't told.
-    #[inline(always)]
     fn leaves(&self, _next: &Record) -> bool
         ensures { result ≡ true → Leaves (follows self.now) _next.now }
     {

@@ -1,7 +1,7 @@
 //! Records that are due.
 ghost use Rattle.std.specs.Prelude.{◌≡◌, [], ◌∷◌, ◌==◌, ◌<◌, List, length, IfOk};
 ghost use Rattle.std.specs.Option.{option_to_list};
-ghost use Rattle.hum_record.specs.Row.{Row};
+ghost use Rattle.hum_score.specs.Row.{Row};
 ghost use Rattle.hum_stage.specs.Dues.{IsNext, IsLone};
 
 use hum_record::{Record, Spare};
@@ -37,7 +37,6 @@ pub trait DueRecords: Drop {
 
     /// Takes the one record that is due, where there is just one and it is easily had. Else it leaves them
     /// as they are.
-    #[inline]
     fn take_lone(&mut self, _pool: &mut Spare) -> Option<Record>
         ensures { IsLone (rows self.old) (rows self.new) result }
     {
@@ -68,7 +67,6 @@ impl DueRecords for VecDeque<Record> {
         Ok(self.pop_front())
     }
 
-    #[inline]
     fn take_lone(&mut self, _pool: &mut Spare) -> Option<Record> {
         if self.len() != 1 {
             return None;
@@ -100,7 +98,6 @@ impl DueRecords for Option<Record> {
         Ok(self.take())
     }
 
-    #[inline]
     fn take_lone(&mut self, _pool: &mut Spare) -> Option<Record> {
         self.take()
     }
@@ -130,7 +127,7 @@ pub struct AtMostOne {
 impl Model for AtMostOne {
     ghost use Rattle.std.specs.Prelude.{List};
     ghost use Rattle.std.specs.Option.{option_to_list};
-    ghost use Rattle.hum_record.specs.Row.{Row};
+    ghost use Rattle.hum_score.specs.Row.{Row};
 
     ghost Value = { List Row };
 
@@ -139,7 +136,6 @@ impl Model for AtMostOne {
 
 impl AtMostOne {
     /// This record is due.
-    #[inline]
     pub fn put(&mut self, row: Record)
         requires { self.old ≡ [] }
         ensures { self.new ≡ row ∷ [] }
@@ -148,7 +144,6 @@ impl AtMostOne {
     }
 
     /// This record is dropped.
-    #[inline]
     pub fn let_go(&mut self, row: Record)
         ensures { self.new ≡ self.old }
     {
@@ -180,13 +175,11 @@ impl DueRecords for AtMostOne {
         Ok(self.one.take())
     }
 
-    #[inline]
     fn next_with(&mut self, pool: &mut Spare) -> Result<Option<Record>, AllocError> {
         self.give_back(pool);
         Ok(self.one.take())
     }
 
-    #[inline]
     fn take_lone(&mut self, _pool: &mut Spare) -> Option<Record> {
         self.one.take()
     }
@@ -214,7 +207,7 @@ pub struct UpToTwo {
 impl Model for UpToTwo {
     ghost use Rattle.std.specs.Prelude.{List, ◌++◌};
     ghost use Rattle.std.specs.Option.{option_to_list};
-    ghost use Rattle.hum_record.specs.Row.{Row};
+    ghost use Rattle.hum_score.specs.Row.{Row};
 
     ghost Value = { List Row };
 
@@ -235,7 +228,6 @@ impl UpToTwo {
     }
 
     /// The same whatever was due.
-    #[inline(never)]
     fn put_instead(&mut self, row: Record)
         ensures { self.new ≡ row ∷ [] }
     {
@@ -269,7 +261,6 @@ impl DueRecords for UpToTwo {
         Ok(self.second.take())
     }
 
-    #[inline]
     fn take_lone(&mut self, _pool: &mut Spare) -> Option<Record> {
         if self.second.is_some() {
             return None;

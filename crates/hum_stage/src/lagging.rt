@@ -8,10 +8,11 @@ ghost use Rattle.hum_stage.specs.Settles.{with_due};
 
 use crate::MOST_WAITING;
 use crate::contract::Stage;
-use crate::faults::{Command, End, Fault, Readiness, Refusal, Rule, State, resting};
+use crate::faults::{End, Fault, Readiness, Refusal, Rule, State, resting};
 use crate::looks_ahead::LooksAhead;
 use crate::settling::settle_next;
 use hum_record::{Record, Spare};
+use hum_words::Command;
 use std::alloc::{AllocError, Global};
 use std::collections::VecDeque;
 use std::mem::{forget, replace};

@@ -1,16 +1,17 @@
 //! A command that decides a record by some of those behind it.
 ghost use Rattle.std.specs.Prelude.{◌≡◌, ◌<◌, List, [], OnOk, length};
 ghost use Rattle.std.specs.VecDeque.{deque_len};
-ghost use Rattle.hum_record.specs.Row.{Row};
-ghost use Rattle.hum_stage.specs.declared.faults.Command.{Command};
+ghost use Rattle.hum_score.specs.Row.{Row};
+ghost use Rattle.hum_words.specs.declared.commands.Command.{Command};
 ghost use Rattle.hum_stage.specs.Meaning.{KeepsScore};
 ghost use Rattle.hum_stage.specs.Look.{Look, IsSteady, looking};
 ghost use Rattle.hum_stage.specs.Refusals.{IfAnswered};
 ghost use Rattle.hum_stage.specs.Settles.{MayWait, HasWaited, HasSettled, Lasts, left_by};
 
 use crate::MOST_WAITING;
-use crate::faults::{Command, Refusal};
+use crate::faults::Refusal;
 use hum_record::{Record, Spare};
+use hum_words::Command;
 use std::alloc::{AllocError, Global};
 use std::collections::VecDeque;
 
@@ -78,7 +79,6 @@ pub trait LooksAhead {
             (follows self.old held.old.items) (follows self.new held.new.items)) };
 
     /// Gives the pool what is left of a record that was dropped, if there is any.
-    #[inline(always)]
     fn give_back(&mut self, _pool: &mut Spare)
         ensures { (held : List Self.Held) (look : Look) (past rows : List Row)
             → follows self.old held look past rows → follows self.new held look past rows }

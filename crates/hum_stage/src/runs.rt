@@ -1,6 +1,6 @@
 //! Whole lists through a stage.
 ghost use Rattle.std.specs.Prelude.{◌≡◌, ◌≤◌, length, IfOk, OnOk};
-ghost use Rattle.hum_stage.specs.Score.{IsScore, IsClosed};
+ghost use Rattle.hum_score.specs.InOrder.{IsScore, IsClosed};
 ghost use Rattle.hum_stage.specs.Meaning.{Meaning, Moment, opening, IsWhole, TookAll};
 
 use crate::MOST_RECORDS;

@@ -1,8 +1,8 @@
 -- A stage that is put a list of records, one after the other, and gives all that is settled.
 use Rattle.std.proofs.Common.{◌≡◌, ap, ◌<◌, ◌≤◌, List, [], ◌∷◌, ◌++◌, length, append_assoc, length-append, arith}
-use Rattle.hum_record.specs.Row.{Row}
-use Rattle.hum_path.specs.Spines.{Unopened}
-use Rattle.hum_stage.specs.Score.{IsScore}
+use Rattle.hum_score.specs.Row.{Row}
+use Rattle.hum_score.specs.Spines.{Unopened}
+use Rattle.hum_score.specs.InOrder.{IsScore}
 use Rattle.hum_stage.specs.Meaning.{Meaning, Moment, opening, settled_moment}
 use Rattle.hum_stage.proofs.Growth.{Follow-front}
 

@@ -1,7 +1,7 @@
 -- Two sources of assemble that are served.
 use Rattle.std.proofs.Common.{◌≡◌, ◌∙◌, ℕ, zero, suc, List, [], ◌∷◌, ◌++◌, refl, sym, ap, append_assoc, Option, Some, None, ◌+◌}
 use Rattle.std.specs.Prelude.{MatchOption}
-use Rattle.hum_record.specs.Row.{Row}
+use Rattle.hum_score.specs.Row.{Row}
 use Rattle.hum_assemble.specs.Change.{Input, Change, More, Ends, had, IsOpenInput}
 use Rattle.hum_assemble.specs.Meaning.{Moment}
 use Rattle.hum_tests.specs.Serving.{Goes}

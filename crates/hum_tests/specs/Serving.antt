@@ -1,9 +1,9 @@
 -- One source of assemble that is served.
 use Rattle.std.specs.Prelude.{◌≡◌, ℕ, List, ◌∷◌, ◌++◌, length, ◌≤◌, Some}
-use Rattle.hum_record.specs.Row.{Row}
+use Rattle.hum_score.specs.Row.{Row}
 use Rattle.hum_stage.specs.declared.faults.End.{End}
 use Rattle.hum_stage.specs.declared.faults.End.TheVariants.{Closed}
-use Rattle.hum_stage.specs.Score.{IsScore, IsClosed}
+use Rattle.hum_score.specs.InOrder.{IsScore, IsClosed}
 use Rattle.hum_assemble.specs.Change.{Change, More, Ends}
 use Rattle.hum_assemble.specs.Meaning.{Moment, after, put_of, wants_of}
 use Rattle.hum_stage.specs.declared.TheConstants.{MOST_RECORDS}

@@ -1,7 +1,7 @@
 //! Records: each call once, with ample memory, and its answer.
 ghost use Rattle.std.specs.Prelude.{◌≡◌, ◌<◌, IfOk};
-ghost use Rattle.hum_record.specs.Spelling.{has_byte, IsToken};
-ghost use Rattle.hum_record.specs.declared.SpinedKind.TheVariants.{Values};
+ghost use Rattle.hum_score.specs.Spelling.{has_byte, IsToken};
+ghost use Rattle.hum_score.specs.declared.records.SpinedKind.TheVariants.{Values};
 
 use crate::compared::{same, same_bytes};
 use hum_record::{

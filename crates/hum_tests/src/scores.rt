@@ -1,6 +1,6 @@
 //! Closed scores, by hand.
 ghost use Rattle.std.specs.Prelude.{◌≤◌, length};
-ghost use Rattle.hum_stage.specs.Score.{IsClosed};
+ghost use Rattle.hum_score.specs.InOrder.{IsClosed};
 
 use crate::compared::same_bytes;
 use crate::record::read;

@@ -1,7 +1,7 @@
 //! Two scores side by side, by hand: assemble is served by what it wants.
 ghost use Rattle.std.specs.Prelude.{◌≡◌, ◌≤◌, ℕ, Some, length};
 ghost use Rattle.hum_stage.specs.declared.faults.End.TheVariants as ends;
-ghost use Rattle.hum_stage.specs.Score.{IsScore, IsClosed};
+ghost use Rattle.hum_score.specs.InOrder.{IsScore, IsClosed};
 ghost use Rattle.hum_assemble.specs.Meaning.{Moment, wants_of};
 ghost use Rattle.hum_assemble.specs.Standing.{Stands};
 ghost use Rattle.hum_tests.specs.Serving.{MayServe, IsServed};

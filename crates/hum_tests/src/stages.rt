@@ -1,6 +1,6 @@
 //! The stage of each command, call after call, and over whole lists.
 ghost use Rattle.std.specs.Prelude.{◌≤◌, length};
-ghost use Rattle.hum_stage.specs.Score.{IsClosed};
+ghost use Rattle.hum_score.specs.InOrder.{IsClosed};
 ghost use Rattle.hum_stage.specs.Meaning.{Meaning, Moment, opening, given_to, all_of};
 
 use crate::compared::{holds, same};

@@ -63,7 +63,6 @@ impl Block {
     }
 
     /// The buffer from that line on, and how many bytes of it are the line.
-    #[inline]
     pub fn from_line(&self) -> (&[u8], usize)
         ensures within { result.1 ≤ length result.0.now }
         ensures line { take result.1 result.0.now ≡ self.now.line }
@@ -72,7 +71,6 @@ impl Block {
     }
 
     /// The bytes that were not yet handed out.
-    #[inline]
     pub fn pending(&self) -> &[u8]
         ensures { result.now ≡ self.now.pending }
     {
@@ -95,7 +93,6 @@ impl Block {
     }
 
     /// Hands out the first `len` bytes as a line, and drops `size` bytes.
-    #[inline]
     pub fn hand_out(&mut self, len: usize, size: usize)
         requires order { len ≤ size }
         requires within { size ≤ length self.old.pending }

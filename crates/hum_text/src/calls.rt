@@ -94,7 +94,6 @@ impl<T> Marked<T> {
     }
 
     // Counts a call that didn't fail and was no flush.
-    #[inline]
     fn count(&mut self)
         ensures { self.new ≡ record self.old {
           calls = counted self.old.calls;
@@ -156,7 +155,6 @@ impl<T: Write> Sink for Marked<T> {
 
     ghost flushed = { λ m. m.flushed };
 
-    #[inline(always)]
     fn write(&mut self, buf: &[u8]) -> io::Result<usize> {
         let result = self.inner.write(buf);
         match &result {

@@ -47,7 +47,6 @@ impl<T: Write + Drop> Model for Gathered<T> {
 }
 
 /// Puts `N` of the bytes to their place, from one of them on.
-#[inline(always)]
 fn put_piece<const N: usize>(held: &mut [u8], at: usize, bytes: &[u8], from: usize)
     requires few { N ≤ 64 }
     requires whole { from + N ≤ length bytes.now }
@@ -58,7 +57,6 @@ fn put_piece<const N: usize>(held: &mut [u8], at: usize, bytes: &[u8], from: usi
 }
 
 /// Puts bytes over those from a place on, by four pieces that may overlap.
-#[inline(always)]
 fn put_pieces<const N: usize>(held: &mut [u8], at: usize, bytes: &[u8])
     requires few { N ≤ 64 }
     requires least { N ≤ length bytes.now }
@@ -83,7 +81,6 @@ fn put_any(held: &mut [u8], at: usize, bytes: &[u8])
 }
 
 /// Puts bytes over those from a place on.
-#[inline(always)]
 fn put(held: &mut [u8], at: usize, bytes: &[u8])
     requires room { at + length bytes.now ≤ length held.old }
     ensures { held.new ≡ put_chunk at held.old bytes.now }

@@ -13,7 +13,6 @@ const NEAR: usize = 256;
 const STEP: usize = 32;
 
 /// Where LF stands in 32 bytes from a place on, as the bits of a number.
-#[inline(always)]
 fn near_bits(bytes: &[u8], at: usize) -> u64
     requires { at + 32 ≤ length bytes.now }
     ensures { result ≡ mask_l (map (is_byte lf) (chunk at 32 bytes.now)) }
@@ -25,7 +24,6 @@ fn near_bits(bytes: &[u8], at: usize) -> u64
 
 /// Where the first LF stands, if it is found by looking at the first 256 bytes step by step, as far as
 /// there are whole steps; else none.
-#[inline]
 pub fn near_lf(bytes: &[u8]) -> Option<usize>
     ensures { IfSome result (λ k. IsFirstByte (is_byte lf) bytes.now (Some k)) }
 {

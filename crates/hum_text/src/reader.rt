@@ -68,7 +68,6 @@ impl<R> Model for LineReader<R> {
 }
 
 // How many bytes stand up to place k, it included.
-#[inline]
 fn through(held: &[u8], k: usize) -> usize
     requires { k < length held.now }
     ensures { result ≡ k + 1 }
@@ -77,7 +76,6 @@ fn through(held: &[u8], k: usize) -> usize
 }
 
 // How many bytes a line has with its line end, by its text: LF stands behind that, or CR and LF.
-#[inline]
 fn size_of_line(held: &[u8], len: usize) -> usize
     requires { len < length held.now }
     ensures lf { slice_index held.now len ≡ lf → result ≡ len + 1 }
@@ -120,7 +118,6 @@ impl<R: Source> LineReader<R> {
 
     /// That line with the bytes that the reader holds behind it, and how many bytes of these are
     /// the line: so it can be looked at in pieces of one size.
-    #[inline]
     pub fn from_line(&self) -> (&[u8], usize)
         ensures within { result.1 ≤ length result.0.now }
         ensures line { take result.1 result.0.now ≡ self.now.line }
@@ -138,7 +135,6 @@ impl<R: Source> LineReader<R> {
 
     /// Bytes that come next, or none where these are few: whatever line LF ends among them, it keeps to the
     /// limits.
-    #[inline]
     pub fn ahead(&self) -> &[u8]
         ensures next { (behind : List ℕ) × (self.now.pending ≡ result.now ++ behind) }
         ensures line { length result.now ≤ self.now.limits.line }
@@ -162,7 +158,6 @@ impl<R: Source> LineReader<R> {
     }
 
     // Hands out the first `len` bytes as a line, but for a CR at their end, and drops `size` bytes.
-    #[inline]
     fn hand_out(&mut self, len: usize, size: usize)
         requires some { 0 < size }
         requires order { len ≤ size }
@@ -183,7 +178,6 @@ impl<R: Source> LineReader<R> {
     }
 
     // The first fault in the first `size` bytes, of which only the last may be LF.
-    #[inline]
     fn fault_in(&self, size: usize) -> Option<TextFault>
         requires within { size ≤ length self.now.pending }
         requires one_line { (k : ℕ) → k + 1 < size → slice_index self.now.pending k ≢ lf }
@@ -199,7 +193,6 @@ impl<R: Source> LineReader<R> {
     }
 
     /// Gives the first `len` bytes as a line, and drops them and its line end: LF, or CR and LF.
-    #[inline]
     pub fn take_line(&mut self, len: usize)
         requires no_fault { self.old.fault ≡ None }
         requires first { (k : ℕ) × IsFirstByte (is_byte lf) self.old.pending (Some k)
@@ -216,7 +209,6 @@ impl<R: Source> LineReader<R> {
     }
 
     /// Gives the first `len` bytes as a line, and drops `size` bytes: these and its line end.
-    #[inline]
     pub fn give_line(&mut self, len: usize, size: usize)
         requires no_fault { self.old.fault ≡ None }
         requires some { 0 < size }
@@ -233,7 +225,6 @@ impl<R: Source> LineReader<R> {
     }
 
     // Hands it out, whatever the line is.
-    #[inline]
     fn hand_out_line(&mut self, len: usize, size: usize)
         requires some { 0 < size }
         requires within { size ≤ length self.old.pending }
@@ -253,7 +244,6 @@ impl<R: Source> LineReader<R> {
     }
 
     // Hands out the line whose LF is at `k`, if it breaks no rule, and tells whether it did.
-    #[inline]
     fn sound_line(&mut self, k: usize) -> bool
         requires no_fault { self.old.fault ≡ None }
         requires first { IsFirstByte (is_byte lf) self.old.pending (Some k) }
@@ -345,7 +335,6 @@ impl<R: Source> LineReader<R> {
 
     // Hands out the next line, if it was read to its end and breaks no rule, and tells whether it
     // did. Where it didn't, nothing has changed.
-    #[inline]
     fn next_line(&mut self) -> bool
         requires no_fault { self.old.fault ≡ None }
         ensures line { result ≡ true → GivesLine self.old self.new }
@@ -371,7 +360,6 @@ impl<R: Source> LineReader<R> {
 
     /// The next step. A line or a fault that was read is given without a read, and no poll reads
     /// twice. After a fault it gives that fault again, and after the end the end.
-    #[inline]
     pub fn poll(&mut self) -> Result<Step, TextFault>
         // What is given depends on the bytes read so far alone, however the input goes on.
         ensures gives { self.old.fault ≡ None → GivesNext self.old result self.new }

@@ -8,7 +8,6 @@ ghost use Rattle.hum_text.specs.Text.{IsLawful, BreaksFirst};
 use crate::{Limits, TextFault};
 
 /// The piece without one CR at its end.
-#[inline]
 pub fn strip_cr(piece: &[u8]) -> &[u8]
     ensures { result.now ≡ without_cr piece.now }
 {
@@ -50,7 +49,6 @@ fn rule(
 }
 
 // Whether no byte of the line breaks a rule.
-#[inline]
 fn is_sound(limits: &Limits, given: u64, taken: u64, held: &[u8]) -> bool
     requires one_line { (k : ℕ) → k + 1 < length held.now → slice_index held.now k ≢ lf }
     ensures { IsTrue result → IsLawful limits.now (given + 1) taken held.now }
@@ -74,7 +72,6 @@ fn is_sound(limits: &Limits, given: u64, taken: u64, held: &[u8]) -> bool
 
 /// How long the text is of a line that LF ends, if no byte of it breaks a rule: the piece is what
 /// stands in front of that LF.
-#[inline]
 pub fn sound_len(limits: &Limits, given: u64, taken: u64, piece: &[u8]) -> Option<usize>
     requires within { taken ≤ limits.now.bytes }
     ensures len { IfSome result (λ len. len ≡ length (without_cr piece.now)) }

@@ -1,9 +1,9 @@
 -- The records that are due round one.
 use Rattle.std.proofs.Common.{◌≡◌, ◌≢◌, ℕ, zero, suc, ◌+◌, ◌<◌, ◌≤◌, List, [], ◌∷◌, ◌∙◌, length, refl, sym, ap, arith, Bool}
 use Rattle.std.specs.Prelude.{Option, None, Some, if◌then◌else◌}
-use Rattle.hum_record.specs.declared.Kind.TheVariants.{Values as AnyValues}
-use Rattle.hum_record.specs.Row.{Row, kind_of, tokens_of, text_of}
-use Rattle.hum_record.specs.Spelling.{IsTextOf}
+use Rattle.hum_score.specs.declared.records.Kind.TheVariants.{Values as AnyValues}
+use Rattle.hum_score.specs.Row.{Row, kind_of, tokens_of, text_of}
+use Rattle.hum_score.specs.Spelling.{IsTextOf}
 use Rattle.hum_record.specs.Nulls.{null_row}
 use Rattle.hum_record.proofs.Drafts.{filled_tokens}
 use Rattle.hum_timebase.specs.Dues.{due_rows, AreNulls}

@@ -7,17 +7,17 @@ use Rattle.std.proofs.lemmas.Bool.{and_parts, or_parts}
 use Rattle.std.proofs.lemmas.Bool.Decides.{nat_tests}
 use Rattle.std.proofs.lemmas.List.{length-map, length-replicate}
 use lib.Chars.{codes}
-use Rattle.hum_record.specs.declared.SpinedKind.TheVariants.{Local, Interpretation, Values}
-use Rattle.hum_record.specs.Row.{Row, Comment, Spined}
+use Rattle.hum_score.specs.declared.records.SpinedKind.TheVariants.{Local, Interpretation, Values}
+use Rattle.hum_score.specs.Row.{Row, Comment, Spined}
 use Rattle.hum_record.specs.Nulls.{null_row}
-use Rattle.hum_record.specs.Spelling.{is_empty}
-use Rattle.hum_path.specs.declared.signs.Sign.{Sign}
-use Rattle.hum_path.specs.declared.signs.Sign.TheVariants.{Split, Join, Exchange, Add, End, Exclusive, Plain}
-use Rattle.hum_path.specs.Sign.{sign_of, is_plain, is_exclusive, is_path_indicator, all_plain}
-use Rattle.hum_path.specs.Spines.{Path, Unopened, Spines, width, exchanges, names_after, after}
-use Rattle.hum_path.specs.Rules.{fault_of, breaks_as_text, in_order, has_unnamed, stays_unnamed}
+use Rattle.hum_score.specs.Spelling.{is_empty}
+use Rattle.hum_score.specs.declared.spines.Sign.{Sign}
+use Rattle.hum_score.specs.declared.spines.Sign.TheVariants.{Split, Join, Exchange, Add, End, Exclusive, Plain}
+use Rattle.hum_score.specs.Sign.{sign_of, is_plain, is_exclusive, is_path_indicator, all_plain}
+use Rattle.hum_score.specs.Spines.{Path, Unopened, Spines, width, exchanges, names_after, after}
+use Rattle.hum_score.specs.Rules.{fault_of, breaks_as_text, in_order, has_unnamed, stays_unnamed}
 use Rattle.hum_path.specs.Onward.{beginnings, onward, renamed_each}
-use Rattle.hum_path.specs.Score.{IsOpen, path_after}
+use Rattle.hum_score.specs.Score.{IsOpen, path_after}
 use Rattle.hum_path.proofs.Obeyed.{opens, obeys, narrow}
 use Rattle.hum_path.proofs.Onwards.{names_onward, swapped_none, each_length}
 use Rattle.hum_path.proofs.Plain.{any_exclusive, plain_stays}
@@ -25,7 +25,7 @@ use Rattle.hum_path.proofs.Staying.{plain_breaks}
 use Rattle.hum_frac.specs.Ratio.{Ratio}
 use Rattle.hum_stage.specs.declared.faults.Rule.{Rule}
 use Rattle.hum_stage.specs.declared.faults.Rule.TheVariants.{K3, B1, B2, F1}
-use Rattle.hum_stage.specs.Score.{through, Follow}
+use Rattle.hum_score.specs.InOrder.{through, Follow}
 use Rattle.hum_stage.specs.Meaning.{KeepsScore}
 use Rattle.hum_stage.specs.Decided.{decisions, limit}
 use Rattle.hum_stage.proofs.Keeping.{at_once_keeps}

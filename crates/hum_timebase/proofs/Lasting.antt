@@ -9,11 +9,11 @@ use native.Mathlib.Nat.{mul-pos}
 use Rattle.hum_frac.specs.Ratio.{Ratio, plus, is_before, IsBefore}
 use Rattle.hum_frac.proofs.Ratios.{reduced_positive}
 use Rattle.hum_frac.proofs.Order.{before_trans, not_before_trans, NotBefore}
-use Rattle.hum_record.specs.declared.SpinedKind.TheVariants.{Local, Interpretation, Values}
-use Rattle.hum_record.specs.Row.{Row, Comment, Spined}
-use Rattle.hum_path.specs.declared.moved.Move.{Move}
-use Rattle.hum_path.specs.Spines.{moves_at}
-use Rattle.hum_path.specs.Score.{path_after}
+use Rattle.hum_score.specs.declared.records.SpinedKind.TheVariants.{Local, Interpretation, Values}
+use Rattle.hum_score.specs.Row.{Row, Comment, Spined}
+use Rattle.hum_score.specs.declared.spines.Move.{Move}
+use Rattle.hum_score.specs.Spines.{moves_at}
+use Rattle.hum_score.specs.Score.{path_after}
 use Rattle.hum_path.specs.Chains.{goes_on}
 use Rattle.hum_kern.specs.Duration.{duration, value_in}
 use Rattle.hum_kern.proofs.Laws.{duration_greater, IsPositive as IsGreaterIf}

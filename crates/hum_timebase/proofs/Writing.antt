@@ -9,11 +9,11 @@ use Rattle.std.proofs.lemmas.Bool.Decides.{nat_tests}
 use Rattle.std.proofs.lemmas.List.{nil_from_length, drop_all}
 use Rattle.std.proofs.lemmas.List.Folds.{list_any-append}
 use lib.Chars.{codes}
-use Rattle.hum_record.specs.declared.Kind.TheVariants.{Global, Interpretation as AnyInterpretation, Values as AnyValues}
-use Rattle.hum_record.specs.declared.SpinedKind.{SpinedKind}
-use Rattle.hum_record.specs.declared.SpinedKind.TheVariants.{Local, Interpretation, Values}
-use Rattle.hum_record.specs.Row.{Row, Comment, Spined, kind_of, tokens_of, text_of}
-use Rattle.hum_record.specs.Spelling.{IsToken, IsTextOf, has_byte}
+use Rattle.hum_score.specs.declared.records.Kind.TheVariants.{Global, Interpretation as AnyInterpretation, Values as AnyValues}
+use Rattle.hum_score.specs.declared.records.SpinedKind.{SpinedKind}
+use Rattle.hum_score.specs.declared.records.SpinedKind.TheVariants.{Local, Interpretation, Values}
+use Rattle.hum_score.specs.Row.{Row, Comment, Spined, kind_of, tokens_of, text_of}
+use Rattle.hum_score.specs.Spelling.{IsToken, IsTextOf, has_byte}
 use Rattle.hum_record.specs.Building.{spelled}
 use Rattle.hum_record.specs.Nulls.{nulls, null_row}
 use Rattle.hum_record.proofs.Drafts.{spelled_front}
@@ -27,10 +27,10 @@ use Rattle.hum_kern.proofs.Parts.{are_parts}
 use Rattle.hum_kern.proofs.Laws.{recip_greater}
 use Rattle.hum_kern.proofs.Short.{recip_short}
 use Rattle.hum_timebase.specs.Timebase.{names_some, tb_token}
-use Rattle.hum_path.specs.Sign.{sign_of, is_exclusive}
-use Rattle.hum_path.specs.Spines.{Path, Unopened, Spines}
-use Rattle.hum_path.specs.Rules.{fault_of}
-use Rattle.hum_path.specs.Score.{IsOpen, path_after}
+use Rattle.hum_score.specs.Sign.{sign_of, is_exclusive}
+use Rattle.hum_score.specs.Spines.{Path, Unopened, Spines}
+use Rattle.hum_score.specs.Rules.{fault_of}
+use Rattle.hum_score.specs.Score.{IsOpen, path_after}
 use Rattle.hum_path.proofs.Obeyed.{opens, obeys, narrow}
 use Rattle.hum_timebase.specs.Writing.{IsPace}
 

@@ -2,7 +2,7 @@
 use Rattle.std.specs.Prelude.{◌≡◌, ℕ, ◌+◌, ◌<◌, ◌^◌, true, List, [], ◌++◌, length, replicate}
 use Rattle.std.specs.Prelude.{Option, None, Some, is_some}
 use Rattle.std.specs.Option.{option_to_list}
-use Rattle.hum_record.specs.Row.{Row, Comment}
+use Rattle.hum_score.specs.Row.{Row, Comment}
 use Rattle.hum_record.specs.Nulls.{null_row}
 
 -- a record, or any where there is none

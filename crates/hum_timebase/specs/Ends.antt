@@ -2,7 +2,7 @@
 use Rattle.std.specs.Prelude.{ℕ, ◌+◌, Bool, List, [], ◌∷◌, ◌++◌, Option, None, Some}
 use Rattle.std.specs.Prelude.{if◌then◌else◌}
 use Rattle.hum_frac.specs.Ratio.{Ratio, plus, is_before}
-use Rattle.hum_path.specs.declared.moved.Move.{Move}
+use Rattle.hum_score.specs.declared.spines.Move.{Move}
 use Rattle.hum_path.specs.Chains.{goes_on}
 use Rattle.hum_timebase.specs.Pairs.{over}
 

@@ -1,9 +1,9 @@
 -- What the state stands for.
 use Rattle.std.specs.Prelude.{◌≡◌, ℕ, Bool, List, length, Option, None, Some, Result, Ok, Err}
-use Rattle.hum_record.specs.Row.{Row}
+use Rattle.hum_score.specs.Row.{Row}
 use Rattle.hum_record.specs.Nulls.{null_row}
-use Rattle.hum_path.specs.Spines.{Path}
-use Rattle.hum_path.specs.Score.{path_after}
+use Rattle.hum_score.specs.Spines.{Path}
+use Rattle.hum_score.specs.Score.{path_after}
 use Rattle.hum_stage.specs.declared.faults.Rule.{Rule}
 use Rattle.hum_stage.specs.Decided.{Decision}
 use Rattle.hum_stage.specs.Limits.{in_room}

@@ -3,8 +3,8 @@ use Rattle.std.specs.Prelude.{◌≡◌, ℕ, ◌+◌, Bool, true, List, [], ◌
 use Rattle.std.specs.Prelude.{is_some}
 use Rattle.std.specs.Prelude.{Result, Ok, Err, not, if◌then◌else◌}
 use Rattle.std.specs.List.{list_any}
-use Rattle.hum_record.specs.Row.{Row}
-use Rattle.hum_path.specs.declared.moved.Move.{Move}
+use Rattle.hum_score.specs.Row.{Row}
+use Rattle.hum_score.specs.declared.spines.Move.{Move}
 use Rattle.hum_path.specs.Chains.{goes_on}
 use Rattle.hum_frac.specs.Ratio.{Ratio, plus}
 use Rattle.hum_frac.specs.Multiples.{is_multiple}

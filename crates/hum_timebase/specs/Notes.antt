@@ -5,8 +5,8 @@ use Rattle.std.specs.List.{list_any}
 use Rattle.std.specs.Str.{bytes_eq}
 use lib.Chars.{codes}
 use Rattle.hum_record.specs.Contents.{is_null, is_barline}
-use Rattle.hum_path.specs.Sign.{sign_of, is_exclusive}
-use Rattle.hum_path.specs.Spines.{Path, exclusives}
+use Rattle.hum_score.specs.Sign.{sign_of, is_exclusive}
+use Rattle.hum_score.specs.Spines.{Path, exclusives}
 use Rattle.hum_frac.specs.Ratio.{Ratio}
 pub use Rattle.hum_kern.specs.Subtokens.{subtokens}
 use Rattle.hum_kern.specs.Duration.{duration, value_in, is_refused}

@@ -1,7 +1,7 @@
 -- Which cells go on as the spine of a move: from a first place to before another.
 use Rattle.std.specs.Prelude.{ℕ, ◌+◌}
-use Rattle.hum_path.specs.declared.moved.Move.{Move}
-use Rattle.hum_path.specs.declared.moved.Move.TheVariants.{Same, Left, Right, Join as Joined, Added}
+use Rattle.hum_score.specs.declared.spines.Move.{Move}
+use Rattle.hum_score.specs.declared.spines.Move.TheVariants.{Same, Left, Right, Join as Joined, Added}
 
 abbrev pub low_of : Move → ℕ
 low_of (Same j) = j

@@ -4,15 +4,15 @@ use Rattle.std.specs.Prelude.{replicate, Option, None, Some, is_some, Result, Ok
 use Rattle.std.specs.Prelude.{if◌then◌else◌}
 use Rattle.std.specs.List.{list_any, list_all}
 use lib.Chars.{codes}
-use Rattle.hum_record.specs.declared.SpinedKind.TheVariants.{Interpretation, Values}
-use Rattle.hum_record.specs.Row.{Row, Comment, Spined}
-use Rattle.hum_path.specs.Sign.{sign_of, is_exclusive, has_exclusive}
-use Rattle.hum_path.specs.Score.{path_after}
+use Rattle.hum_score.specs.declared.records.SpinedKind.TheVariants.{Interpretation, Values}
+use Rattle.hum_score.specs.Row.{Row, Comment, Spined}
+use Rattle.hum_score.specs.Sign.{sign_of, is_exclusive, has_exclusive}
+use Rattle.hum_score.specs.Score.{path_after}
 use Rattle.hum_frac.specs.Ratio.{Ratio, plus, fits, is_before}
 use Rattle.hum_frac.specs.Multiples.{is_multiple, multiples_between}
 use Rattle.hum_stage.specs.declared.faults.Rule.{Rule}
 use Rattle.hum_stage.specs.declared.faults.Rule.TheVariants.{K3, B1, B2, F1}
-use Rattle.hum_stage.specs.declared.faults.Command.TheVariants.{Timebase}
+use Rattle.hum_words.specs.declared.commands.Command.TheVariants.{Timebase}
 use Rattle.hum_stage.specs.Meaning.{Meaning}
 use Rattle.hum_stage.specs.Decided.{Decision, at_once}
 use Rattle.hum_choices.specs.Timebase.{Pace}

@@ -71,7 +71,6 @@ pub(crate) struct Strike {
 
 impl Strike {
     /// Whether the record stays, and no null records stand round it.
-    #[inline]
     pub(crate) fn is_lone(self) -> bool
         ensures { result ≡ (self.stays && ((self.before == 0) && (self.after == 0))) }
     {

@@ -1,9 +1,10 @@
 //! Records that are due round one.
 ghost use Rattle.std.specs.Prelude.{◌≡◌, ◌+◌, ◌<◌, ◌^◌, ◌∷◌, [], true, is_some, IfOk};
 ghost use Rattle.std.specs.Prelude.{None, Some, OnOk, if◌then◌else◌};
-ghost use Rattle.hum_record.specs.Row.{kind_of, tokens_of, text_of, width_of};
-ghost use Rattle.hum_record.specs.{Nulls.null_row, Spelling.IsTextOf};
-ghost use Rattle.hum_record.specs.declared.Kind.TheVariants.{Values as AnyValues};
+ghost use Rattle.hum_score.specs.Row.{kind_of, tokens_of, text_of, width_of};
+ghost use Rattle.hum_record.specs.{Nulls.null_row};
+ghost use Rattle.hum_score.specs.{Spelling.IsTextOf};
+ghost use Rattle.hum_score.specs.declared.records.Kind.TheVariants.{Values as AnyValues};
 ghost use Rattle.hum_timebase.specs.Dues.{row_in, due_rows, AreNulls};
 ghost use Rattle.hum_timebase.specs.Timebase.{around};
 
@@ -31,7 +32,7 @@ pub struct Around {
 
 impl Model for Around {
     ghost use Rattle.std.specs.Prelude.{List};
-    ghost use Rattle.hum_record.specs.Row.{Row};
+    ghost use Rattle.hum_score.specs.Row.{Row};
     ghost use Rattle.hum_timebase.specs.Dues.{due_rows, AreDue};
 
     ghost Value = { List Row };
@@ -98,8 +99,6 @@ fn kept_if(stays: bool, row: Record, gone: &mut Option<Record>) -> Option<Record
 }
 
 /// Gives the pool a record that is done with.
-// Not inlined: most often each record stays.
-#[inline(never)]
 fn keep_gone(gone: &mut Option<Record>, pool: &mut Spare) {
     if let Some(gone) = gone.take() {
         pool.keep(gone);
@@ -108,7 +107,6 @@ fn keep_gone(gone: &mut Option<Record>, pool: &mut Spare) {
 
 impl Around {
     /// This record alone is due.
-    #[inline]
     pub fn put(&mut self, row: Record)
         requires { self.old ≡ [] }
         ensures { self.new ≡ row ∷ [] }
@@ -157,7 +155,6 @@ impl Around {
     }
 
     /// Gives the pool the last record that didn't stay, if there is one.
-    #[inline(always)]
     fn give_back(&mut self, pool: &mut Spare)
         ensures { self.new ≡ self.old }
     {
@@ -206,7 +203,6 @@ impl DueRecords for Around {
         Ok(None)
     }
 
-    #[inline]
     fn take_lone(&mut self, pool: &mut Spare) -> Option<Record> {
         if self.before > 0 || self.after > 0 {
             return None;

@@ -2,11 +2,11 @@
 ghost use Rattle.std.specs.Prelude.{◌≡◌, [], ◌∷◌, Ok, Err, None, ℕ, OnOk, is_some};
 ghost use Rattle.std.specs.Prelude.{if◌then◌else◌, List, Bool};
 ghost use Rattle.std.specs.List.{list_any};
-ghost use Rattle.hum_record.specs.Row.{Row, kind_of, tokens_of, text_of};
-ghost use Rattle.hum_record.specs.Spelling.{IsTextOf};
-ghost use Rattle.hum_record.specs.declared.Kind.TheVariants.{Interpretation as AnyInterpretation};
-ghost use Rattle.hum_record.specs.declared.Kind.TheVariants.{Values as AnyValues};
-ghost use Rattle.hum_path.specs.Spines.{after};
+ghost use Rattle.hum_score.specs.Row.{Row, kind_of, tokens_of, text_of};
+ghost use Rattle.hum_score.specs.Spelling.{IsTextOf};
+ghost use Rattle.hum_score.specs.declared.records.Kind.TheVariants.{Interpretation as AnyInterpretation};
+ghost use Rattle.hum_score.specs.declared.records.Kind.TheVariants.{Values as AnyValues};
+ghost use Rattle.hum_score.specs.Spines.{after};
 ghost use Rattle.hum_stage.specs.Decided.{Decision, MayStep, HasStepped};
 ghost use Rattle.hum_stage.specs.Refusals.{IfTold};
 ghost use Rattle.hum_timebase.specs.{Timebase.timebase, Timebase.around, Following.Follows};
@@ -209,7 +209,7 @@ impl Decides for Grid {
 
     type Due = Around;
 
-    ghost use Rattle.hum_stage.specs.declared.faults.Command.TheVariants.{Timebase};
+    ghost use Rattle.hum_words.specs.declared.commands.Command.TheVariants.{Timebase};
 
     ghost command = { Timebase };
 

@@ -1,8 +1,9 @@
 //! Timed columns, and the notes in their cells.
 ghost use Rattle.std.specs.Prelude.{◌≡◌, ◌∷◌, ◌++◌, ◌≤◌, ◌<◌, [], length, false, IfOk, OnOk};
 ghost use Rattle.std.specs.Prelude.{IfSome, slice_index_or, is_some, ◌&&◌};
-ghost use Rattle.hum_record.specs.{Row.tokens_of, Contents.is_null, Contents.is_barline};
-ghost use Rattle.hum_path.specs.Spines.{exclusives};
+ghost use Rattle.hum_score.specs.{Row.tokens_of};
+ghost use Rattle.hum_record.specs.{Contents.is_null, Contents.is_barline};
+ghost use Rattle.hum_score.specs.Spines.{exclusives};
 ghost use Rattle.hum_kern.specs.{Duration.value_in, Duration.is_refused, Runs.run};
 ghost use Rattle.hum_kern.specs.{Subtokens.leads_shortly};
 ghost use Rattle.hum_timebase.specs.Notes.{is_timed, timed_in, own_name, timed_at, is_sounding};
@@ -147,7 +148,6 @@ fn first_duration(token: &[u8]) -> Result<Option<Frac>, KernFault>
 }
 
 /// The same by one subtoken after another.
-#[inline(never)]
 fn first_of_parts(token: &[u8]) -> Result<Option<Frac>, KernFault>
     ensures { Reads (first_duration (subtokens token.now)) (some_refused (subtokens token.now))
         result }
@@ -178,7 +178,6 @@ fn plain_note(timed: bool, token: &[u8]) -> Option<Frac>
 ///
 /// # Errors
 /// K3 where a duration of it is refused.
-#[inline(never)]
 fn note(timed: bool, token: &[u8]) -> Result<Option<Frac>, KernFault>
     ensures { Reads (note_of timed token.now) (is_misread timed token.now) result }
 {

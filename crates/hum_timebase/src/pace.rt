@@ -1,8 +1,8 @@
 //! How far apart the records stand.
 ghost use Rattle.std.specs.Prelude.{◌≡◌, ◌<◌, ◌≤◌, ◌++◌, Ok, IfOk, OnOk, length};
 ghost use lib.Chars.{codes};
-ghost use Rattle.hum_record.specs.declared.SpinedKind.TheVariants.{Interpretation};
-ghost use Rattle.hum_record.specs.Spelling.{IsToken};
+ghost use Rattle.hum_score.specs.declared.records.SpinedKind.TheVariants.{Interpretation};
+ghost use Rattle.hum_score.specs.Spelling.{IsToken};
 
 use hum_choices::TimebaseOptions;
 use hum_frac::Frac;

@@ -2,9 +2,9 @@
 ghost use Rattle.std.specs.Prelude.{◌≡◌, ◌≤◌, length, true, IfOk};
 ghost use Rattle.std.specs.Prelude.{if◌then◌else◌};
 ghost use lib.Chars.{codes};
-ghost use Rattle.hum_record.specs.declared.SpinedKind.TheVariants.{Interpretation};
-ghost use Rattle.hum_record.specs.{Row.tokens_of, Spelling.IsToken};
-ghost use Rattle.hum_path.specs.Sign.{sign_of, is_exclusive};
+ghost use Rattle.hum_score.specs.declared.records.SpinedKind.TheVariants.{Interpretation};
+ghost use Rattle.hum_score.specs.{Row.tokens_of, Spelling.IsToken};
+ghost use Rattle.hum_score.specs.Sign.{sign_of, is_exclusive};
 ghost use Rattle.hum_timebase.specs.Timebase.{names_some, tb_token, tb_row};
 
 use crate::pace::Pace;

@@ -9,8 +9,8 @@ use Rattle.std.proofs.lemmas.Int.{ints}
 use Rattle.std.proofs.lemmas.Bool.{or_parts}
 use Rattle.std.proofs.lemmas.Bool.Decides.{nat_tests}
 use lib.Chars.{codes}
-use Rattle.hum_record.specs.declared.SpinedKind.TheVariants.{Values}
-use Rattle.hum_record.specs.Spelling.{IsToken}
+use Rattle.hum_score.specs.declared.records.SpinedKind.TheVariants.{Values}
+use Rattle.hum_score.specs.Spelling.{IsToken}
 use Rattle.hum_frac.specs.Ratio.{Ratio}
 use Rattle.hum_pitch.specs.Pitch.{Spelled, semitones, natural, IsWithin, IsOctave, IsAlteration}
 use Rattle.hum_pitch.specs.Spelling.{small_letters, capitals, read_small, read_capitals, altered_by}

@@ -9,8 +9,8 @@ use Rattle.std.proofs.lemmas.Slice.Eq.{bytes_eq-Decides}
 use Rattle.hum_pitch.specs.Pitch.{natural}
 use Rattle.hum_pitch.specs.Intervals.{direction, sign, quality, quality_letters, size, named}
 use Rattle.hum_tones.specs.IntervalNames.{widths, steps_at, semitones_at, names, size_at, text_at}
-use Rattle.hum_record.specs.declared.SpinedKind.TheVariants.{Values}
-use Rattle.hum_record.specs.Spelling.{IsToken}
+use Rattle.hum_score.specs.declared.records.SpinedKind.TheVariants.{Values}
+use Rattle.hum_score.specs.Spelling.{IsToken}
 use Rattle.std.specs.Int.Signed.{mag}
 use Rattle.std.proofs.lemmas.Int.{ints}
 use Rattle.hum_tones.proofs.MintedLawful.{named_lawful}

@@ -4,9 +4,9 @@ use Rattle.std.specs.List.{AllByRecursion}
 use Rattle.std.proofs.lemmas.List.Folds.{list_any-append}
 use Rattle.std.proofs.lemmas.Bool.{or_parts}
 use Rattle.std.proofs.lemmas.Bool.Decides.{nat_tests}
-use Rattle.hum_record.specs.declared.SpinedKind.TheVariants.{Local, Values}
-use Rattle.hum_record.specs.Spelling.{has_byte, is_comment, kind_of_token, IsToken}
-use Rattle.hum_path.proofs.Cases.{by_bool}
+use Rattle.hum_score.specs.declared.records.SpinedKind.TheVariants.{Local, Values}
+use Rattle.hum_score.specs.Spelling.{has_byte, is_comment, kind_of_token, IsToken}
+use Rattle.hum_score.proofs.Cases.{by_bool}
 use Rattle.hum_tones.specs.Subtokens.{joined}
 use Rattle.hum_tones.proofs.Parts.{IsPiece}
 

@@ -4,8 +4,8 @@ use Rattle.std.specs.Prelude.{slice_get, slice_index_or, slice_set, Some, map, R
 use Rattle.std.proofs.lemmas.Bool.{and_parts}
 use Rattle.hum_record.specs.Contents.{is_filled, is_null, is_barline}
 use Rattle.std.proofs.lemmas.List.{length-map}
-use Rattle.hum_record.specs.declared.SpinedKind.TheVariants.{Values}
-use Rattle.hum_record.specs.Spelling.{IsToken}
+use Rattle.hum_score.specs.declared.records.SpinedKind.TheVariants.{Values}
+use Rattle.hum_score.specs.Spelling.{IsToken}
 use Rattle.hum_path.specs.Memories.{remembered}
 use Rattle.hum_pitch.specs.Pitch.{Spelled}
 use Rattle.hum_cells.specs.Rewriting.{Rewriting, has_content}

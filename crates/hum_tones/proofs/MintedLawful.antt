@@ -5,8 +5,8 @@ use Rattle.std.specs.Fmt.{decimal}
 use Rattle.std.specs.Int.Signed.{mag}
 use Rattle.std.proofs.lemmas.Int.{ints}
 use lib.Chars.{codes}
-use Rattle.hum_record.specs.declared.SpinedKind.TheVariants.{Values}
-use Rattle.hum_record.specs.Spelling.{has_byte, kind_of_token, IsToken}
+use Rattle.hum_score.specs.declared.records.SpinedKind.TheVariants.{Values}
+use Rattle.hum_score.specs.Spelling.{has_byte, kind_of_token, IsToken}
 use Rattle.hum_pitch.specs.Pitch.{Spelled, step_number, semitones}
 use Rattle.hum_pitch.specs.Given.{spelled}
 use Rattle.hum_pitch.specs.Spelling.{spelling}

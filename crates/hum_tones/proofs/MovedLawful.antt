@@ -5,9 +5,9 @@ use Rattle.std.proofs.Common.{subst}
 use Rattle.std.specs.Prelude.{Result, Ok, Err, replicate, slice_index, if◌then◌else◌, not}
 use Rattle.std.specs.List.{onto_first}
 use Rattle.std.proofs.lemmas.List.Folds.{list_any-append}
-use Rattle.hum_record.specs.declared.SpinedKind.TheVariants.{Values}
-use Rattle.hum_record.specs.Spelling.{has_byte, kind_of_token, IsToken}
-use Rattle.hum_path.proofs.Cases.{by_bool}
+use Rattle.hum_score.specs.declared.records.SpinedKind.TheVariants.{Values}
+use Rattle.hum_score.specs.Spelling.{has_byte, kind_of_token, IsToken}
+use Rattle.hum_score.proofs.Cases.{by_bool}
 use Rattle.hum_pitch.specs.Pitch.{Spelled, away}
 use Rattle.hum_pitch.specs.Spelling.{small_letters, capitals, letters, letters_of, accidentals, spelling}
 use Rattle.hum_pitch.proofs.Steps.{away_is}

@@ -2,9 +2,9 @@
 use Rattle.std.proofs.Common.{◌≡◌, ◌≢◌, refl, ℕ, ◌==◌, false, List, [], ◌∷◌}
 use Rattle.std.specs.List.{AllByRecursion, onto_first}
 use Rattle.std.proofs.lemmas.Bool.{or_parts}
-use Rattle.hum_record.specs.declared.SpinedKind.TheVariants.{Values}
-use Rattle.hum_record.specs.Spelling.{has_byte, kind_of_token}
-use Rattle.hum_path.proofs.Cases.{by_bool}
+use Rattle.hum_score.specs.declared.records.SpinedKind.TheVariants.{Values}
+use Rattle.hum_score.specs.Spelling.{has_byte, kind_of_token}
+use Rattle.hum_score.proofs.Cases.{by_bool}
 use Rattle.hum_tones.specs.Subtokens.{subtokens}
 
 abbrev pub Lack : ℕ → List (List ℕ) → Type 0

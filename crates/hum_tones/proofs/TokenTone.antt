@@ -12,9 +12,9 @@ use Rattle.hum_tones.specs.Faults.{rule_of}
 use Rattle.hum_tones.specs.Mint.{readings, told, told_of, minted, approached, readings_of, with_reading, Tone, or_tone, leading, TokenTone, heard}
 use Rattle.hum_tones.specs.Mint.{remembered_of, new_pitch, pitch_in}
 use Rattle.hum_tones.specs.Memory.{silence, heard_of, told_as}
-use Rattle.hum_record.specs.declared.SpinedKind.TheVariants.{Values}
+use Rattle.hum_score.specs.declared.records.SpinedKind.TheVariants.{Values}
 use Rattle.hum_record.specs.Contents.{is_filled, is_null, is_barline}
-use Rattle.hum_record.specs.Spelling.{IsToken}
+use Rattle.hum_score.specs.Spelling.{IsToken}
 use Rattle.hum_cells.specs.Rewriting.{has_content}
 use Rattle.std.specs.Prelude.{not, ◌&&◌, if◌then◌else◌}
 use Rattle.std.proofs.lemmas.Bool.{and_parts}

@@ -1,7 +1,7 @@
 -- Tokens that are told by what their parts give.
 use Rattle.std.proofs.Common.{◌≡◌, sym, ap, ℕ, List}
-use Rattle.hum_record.specs.declared.SpinedKind.TheVariants.{Values}
-use Rattle.hum_record.specs.Spelling.{IsToken}
+use Rattle.hum_score.specs.declared.records.SpinedKind.TheVariants.{Values}
+use Rattle.hum_score.specs.Spelling.{IsToken}
 use Rattle.std.specs.Prelude.{None, Some, Result, Ok, Err}
 use Rattle.hum_stage.specs.declared.faults.Rule.{Rule}
 use Rattle.hum_stage.specs.declared.faults.Refusal.{Refusal}

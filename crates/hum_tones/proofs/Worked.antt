@@ -2,11 +2,11 @@
 use Rattle.std.proofs.Common.{◌≡◌, ℕ, List, [], ◌∷◌, pos, Some, None, false, refl}
 use Rattle.std.specs.Fmt.{digits}
 use lib.Chars.{codes}
-use Rattle.hum_record.specs.declared.SpinedKind.TheVariants.{Interpretation, Values}
-use Rattle.hum_record.specs.Row.{Row, Spined}
+use Rattle.hum_score.specs.declared.records.SpinedKind.TheVariants.{Interpretation, Values}
+use Rattle.hum_score.specs.Row.{Row, Spined}
 use Rattle.hum_pattern.proofs.OnLiterals.{patterns_on_literals}
 use Rattle.hum_pitch.specs.Pitch.{natural}
-use Rattle.hum_stage.specs.declared.faults.Command.TheVariants.{Trans, Semits, Mint, Recip}
+use Rattle.hum_words.specs.declared.commands.Command.TheVariants.{Trans, Semits, Mint, Recip}
 use Rattle.hum_stage.specs.Meaning.{output}
 use Rattle.hum_cells.specs.Rewriting.{meaning}
 use Rattle.hum_choices.specs.declared.recip.RecipOptions.{RecipOptions}

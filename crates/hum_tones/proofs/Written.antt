@@ -9,9 +9,9 @@ use Rattle.std.proofs.lemmas.List.Folds.{list_any-append}
 use Rattle.std.proofs.lemmas.Bool.{or_parts, and_parts}
 use Rattle.std.proofs.lemmas.Bool.Decides.{nat_tests}
 use lib.Chars.{codes}
-use Rattle.hum_record.specs.declared.SpinedKind.TheVariants.{Values}
-use Rattle.hum_record.specs.Spelling.{has_byte, kind_of_token}
-use Rattle.hum_path.proofs.Cases.{by_bool}
+use Rattle.hum_score.specs.declared.records.SpinedKind.TheVariants.{Values}
+use Rattle.hum_score.specs.Spelling.{has_byte, kind_of_token}
+use Rattle.hum_score.proofs.Cases.{by_bool}
 use Rattle.hum_frac.specs.Ratio.{Ratio, reduced}
 use Rattle.hum_kern.specs.declared.KernFault.TheVariants.{K3}
 use Rattle.hum_kern.specs.declared.Length.{Length}

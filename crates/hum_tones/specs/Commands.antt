@@ -3,7 +3,7 @@ use Rattle.std.specs.Prelude.{◌≡◌, ℕ, ℤ, List, ◌++◌, map}
 use Rattle.std.specs.Fmt.{signed_decimal}
 use lib.Chars.{codes}
 use Rattle.hum_path.specs.Memories.{remembered}
-use Rattle.hum_stage.specs.declared.faults.Command.TheVariants.{Trans, Semits, Mint, Recip}
+use Rattle.hum_words.specs.declared.commands.Command.TheVariants.{Trans, Semits, Mint, Recip}
 use Rattle.hum_stage.specs.Meaning.{Meaning}
 use Rattle.hum_cells.specs.Rewriting.{Rewriting, Heading, Renamed, Followed, IsHeading, meaning}
 use Rattle.hum_cells.specs.Rewriter.{Columns}

@@ -2,7 +2,7 @@
 use Rattle.std.specs.Prelude.{ℕ, Bool, false, not, ◌&&◌, List, Option, None, Some, Result, Ok, Err}
 use Rattle.std.specs.Prelude.{if◌then◌else◌}
 use Rattle.hum_record.specs.Contents.{is_filled, is_barline}
-use Rattle.hum_path.specs.Sign.{sign_of, is_exclusive}
+use Rattle.hum_score.specs.Sign.{sign_of, is_exclusive}
 use Rattle.hum_pitch.specs.Pitch.{Spelled}
 use Rattle.hum_stage.specs.declared.faults.Rule.{Rule}
 use Rattle.hum_tones.specs.Mint.{TokenTone, readings, remembered_of, is_break, told}

@@ -55,7 +55,6 @@ impl TokenTone {
     };
 
     /// What is heard with one part more.
-    #[inline(always)]
     pub(crate) fn with(self, note: Note) -> TokenTone
         ensures { hearing result ≡ heard_with (hearing self) (reading note) }
     {

@@ -1,7 +1,7 @@
 //! The short texts that most notes become.
 ghost use Rattle.std.specs.Prelude.{◌≡◌, ◌≤◌, pos, negsuc, false, IfSome, codes, if◌then◌else◌};
-ghost use Rattle.hum_record.specs.declared.SpinedKind.TheVariants.{Values};
-ghost use Rattle.hum_record.specs.Spelling.{IsToken};
+ghost use Rattle.hum_score.specs.declared.records.SpinedKind.TheVariants.{Values};
+ghost use Rattle.hum_score.specs.Spelling.{IsToken};
 ghost use Rattle.hum_pitch.specs.Pitch.{IsWithin};
 ghost use Rattle.hum_pitch.specs.Intervals.{named};
 ghost use Rattle.hum_tones.specs.IntervalNames.{steps_at, semitones_at, text_at};
@@ -55,7 +55,6 @@ const SIZES: [u8; 322] = [
 ];
 
 /// The row of so many steps, if there is one.
-#[inline(always)]
 fn row_of(steps: i32) -> Option<usize>
     ensures few { IfSome result (λ row. row ≤ 63) }
     ensures exact { IfSome result (λ row. steps ≡ steps_at row) }
@@ -67,7 +66,6 @@ fn row_of(steps: i32) -> Option<usize>
 }
 
 /// The place of so many semitones in a row, if there is one.
-#[inline(always)]
 fn place_in(row: usize, semitones: i32) -> Option<usize>
     requires row { row ≤ 63 }
     requires semitones { IsWithin (negsuc 204) semitones (pos 205) }
@@ -90,7 +88,6 @@ pub(crate) struct ShortName {
 }
 
 /// What a token becomes that has no new note: `r` for a rest.
-#[inline(always)]
 pub(crate) fn still(rest: bool) -> ShortName
     ensures { text_at result.place ≡ (if rest then codes "r" else codes ".") }
 {
@@ -102,7 +99,6 @@ pub(crate) fn still(rest: bool) -> ShortName
 
 impl ShortName {
     /// The text.
-    #[inline(always)]
     pub(crate) fn as_bytes(self) -> &'static [u8]
         ensures { result.now ≡ text_at self.place }
     {
@@ -116,7 +112,6 @@ impl ShortName {
 }
 
 /// The name that stands at a place in a row, if there is one.
-#[inline(always)]
 fn name_at(row: usize, from: usize) -> Option<ShortName>
     requires row { row ≤ 63 }
     requires from { from ≤ 4 }
@@ -133,7 +128,6 @@ fn name_at(row: usize, from: usize) -> Option<ShortName>
 }
 
 /// The name of an interval, where it has few steps and its quality is one letter, as most are.
-#[inline(always)]
 pub(crate) fn interval_name(interval: Interval) -> Option<ShortName>
     ensures { IfSome result (λ name. text_at name.place ≡ named false false interval.d interval.s) }
 {

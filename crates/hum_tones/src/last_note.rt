@@ -1,6 +1,6 @@
 //! The note before.
 ghost use Rattle.std.specs.Prelude.{◌≡◌, ◌||◌, ◌&&◌, not, ℕ, true, false, List, None, Ok, option_map, OnOk};
-ghost use Rattle.hum_record.specs.declared.SpinedKind.TheVariants.{Values};
+ghost use Rattle.hum_score.specs.declared.records.SpinedKind.TheVariants.{Values};
 ghost use Rattle.hum_record.specs.RecordDraft.{Holds};
 ghost use Rattle.hum_stage.specs.Refusals.{IfTold};
 ghost use Rattle.hum_cells.specs.Rewriter.{Pushes};
@@ -71,7 +71,6 @@ fn note_after(
 }
 
 /// Whether a token is null or a barline.
-#[inline(always)]
 fn is_silent(token: &[u8]) -> bool
     ensures { result ≡ (is_null token.now || is_barline token.now) }
 {
@@ -90,7 +89,6 @@ fn is_told(token: &[u8]) -> bool
 }
 
 /// How the options name intervals.
-#[inline(always)]
 fn naming(options: &MintOptions) -> Naming
     ensures { result ≡ record { signless = options.now.signless; sizeonly = options.now.sizeonly } }
 {
@@ -180,7 +178,6 @@ impl LastNote {
     }
 
     /// Goes on with a null token or a barline, behind which no note is forgotten: nothing is told.
-    #[inline(always)]
     fn hear_nothing(&self, _options: &MintOptions, _token: &[u8])
         requires whole { _options.now.breaks ≡ None }
         requires data { is_data _token.now ≡ true }
@@ -205,7 +202,6 @@ impl LastNote {
     }
 
     /// Goes on with any cell.
-    #[inline(never)]
     fn hear_any(&mut self, options: &mut MintOptions, token: &[u8])
         ensures seen { self.new ≡ heard_after options.old token.now self.old }
         ensures kept { options.new ≡ options.old }
@@ -221,7 +217,6 @@ impl LastNote {
     ///
     /// # Errors
     /// The rule by which it is refused; or out of memory.
-    #[inline(always)]
     pub(crate) fn push(&self, text: &mut Vec<u8>, making: &mut RecordDraft) -> Result<(), Refusal>
         requires { making.old.builder.kind ≡ Values }
         ensures pushed { IfTold result (Pushes self.now.told

@@ -1,5 +1,5 @@
 //! The command mint: notes become the intervals from the notes before them.
-ghost use Rattle.hum_stage.specs.declared.faults.Command.TheVariants.{Mint as MintCommand};
+ghost use Rattle.hum_words.specs.declared.commands.Command.TheVariants.{Mint as MintCommand};
 
 use crate::last_note::LastNote;
 use hum_cells::{CellStage, Heading, TokenRewriter};
@@ -51,7 +51,6 @@ impl TokenRewriter for MintTokens {
         Heading::Renamed(b"**mint".as_slice())
     }
 
-    #[inline]
     fn rewrite(&mut self, j: usize, token: &[u8], making: &mut RecordDraft) -> Result<(), Refusal> {
         self.carried.see(&mut self.options, j, token)?;
         self.carried.at(j).push(&mut self.text, making)

@@ -1,6 +1,6 @@
 //! Tokens in whose place stands the interval from the note before.
 ghost use Rattle.std.specs.Prelude.{◌≡◌, ◌∷◌, ◌++◌, [], ℕ, List, OnOk, IfSome, option_map, Ok};
-ghost use Rattle.hum_record.specs.declared.SpinedKind.TheVariants.{Values};
+ghost use Rattle.hum_score.specs.declared.records.SpinedKind.TheVariants.{Values};
 ghost use Rattle.hum_record.specs.RecordDraft.{Holds};
 ghost use Rattle.hum_pitch.specs.Given.{spelled};
 ghost use Rattle.hum_stage.specs.Refusals.{IfTold};
@@ -63,7 +63,6 @@ fn add_tone(
 }
 
 /// The interval from the note before to a pitch, where its name is short and shown whole, as it mostly is.
-#[inline(always)]
 fn short_name(naming: Naming, before: Option<Pitch>, pitch: Pitch) -> Option<ShortName>
     ensures { IfSome result (λ name. text_at name.place
         ≡ approached naming.signless naming.sizeonly
@@ -80,7 +79,6 @@ fn short_name(naming: Naming, before: Option<Pitch>, pitch: Pitch) -> Option<Sho
 
 /// What a cell becomes by the note before it and what was heard of it, where that is short, as it mostly
 /// is.
-#[inline(always)]
 pub(crate) fn short_minted(
     naming: Naming,
     before: Option<Pitch>,
@@ -165,7 +163,6 @@ fn push_any_minted(
 ///
 /// # Errors
 /// The rule by which it is refused; or out of memory.
-#[inline(always)]
 pub(crate) fn push_minted(
     name: Option<ShortName>,
     approach: &Approach,

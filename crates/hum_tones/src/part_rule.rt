@@ -1,7 +1,7 @@
 //! Tokens in whose place stands what their parts give.
 ghost use Rattle.std.specs.Prelude.{◌≡◌, ◌++◌, [], codes, ◌&&◌, OnOk, IfOk, option_map, true, false, None};
-ghost use Rattle.hum_record.specs.declared.SpinedKind.TheVariants.{Values};
-ghost use Rattle.hum_record.specs.Spelling.{IsToken};
+ghost use Rattle.hum_score.specs.declared.records.SpinedKind.TheVariants.{Values};
+ghost use Rattle.hum_score.specs.Spelling.{IsToken};
 ghost use Rattle.hum_record.specs.RecordDraft.{Holds};
 ghost use Rattle.hum_stage.specs.Refusals.{IfTold};
 ghost use Rattle.hum_cells.specs.Rewriter.{Pushes};
@@ -92,7 +92,6 @@ fn is_left_out(ties_left_out: bool, note: &Note) -> bool
 
 /// What a part gives by what it says: the semitones of its note, unless that is left out, or `r`
 /// for a rest.
-#[inline(always)]
 fn note_text(note: Note, ties_left_out: bool) -> Option<&'static [u8]>
     ensures { option_map (λ text. text.now) result ≡ of_reading ties_left_out (reading note) }
 {
@@ -111,7 +110,6 @@ fn note_text(note: Note, ties_left_out: bool) -> Option<&'static [u8]>
 }
 
 /// A text, or a null token where there is none.
-#[inline(always)]
 fn or_null(text: Option<&'static [u8]>) -> &'static [u8]
     ensures { result.now ≡ lone_text (option_map (λ text. text.now) text.entry) }
 {
@@ -144,7 +142,6 @@ impl PartRule {
     ghost use Rattle.hum_tones.specs.PartRule.{gives, given};
 
     /// Adds what a part gives, with a space behind it.
-    #[inline(always)]
     fn add(self, part: &[u8], text: &mut Vec<u8>) -> Result<(), Refusal>
         ensures { IfTold result (HasAdded (gives self part.now) text.old.items text.new.items) }
     {
@@ -182,7 +179,6 @@ impl PartRule {
     ///
     /// # Errors
     /// The rule by which it is refused; or out of memory.
-    #[inline(never)]
     pub(crate) fn push_parts(
         self,
         token: &[u8],

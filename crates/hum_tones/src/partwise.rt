@@ -1,10 +1,10 @@
 //! Commands whose tokens become what their parts give, the same wherever they stand.
 ghost use Rattle.std.specs.Prelude.{◌≡◌, OnOk};
-ghost use Rattle.hum_record.specs.declared.SpinedKind.TheVariants.{Values};
-ghost use Rattle.hum_record.specs.Spelling.{IsToken};
+ghost use Rattle.hum_score.specs.declared.records.SpinedKind.TheVariants.{Values};
+ghost use Rattle.hum_score.specs.Spelling.{IsToken};
 ghost use Rattle.hum_record.specs.RecordDraft.{Holds};
 ghost use Rattle.hum_stage.specs.Refusals.{IfTold};
-ghost use Rattle.hum_stage.specs.declared.faults.Command.{Command};
+ghost use Rattle.hum_words.specs.declared.commands.Command.{Command};
 ghost use Rattle.hum_cells.specs.Rewriting.{Rewriting, Heading, IsHeading};
 ghost use Rattle.hum_cells.specs.Rewriter.{shown, Pushes};
 ghost use Rattle.hum_tones.specs.Commands.{given_under};
@@ -111,7 +111,6 @@ impl<G: Partwise> TokenRewriter for PartwiseColumns<G> {
         self.command.heading()
     }
 
-    #[inline]
     fn rewrite(
         &mut self,
         _j: usize,
@@ -125,7 +124,6 @@ impl<G: Partwise> TokenRewriter for PartwiseColumns<G> {
         self.rewrite_any(token, making)
     }
 
-    #[inline(always)]
     fn hear(&mut self, _j: usize, _token: &[u8]) -> Result<(), AllocError> {
         Ok(())
     }

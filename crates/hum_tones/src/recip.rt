@@ -1,5 +1,5 @@
 //! The command recip: notes become their durations, as they are written.
-ghost use Rattle.hum_stage.specs.declared.faults.Command.TheVariants.{Recip as RecipCommand};
+ghost use Rattle.hum_words.specs.declared.commands.Command.TheVariants.{Recip as RecipCommand};
 
 use crate::part_rule::PartRule;
 use crate::partwise::{Partwise, PartwiseColumns};
@@ -42,7 +42,6 @@ impl Partwise for RecipName {
         Heading::Renamed(b"**recip".as_slice())
     }
 
-    #[inline(always)]
     fn giving(&self) -> PartRule {
         PartRule::Durations
     }

@@ -30,7 +30,6 @@ const SIZES: [u8; 206] = [
 ];
 
 /// Which of the numbers it is, counted from 0.
-#[inline(always)]
 fn place_of(semitones: i32) -> usize
     requires { IsWithin (negsuc 102) semitones (pos 102) }
     ensures exact { semitones ≡ pos result -ℤ pos 103 }
@@ -40,7 +39,6 @@ fn place_of(semitones: i32) -> usize
 }
 
 /// The text of a pitch's semitones.
-#[inline(always)]
 pub(crate) fn semitones_text(semitones: i32) -> &'static [u8]
     requires { IsWithin (negsuc 102) semitones (pos 102) }
     ensures { result.now ≡ signed_decimal semitones }

@@ -1,5 +1,5 @@
 //! The command semits: notes become their semitones.
-ghost use Rattle.hum_stage.specs.declared.faults.Command.TheVariants.{Semits as SemitsCommand};
+ghost use Rattle.hum_words.specs.declared.commands.Command.TheVariants.{Semits as SemitsCommand};
 
 use crate::part_rule::PartRule;
 use crate::partwise::{Partwise, PartwiseColumns};
@@ -44,7 +44,6 @@ impl Partwise for SemitsName {
         Heading::Renamed(b"**semits".as_slice())
     }
 
-    #[inline(always)]
     fn giving(&self) -> PartRule {
         PartRule::Semitones {
             ties_left_out: self.options.ties_left_out,

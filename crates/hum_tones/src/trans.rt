@@ -1,6 +1,6 @@
 //! The command trans: notes are transposed.
 ghost use Rattle.std.specs.Prelude.{◌≡◌};
-ghost use Rattle.hum_stage.specs.declared.faults.Command.TheVariants.{Trans as TransCommand};
+ghost use Rattle.hum_words.specs.declared.commands.Command.TheVariants.{Trans as TransCommand};
 ghost use Rattle.hum_tones.specs.Commands.{trans_sign};
 
 use crate::part_rule::PartRule;
@@ -64,7 +64,6 @@ impl Partwise for TransSign {
         Heading::Followed(self.text.as_str().as_bytes())
     }
 
-    #[inline(always)]
     fn giving(&self) -> PartRule {
         PartRule::Transposed(self.transposition)
     }

@@ -1,7 +1,7 @@
 //! Tokens whose pitches are some steps and some semitones away.
 ghost use Rattle.std.specs.Prelude.{◌≡◌, [], IfOk, Ok, None, true, false};
-ghost use Rattle.hum_record.specs.declared.SpinedKind.TheVariants.{Values};
-ghost use Rattle.hum_record.specs.Spelling.{IsToken};
+ghost use Rattle.hum_score.specs.declared.records.SpinedKind.TheVariants.{Values};
+ghost use Rattle.hum_score.specs.Spelling.{IsToken};
 ghost use Rattle.hum_record.specs.RecordDraft.{Holds};
 ghost use Rattle.hum_pitch.specs.Pitch.{away};
 ghost use Rattle.hum_pitch.specs.Given.{spelled, Answers};
@@ -24,7 +24,6 @@ use hum_stage::{Refusal, Rule};
 use std::alloc::AllocError;
 
 /// The pitch so far away, where it can be spelled.
-#[inline(always)]
 fn there(options: TransOptions, pitch: Pitch) -> Result<Pitch, PitchFault>
     ensures { Answers (away options.steps options.semitones (spelled pitch)) result }
 {

@@ -5,7 +5,7 @@ use Rattle.std.proofs.Common.{if◌then◌else◌, nat_lt, List, [], ◌∷◌, 
 use Rattle.std.proofs.Common.{Some, None, refl, sym, ap, ◌∙◌, subst, arith, ltb-true, ltb-false}
 use Rattle.std.proofs.lemmas.List.{take_all}
 use Rattle.std.specs.List.{AllByRecursion}
-use Rattle.hum_stage.specs.declared.faults.Command.TheVariants.{Rid}
+use Rattle.hum_words.specs.declared.commands.Command.TheVariants.{Rid}
 use Rattle.hum_stage.specs.declared.faults.Rule.TheVariants.{L2}
 use Rattle.hum_stage.specs.declared.faults.Fault.{Fault}
 use Rattle.hum_stage.specs.declared.faults.End.{End}

@@ -11,14 +11,14 @@ use Rattle.hum_text.specs.Reading.{Stands}
 use Rattle.hum_text.proofs.PieceLemmas.{NoLf}
 use Rattle.hum_text.proofs.LimitLemmas.{line-lawful}
 use Rattle.hum_text.proofs.TextLemmas.{step-line, step-end, stands-new}
-use Rattle.hum_record.specs.declared.SpinedKind.{SpinedKind}
-use Rattle.hum_record.specs.Row.{Row, Comment, Spined, text_of}
-use Rattle.hum_record.specs.Spelling.{has_byte, is_comment, IsToken}
+use Rattle.hum_score.specs.declared.records.SpinedKind.{SpinedKind}
+use Rattle.hum_score.specs.Row.{Row, Comment, Spined, text_of}
+use Rattle.hum_score.specs.Spelling.{has_byte, is_comment, IsToken}
 use Rattle.hum_record.proofs.Laws.{only}
-use Rattle.hum_path.specs.Spines.{Path, Unopened, after}
-use Rattle.hum_path.specs.Rules.{is_unfinished}
+use Rattle.hum_score.specs.Spines.{Path, Unopened, after}
+use Rattle.hum_score.specs.Rules.{is_unfinished}
 use Rattle.hum_stage.specs.declared.faults.Rule.TheVariants.{P8}
-use Rattle.hum_stage.specs.Score.{through, Follow}
+use Rattle.hum_score.specs.InOrder.{through, Follow}
 use Rattle.hum_turns.specs.Text.{text}
 use Rattle.hum_read.specs.Denoted.{Score, score_of, standard, denoted, up_to, broken_at, closed}
 use Rattle.hum_valid.specs.Records.{IsRecord, AreRecords}

@@ -6,13 +6,13 @@ use Rattle.std.specs.List.{AllByRecursion, list_any, join_with_byte}
 use Rattle.std.proofs.lemmas.Bool.{and_parts}
 use Rattle.std.proofs.lemmas.Bool.Decides.{nat_tests}
 use lib.Chars.{codes}
-use Rattle.hum_record.specs.declared.SpinedKind.{SpinedKind}
-use Rattle.hum_record.specs.declared.SpinedKind.TheVariants.{Local, Interpretation, Values}
-use Rattle.hum_record.specs.Row.{Row, Comment, Spined}
-use Rattle.hum_record.specs.Spelling.{IsToken, kind_of_token}
+use Rattle.hum_score.specs.declared.records.SpinedKind.{SpinedKind}
+use Rattle.hum_score.specs.declared.records.SpinedKind.TheVariants.{Local, Interpretation, Values}
+use Rattle.hum_score.specs.Row.{Row, Comment, Spined}
+use Rattle.hum_score.specs.Spelling.{IsToken, kind_of_token}
 use Rattle.hum_record.specs.Contents.{is_null}
-use Rattle.hum_path.specs.Spines.{Path}
-use Rattle.hum_path.specs.Score.{path_after}
+use Rattle.hum_score.specs.Spines.{Path}
+use Rattle.hum_score.specs.Score.{path_after}
 use Rattle.hum_path.specs.Chains.{future}
 use Rattle.hum_context.specs.Context.{Extent, First, Between, Choice, is_data, is_collectable, is_last, to_last, chain}
 use Rattle.hum_context.specs.Context.{through, taken, begins, token_or_null, new_token, new_tokens, all_some, push_front}

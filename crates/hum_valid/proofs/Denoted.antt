@@ -3,13 +3,13 @@ use Rattle.std.proofs.Common.{◌≡◌, refl, subst, ℕ, ◌+◌, Bool, true, 
 use Rattle.std.specs.List.{AllByRecursion}
 use Rattle.hum_text.specs.declared.TextFault.{TextFault}
 use Rattle.hum_text.specs.Text.{lines, fault_of}
-use Rattle.hum_record.specs.declared.RecordFault.{RecordFault}
-use Rattle.hum_record.specs.Row.{Row, Comment, Spined}
-use Rattle.hum_record.specs.Spelling.{reading, IsTextOf}
+use Rattle.hum_score.specs.declared.records.RecordFault.{RecordFault}
+use Rattle.hum_score.specs.Row.{Row, Comment, Spined}
+use Rattle.hum_score.specs.Spelling.{reading, IsTextOf}
 use Rattle.hum_record.proofs.Laws.{found}
-use Rattle.hum_path.specs.declared.PathFault.{PathFault}
-use Rattle.hum_path.specs.Spines.{Path, Unopened, after}
-use Rattle.hum_path.specs.Rules.{is_unfinished, fault_of as path_fault_of}
+use Rattle.hum_score.specs.declared.spines.PathFault.{PathFault}
+use Rattle.hum_score.specs.Spines.{Path, Unopened, after}
+use Rattle.hum_score.specs.Rules.{is_unfinished, fault_of as path_fault_of}
 use Rattle.hum_stage.specs.declared.faults.Rule.TheVariants as rule
 use Rattle.hum_read.specs.Denoted.{on_spines, unless, onward, broken_at, closed, ending, denoted, up_to, standard, score_of}
 use Rattle.hum_valid.specs.Records.{IsRecord, AreRecords}

@@ -13,7 +13,7 @@ use Rattle.hum_text.specs.Text.{lines, fault_of, without_cr, ends_in_cr, rule_in
 use Rattle.hum_text.specs.Reading.{Stands}
 use Rattle.hum_text.proofs.PieceLemmas.{NoLf}
 use Rattle.hum_text.proofs.TextLemmas.{step-line, step-fault, step-last, step-end-fault, step-end, stands-new}
-use Rattle.hum_record.specs.Spelling.{has_byte}
+use Rattle.hum_score.specs.Spelling.{has_byte}
 use Rattle.hum_read.specs.Denoted.{standard, up_to}
 
 -- a line that may be a record's text

@@ -4,11 +4,11 @@ use Rattle.std.specs.Prelude.{Result, Ok}
 use Rattle.std.specs.List.{AllByRecursion}
 use lib.Chars.{codes}
 use Rattle.hum_stage.specs.declared.faults.Rule.{Rule}
-use Rattle.hum_record.specs.declared.SpinedKind.TheVariants.{Interpretation, Values}
-use Rattle.hum_record.specs.declared.SpinedKind.{SpinedKind}
-use Rattle.hum_record.specs.Row.{Row, Spined}
+use Rattle.hum_score.specs.declared.records.SpinedKind.TheVariants.{Interpretation, Values}
+use Rattle.hum_score.specs.declared.records.SpinedKind.{SpinedKind}
+use Rattle.hum_score.specs.Row.{Row, Spined}
 use Rattle.hum_record.specs.Building.{spelled}
-use Rattle.hum_record.specs.Spelling.{IsToken}
+use Rattle.hum_score.specs.Spelling.{IsToken}
 use Rattle.hum_valid.specs.Records.{IsRecord, AreRecords}
 
 pub both : (xs ys : List Row) → AreRecords xs → AreRecords ys → AreRecords (xs ++ ys)

@@ -1,8 +1,8 @@
 -- rid and yank drop records, and change none.
 use Rattle.std.proofs.Common.{◌≡◌, subst, ℕ, Bool, true, false, cond, List, [], ◌∷◌}
 use Rattle.std.specs.Prelude.{Option, None, Some, Result, Ok}
-use Rattle.hum_record.specs.declared.SpinedKind.TheVariants.{Local, Interpretation, Values}
-use Rattle.hum_record.specs.Row.{Row, Comment, Spined}
+use Rattle.hum_score.specs.declared.records.SpinedKind.TheVariants.{Local, Interpretation, Values}
+use Rattle.hum_score.specs.Row.{Row, Comment, Spined}
 use Rattle.hum_stage.specs.declared.faults.Rule.{Rule}
 use Rattle.hum_choices.specs.declared.rid.RidOptions.{RidOptions}
 use Rattle.hum_rid.specs.Rid.{drops, rid}

@@ -7,14 +7,14 @@ use Rattle.std.proofs.lemmas.List.{length-map}
 use Rattle.std.proofs.lemmas.Bool.{and_parts, or_parts}
 use Rattle.std.proofs.lemmas.Bool.Decides.{eqb_tells, nat_tests}
 use lib.Chars.{codes}
-use Rattle.hum_record.specs.declared.SpinedKind.{SpinedKind}
-use Rattle.hum_record.specs.declared.SpinedKind.TheVariants.{Local, Interpretation, Values}
-use Rattle.hum_record.specs.Row.{Row, Comment, Spined, chosen}
+use Rattle.hum_score.specs.declared.records.SpinedKind.{SpinedKind}
+use Rattle.hum_score.specs.declared.records.SpinedKind.TheVariants.{Local, Interpretation, Values}
+use Rattle.hum_score.specs.Row.{Row, Comment, Spined, chosen}
 use Rattle.hum_record.specs.Building.{spelled}
-use Rattle.hum_record.specs.Spelling.{IsToken, has_byte, is_comment, kind_of_token}
-use Rattle.hum_path.specs.Sign.{sign_of, is_exclusive}
-use Rattle.hum_path.specs.Spines.{Path, Unopened, Spines}
-use Rattle.hum_path.specs.Score.{path_after}
+use Rattle.hum_score.specs.Spelling.{IsToken, has_byte, is_comment, kind_of_token}
+use Rattle.hum_score.specs.Sign.{sign_of, is_exclusive}
+use Rattle.hum_score.specs.Spines.{Path, Unopened, Spines}
+use Rattle.hum_score.specs.Score.{path_after}
 use Rattle.hum_path.proofs.Widths.{text_width}
 use Rattle.hum_stage.specs.declared.faults.Rule.{Rule}
 use Rattle.hum_stage.specs.declared.faults.Rule.TheVariants.{X1, X2, X3, C1, C2, L1}

@@ -1,11 +1,11 @@
 -- Commands whose decisions are lawful records keep to lawful records.
 use Rattle.std.proofs.Common.{◌≡◌, refl, subst, ℕ, List, [], ◌∷◌, length, take}
 use Rattle.std.specs.Prelude.{nat_le, cond, Bool, true, false, Option, None, Some, Result, Ok, Err}
-use Rattle.hum_record.specs.Row.{Row}
-use Rattle.hum_path.specs.Score.{IsOpen, path_after}
+use Rattle.hum_score.specs.Row.{Row}
+use Rattle.hum_score.specs.Score.{IsOpen, path_after}
 use Rattle.hum_stage.specs.declared.faults.Rule.{Rule}
 use Rattle.hum_stage.specs.declared.faults.Rule.TheVariants.{H1}
-use Rattle.hum_stage.specs.Score.{Follow}
+use Rattle.hum_score.specs.InOrder.{Follow}
 use Rattle.hum_stage.specs.Outcome.{Undecided, Refused, settled}
 use Rattle.hum_stage.specs.Decided.{Decision, outcome, decisions, limit}
 use Rattle.hum_stage.specs.Look.{Look, outcome_of, outcomes_from}

@@ -3,8 +3,8 @@ use Rattle.std.proofs.Common.{◌≡◌, ◌∙◌, sym, ap, subst, ℕ, zero, s
 use Rattle.std.specs.List.{AllByRecursion}
 use Rattle.std.proofs.lemmas.Bool.Decides.{nat_tests}
 use Rattle.std.proofs.lemmas.List.{length-map}
-use Rattle.hum_record.specs.Row.{Row}
-use Rattle.hum_stage.specs.Score.{IsScore}
+use Rattle.hum_score.specs.Row.{Row}
+use Rattle.hum_score.specs.InOrder.{IsScore}
 use Rattle.hum_assemble.specs.Meaning.{AreScores}
 use Rattle.hum_turns.specs.Flow.{Flow, IsOver, AllFine}
 use Rattle.hum_turns.specs.Plan.{Plan, IsPlan, whole}

@@ -1,9 +1,9 @@
 -- Lawful records, and stages that make none but these.
 use Rattle.std.specs.Prelude.{List}
 use Rattle.std.specs.List.{AllByRecursion}
-use Rattle.hum_record.specs.Row.{Row, text_of}
-use Rattle.hum_record.specs.Spelling.{IsTextOf}
-use Rattle.hum_stage.specs.Score.{IsScore}
+use Rattle.hum_score.specs.Row.{Row, text_of}
+use Rattle.hum_score.specs.Spelling.{IsTextOf}
+use Rattle.hum_score.specs.InOrder.{IsScore}
 use Rattle.hum_stage.specs.Outcome.{Outcome, settled}
 use Rattle.hum_assemble.specs.Change.{Input}
 use Rattle.hum_assemble.specs.Meaning.{output, AreScores}

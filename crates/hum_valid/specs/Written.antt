@@ -1,11 +1,11 @@
 -- The text of a score, and what it is read as.
 use Rattle.std.specs.Prelude.{◌≡◌, ℕ, ◌+◌, ◌≤◌, List, length, Option, None, Some, if◌then◌else◌}
-use Rattle.hum_record.specs.Row.{Row, text_of}
-use Rattle.hum_path.specs.Spines.{Unopened}
-use Rattle.hum_path.specs.Rules.{is_unfinished}
+use Rattle.hum_score.specs.Row.{Row, text_of}
+use Rattle.hum_score.specs.Spines.{Unopened}
+use Rattle.hum_score.specs.Rules.{is_unfinished}
 use Rattle.hum_stage.specs.declared.faults.Rule.{Rule}
 use Rattle.hum_stage.specs.declared.faults.Rule.TheVariants.{P8}
-use Rattle.hum_stage.specs.Score.{through, IsScore}
+use Rattle.hum_score.specs.InOrder.{through, IsScore}
 use Rattle.hum_turns.specs.Text.{text}
 use Rattle.hum_read.specs.Denoted.{score_of, standard}
 use Rattle.hum_valid.specs.Records.{AreRecords}

@@ -1,6 +1,6 @@
 //! What is read and what is written of a score, as contracts.
 ghost use Rattle.std.specs.Prelude.{ℕ, List};
-ghost use Rattle.hum_record.specs.Row.{Row};
+ghost use Rattle.hum_score.specs.Row.{Row};
 ghost use Rattle.hum_read.specs.Denoted.{score_of};
 ghost use Rattle.hum_valid.specs.Records.{AreRecords};
 ghost use Rattle.hum_valid.specs.Written.{ReadsAgain};

@@ -1,3 +1,4 @@
+pub mod Commands
 pub mod Characters
 pub mod Text
 pub mod Branches

@@ -1,4 +1,4 @@
-//! The lines and words of a plan, and the parts of a bundle.
+//! The lines and words of a plan, the commands that some words are, and the parts of a bundle.
 //!
 //! A plan is at most 65,536 bytes of UTF-8. Its lines end at LF, and one CR at a line's end is
 //! dropped. Lines of blanks alone, and lines with `#` behind their blanks, are skipped; blanks are
@@ -13,6 +13,7 @@
 mod branches;
 mod bundle;
 mod characters;
+mod commands;
 mod cutting;
 pub mod laws;
 mod naming;
@@ -20,6 +21,7 @@ mod text;
 
 pub use branches::{Line, Lines, line_count};
 pub use bundle::{LARGEST_BUNDLE, is_too_large, plan_part, score};
+pub use commands::Command;
 pub use cutting::{Piece, WordFault, pieces};
 pub use naming::name_of;
 pub use text::{LONGEST_PLAN, PlanTextFault, plan_text};

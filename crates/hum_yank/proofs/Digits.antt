@@ -5,8 +5,8 @@ use Rattle.std.proofs.lemmas.Bool.Decides.{nat_tests}
 use Rattle.std.specs.Prelude.{nat_le, slice_index_or}
 use Rattle.std.specs.List.{list_any, take_while, prefix_len}
 use Rattle.hum_record.specs.Contents.{is_null}
-use Rattle.hum_record.specs.declared.SpinedKind.TheVariants.{Local, Interpretation, Values}
-use Rattle.hum_record.specs.Row.{Row, Comment, Spined}
+use Rattle.hum_score.specs.declared.records.SpinedKind.TheVariants.{Local, Interpretation, Values}
+use Rattle.hum_score.specs.Row.{Row, Comment, Spined}
 use Rattle.std.proofs.lemmas.Bool.{or_from}
 use Rattle.hum_yank.specs.Passages.{value_of, at_most, has_value, passes, is_digit}
 

@@ -1,10 +1,10 @@
 -- The state goes on with one record more.
 use Rattle.std.proofs.Common.{◌≡◌, ◌∙◌, refl, sym, ap, ℕ, ◌<◌, Bool, true, false, not, List, []}
 use Rattle.std.proofs.Common.{◌∷◌, ◌++◌, length, cond, arith}
-use Rattle.hum_record.specs.Row.{Row}
-use Rattle.hum_path.specs.Spines.{Path, after}
-use Rattle.hum_path.specs.Rules.{is_unfinished, is_closed}
-use Rattle.hum_path.specs.Score.{path_after, passed}
+use Rattle.hum_score.specs.Row.{Row}
+use Rattle.hum_score.specs.Spines.{Path, after}
+use Rattle.hum_score.specs.Rules.{is_unfinished, is_closed}
+use Rattle.hum_score.specs.Score.{path_after, passed}
 use Rattle.hum_stage.specs.Look.{Look}
 use Rattle.hum_stage.specs.Order.{passed-push}
 use Rattle.hum_choices.specs.declared.yank.YankOptions.{YankOptions}

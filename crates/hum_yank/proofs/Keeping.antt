@@ -5,14 +5,14 @@ use Rattle.std.specs.Prelude.{nat_le, Result, Ok, Err}
 use Rattle.std.proofs.lemmas.Bool.{cases_Bool}
 use Rattle.std.proofs.lemmas.Bool.Decides.{nat_tests}
 use Rattle.std.proofs.lemmas.List.{take_all}
-use Rattle.hum_record.specs.declared.SpinedKind.TheVariants.{Local, Interpretation, Values}
-use Rattle.hum_record.specs.Row.{Row, Comment, Spined}
-use Rattle.hum_path.specs.Spines.{Path, after}
-use Rattle.hum_path.specs.Rules.{is_unfinished, is_closed}
-use Rattle.hum_path.specs.Score.{path_after, passed}
+use Rattle.hum_score.specs.declared.records.SpinedKind.TheVariants.{Local, Interpretation, Values}
+use Rattle.hum_score.specs.Row.{Row, Comment, Spined}
+use Rattle.hum_score.specs.Spines.{Path, after}
+use Rattle.hum_score.specs.Rules.{is_unfinished, is_closed}
+use Rattle.hum_score.specs.Score.{path_after, passed}
 use Rattle.hum_stage.specs.declared.faults.Rule.{Rule}
 use Rattle.hum_stage.specs.declared.faults.Rule.TheVariants.{H1}
-use Rattle.hum_stage.specs.Score.{through, Follow}
+use Rattle.hum_score.specs.InOrder.{through, Follow}
 use Rattle.hum_stage.specs.Outcome.{Outcome, Becomes, Refused, Undecided, settled, refusal}
 use Rattle.hum_stage.specs.Look.{outcome_of, outcome_at, outcomes_from}
 use Rattle.hum_stage.specs.Meaning.{KeepsScore}

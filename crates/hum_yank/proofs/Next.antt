@@ -3,8 +3,8 @@ use Rattle.std.proofs.Common.{◌≡◌, ◌∙◌, refl, sym, ap, ℕ, suc, add
 use Rattle.std.proofs.Common.{◌||◌, List, [], ◌∷◌, length, filter, cond, arith, Option, None, Some}
 use Rattle.std.specs.Prelude.{is_some}
 use Rattle.std.specs.List.{list_any, find}
-use Rattle.hum_record.specs.declared.SpinedKind.TheVariants.{Local, Interpretation, Values}
-use Rattle.hum_record.specs.Row.{Row, Comment, Spined}
+use Rattle.hum_score.specs.declared.records.SpinedKind.TheVariants.{Local, Interpretation, Values}
+use Rattle.hum_score.specs.Row.{Row, Comment, Spined}
 use Rattle.hum_yank.specs.declared.marking.Mark.{Mark}
 use Rattle.hum_yank.specs.declared.marking.Mark.TheVariants.{Inside, Counted, Bears}
 use Rattle.hum_yank.specs.Passages.{Form, Lines, Numbers, Occurrences, Labels, passes, has_value}

@@ -6,12 +6,12 @@ use Rattle.std.specs.Prelude.{nat_le, Result, Ok, ◌==◌}
 use Rattle.std.specs.List.{list_any, list_all}
 use Rattle.std.proofs.lemmas.Bool.{cases_Bool}
 use Rattle.std.proofs.lemmas.Bool.Decides.{nat_tests}
-use Rattle.hum_record.specs.declared.SpinedKind.{SpinedKind}
-use Rattle.hum_record.specs.declared.SpinedKind.TheVariants.{Local, Interpretation, Values}
-use Rattle.hum_record.specs.Row.{Row, Comment, Spined}
-use Rattle.hum_path.specs.Spines.{Path, Unopened, Spines, after}
-use Rattle.hum_path.specs.Rules.{fault_of, is_closed, is_unfinished}
-use Rattle.hum_path.specs.Score.{IsOpen, path_after, passed}
+use Rattle.hum_score.specs.declared.records.SpinedKind.{SpinedKind}
+use Rattle.hum_score.specs.declared.records.SpinedKind.TheVariants.{Local, Interpretation, Values}
+use Rattle.hum_score.specs.Row.{Row, Comment, Spined}
+use Rattle.hum_score.specs.Spines.{Path, Unopened, Spines, after}
+use Rattle.hum_score.specs.Rules.{fault_of, is_closed, is_unfinished}
+use Rattle.hum_score.specs.Score.{IsOpen, path_after, passed}
 use Rattle.hum_stage.specs.declared.faults.Rule.{Rule}
 use Rattle.hum_stage.specs.Order.{passed-push}
 use Rattle.hum_stage.specs.Look.{IsSteady}

@@ -1,7 +1,7 @@
 -- What a record begins, and what is remembered of passages.
 use Rattle.std.specs.Prelude.{ℕ, ◌+◌, max, Bool, ◌||◌, List, if◌then◌else◌}
 use Rattle.std.specs.Prelude.{Option, Some, None, unwrap_or}
-use Rattle.hum_record.specs.Row.{Row}
+use Rattle.hum_score.specs.Row.{Row}
 use Rattle.hum_yank.specs.declared.marking.Mark.{Mark}
 use Rattle.hum_yank.specs.declared.marking.Mark.TheVariants.{Inside, Counted, Bears}
 use Rattle.hum_yank.specs.Passages.{Form, Lines, Numbers, Occurrences, Labels, number_after}

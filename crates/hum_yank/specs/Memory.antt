@@ -4,11 +4,11 @@ use Rattle.std.specs.Prelude.{Option, Some, None, Result, Ok}
 use Rattle.std.proofs.Common.{refl, ap, suc, length}
 use Rattle.std.specs.Option.{option_to_list}
 use Rattle.std.specs.List.{list_any}
-use Rattle.hum_record.specs.declared.SpinedKind.TheVariants.{Local, Interpretation, Values}
-use Rattle.hum_record.specs.Row.{Row, Comment, Spined}
-use Rattle.hum_path.specs.Spines.{Path}
-use Rattle.hum_path.specs.Rules.{is_closed}
-use Rattle.hum_path.specs.Score.{path_after, passed}
+use Rattle.hum_score.specs.declared.records.SpinedKind.TheVariants.{Local, Interpretation, Values}
+use Rattle.hum_score.specs.Row.{Row, Comment, Spined}
+use Rattle.hum_score.specs.Spines.{Path}
+use Rattle.hum_score.specs.Rules.{is_closed}
+use Rattle.hum_score.specs.Score.{path_after, passed}
 use Rattle.hum_stage.specs.declared.faults.Rule.{Rule}
 use Rattle.hum_stage.specs.Look.{Look}
 use Rattle.hum_choices.specs.declared.yank.YankOptions.{YankOptions}

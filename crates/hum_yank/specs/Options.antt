@@ -2,7 +2,7 @@
 use Rattle.std.specs.Prelude.{ℕ}
 use Rattle.hum_pattern.specs.Meaning.{matched, first_end}
 pub use Rattle.hum_pattern.specs.Meaning.{matched_by}
-use Rattle.hum_stage.specs.declared.faults.Command.TheVariants.{Yank}
+use Rattle.hum_words.specs.declared.commands.Command.TheVariants.{Yank}
 use Rattle.hum_stage.specs.Meaning.{Meaning}
 use Rattle.hum_stage.specs.Look.{looking}
 use Rattle.hum_choices.specs.declared.yank.Markers.{Markers}

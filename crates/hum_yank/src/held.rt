@@ -30,7 +30,6 @@ impl Drop for Held {
 
 impl Held {
     /// What is kept of a record that is dropped: it is gone, to be made use of.
-    #[inline(never)]
     fn dropped(row: Record, gone: &mut Option<Record>) -> Held
         ensures { result ≡ Goes }
     {

@@ -1,7 +1,8 @@
 //! Which records begin and end passages.
 ghost use Rattle.std.specs.Prelude.{◌≡◌, ◌≢◌, true, false, if◌then◌else◌, [], drop, Some, None};
 ghost use Rattle.std.specs.List.{list_any, find, take_while};
-ghost use Rattle.hum_record.specs.{Row.tokens_of, Contents.is_null};
+ghost use Rattle.hum_score.specs.{Row.tokens_of};
+ghost use Rattle.hum_record.specs.{Contents.is_null};
 ghost use Rattle.hum_pattern.specs.Meaning.{matched, matched_by, first_end};
 ghost use Rattle.hum_yank.specs.Passages.{passes, has_value, first_value, is_label, label_of};
 ghost use Rattle.hum_yank.specs.Passages.{has_match, number_of, value_of, at_most, is_digit};

@@ -36,7 +36,6 @@ fn last_after(passages: &Passages, markers: &Markers, row: &Record, closed: bool
 }
 
 /// Gives the pool what is left of a record.
-#[inline(never)]
 fn hand_over(gone: &mut Option<Record>, pool: &mut Spare) {
     if let Some(row) = gone.take() {
         pool.keep(row);
@@ -48,7 +47,7 @@ impl LooksAhead for PassageMemory {
 
     type Held = Held;
 
-    ghost use Rattle.hum_stage.specs.declared.faults.Command.TheVariants.{Yank};
+    ghost use Rattle.hum_words.specs.declared.commands.Command.TheVariants.{Yank};
     ghost use Rattle.hum_yank.specs.{Yank.yank, Options.choice_of, Memory.Follows};
     ghost use Rattle.hum_yank.specs.{Memory.tell_each};
 
@@ -106,7 +105,6 @@ impl LooksAhead for PassageMemory {
         }
     }
 
-    #[inline(always)]
     fn give_back(&mut self, pool: &mut Spare) {
         if self.gone.is_some() {
             hand_over(&mut self.gone, pool);

@@ -1,7 +1,7 @@
 use Rattle.std.proofs.Common.{◌≡◌, ◌∙◌, ◌<◌, ◌≤◌, sym, ap, length, get_or, [], true, false, arith}
 use Rattle.std.proofs.lemmas.List.Folds.{list_any_at}
-use Rattle.hum_record.specs.Spelling.{is_empty}
-use Rattle.hum_path.specs.Spines.{exclusives}
+use Rattle.hum_score.specs.Spelling.{is_empty}
+use Rattle.hum_score.specs.Spines.{exclusives}
 use Rattle.hum_assemble.proofs.Firsts.{passed, all_passed}
 use Rattle.hum_assemble.proofs.placing.is_inside.Goals as goal
 

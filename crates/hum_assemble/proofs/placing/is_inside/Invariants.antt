@@ -1,7 +1,7 @@
 use Rattle.std.proofs.Common.{◌≡◌, drop}
 use Rattle.std.specs.List.{list_any}
-use Rattle.hum_record.specs.Spelling.{is_empty}
-use Rattle.hum_path.specs.Spines.{exclusives}
+use Rattle.hum_score.specs.Spelling.{is_empty}
+use Rattle.hum_score.specs.Spines.{exclusives}
 use Rattle.hum_assemble.proofs.placing.is_inside.Given as goal
 
 abbrev pub invariant-loop-j : goal.invariant-loop-j

@@ -1,6 +1,6 @@
 use Rattle.std.proofs.Common.{◌≡◌, ◌≤◌, ◌+◌, ◌*◌, map, length, false}
-use Rattle.hum_record.specs.Row.{tokens_of}
-use Rattle.hum_path.specs.Sign.{sign_of}
+use Rattle.hum_score.specs.Row.{tokens_of}
+use Rattle.hum_score.specs.Sign.{sign_of}
 use Rattle.hum_assemble.specs.Sizes.{width_under}
 use Rattle.hum_assemble.proofs.placing.width_under.Given as goal
 

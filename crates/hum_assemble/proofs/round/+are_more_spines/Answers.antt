@@ -1,5 +1,5 @@
 use Rattle.std.proofs.Common.{◌≡◌, ◌∙◌}
-use Rattle.hum_path.specs.Spines.{width}
+use Rattle.hum_score.specs.Spines.{width}
 use Rattle.hum_assemble.specs.Merge.{moved}
 use Rattle.hum_assemble.proofs.Firsts.{more_spines, spines_behind, width_taken, width_left}
 use Rattle.hum_assemble.proofs.round.+are_more_spines.Goals as goal

@@ -1,5 +1,5 @@
 use Rattle.std.proofs.Common.{◌<◌, length, arith}
-use Rattle.hum_record.specs.Row.{tokens_of}
+use Rattle.hum_score.specs.Row.{tokens_of}
 use Rattle.hum_assemble.proofs.Pushing.{first_added, next_added, all_added, token_lawful}
 use Rattle.hum_assemble.proofs.Room.{token_fits}
 use Rattle.hum_assemble.proofs.source_head.push_tokens.Goals as goal

@@ -1,5 +1,5 @@
 use Rattle.std.proofs.Common.{◌≡◌, ◌++◌, take}
-use Rattle.hum_record.specs.Row.{tokens_of}
+use Rattle.hum_score.specs.Row.{tokens_of}
 use Rattle.hum_assemble.proofs.source_head.push_tokens.Given as goal
 
 abbrev pub invariant-loop-j : goal.invariant-loop-j

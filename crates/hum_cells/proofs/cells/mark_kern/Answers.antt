@@ -1,6 +1,6 @@
 use Rattle.std.proofs.Common.{[], sym, arith, take_all}
 use Rattle.std.proofs.lemmas.List.{map_more}
-use Rattle.hum_path.specs.Spines.{exclusives}
+use Rattle.hum_score.specs.Spines.{exclusives}
 use Rattle.hum_cells.specs.Rewriting.{is_kern}
 use Rattle.hum_cells.proofs.cells.mark_kern.Goals as goal
 

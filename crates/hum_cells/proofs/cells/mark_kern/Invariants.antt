@@ -1,5 +1,5 @@
 use Rattle.std.proofs.Common.{◌≡◌, take, map}
-use Rattle.hum_path.specs.Spines.{exclusives}
+use Rattle.hum_score.specs.Spines.{exclusives}
 use Rattle.hum_cells.specs.Rewriting.{is_kern}
 use Rattle.hum_cells.proofs.cells.mark_kern.Given as goal
 

@@ -1,6 +1,6 @@
 use Rattle.std.proofs.Common.{◌∙◌, [], arith, take_all}
 use Rattle.std.proofs.lemmas.List.{map_more}
-use Rattle.hum_record.specs.Row.{tokens_of}
+use Rattle.hum_score.specs.Row.{tokens_of}
 use Rattle.hum_cells.specs.Rewriting.{headed}
 use Rattle.hum_cells.specs.Rewriter.{shown}
 use Rattle.hum_cells.proofs.Headings.{headed_lawful, token_of_sign}

@@ -1,6 +1,6 @@
 use Rattle.std.proofs.Common.{◌≡◌, map, take}
-use Rattle.hum_record.specs.declared.SpinedKind.TheVariants.{Interpretation}
-use Rattle.hum_record.specs.Row.{tokens_of}
+use Rattle.hum_score.specs.declared.records.SpinedKind.TheVariants.{Interpretation}
+use Rattle.hum_score.specs.Row.{tokens_of}
 use Rattle.hum_cells.specs.Rewriting.{headed}
 use Rattle.hum_cells.specs.Rewriter.{shown}
 use Rattle.hum_record.specs.RecordDraft.{Holds}

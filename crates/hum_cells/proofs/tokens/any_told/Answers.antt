@@ -1,5 +1,5 @@
 use Rattle.std.proofs.Common.{◌∙◌, sym, arith}
-use Rattle.hum_record.specs.Row.{tokens_of}
+use Rattle.hum_score.specs.Row.{tokens_of}
 use Rattle.hum_cells.proofs.Telling.{none_told}
 use Rattle.hum_cells.proofs.tokens.any_told.Goals as goal
 

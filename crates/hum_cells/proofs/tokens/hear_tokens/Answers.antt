@@ -1,5 +1,5 @@
 use Rattle.std.proofs.Common.{subst, take, arith}
-use Rattle.hum_record.specs.Row.{tokens_of}
+use Rattle.hum_score.specs.Row.{tokens_of}
 use Rattle.hum_path.specs.Chains.{columns, longer}
 use Rattle.hum_cells.specs.Rewriter.{Columns}
 use Rattle.hum_cells.proofs.Telling.{as_wide, token_of_data, longer_length, longer_more, all_longer}

@@ -1,6 +1,6 @@
 use Rattle.std.proofs.Common.{List, ◌∷◌, take}
-use Rattle.hum_record.specs.Row.{Row, tokens_of}
-use Rattle.hum_path.specs.Score.{IsOpen}
+use Rattle.hum_score.specs.Row.{Row, tokens_of}
+use Rattle.hum_score.specs.Score.{IsOpen}
 use Rattle.hum_path.specs.Chains.{columns, longer}
 use Rattle.hum_cells.specs.Rewriting.{Rewriting}
 use Rattle.hum_cells.proofs.tokens.hear_tokens.Given as goal

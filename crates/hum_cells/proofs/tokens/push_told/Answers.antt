@@ -1,5 +1,5 @@
 use Rattle.std.proofs.Common.{◌∙◌, sym, get_or, []}
-use Rattle.hum_record.specs.declared.SpinedKind.TheVariants.{Values}
+use Rattle.hum_score.specs.declared.records.SpinedKind.TheVariants.{Values}
 use Rattle.hum_record.specs.RecordDraft.{Holds}
 use Rattle.hum_cells.proofs.Telling.{stays, pushed_on}
 use Rattle.hum_cells.proofs.tokens.push_told.Goals as goal

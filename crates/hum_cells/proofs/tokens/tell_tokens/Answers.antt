@@ -1,5 +1,5 @@
 use Rattle.std.proofs.Common.{◌≡◌, ◌∙◌, refl, subst, length, take, arith}
-use Rattle.hum_record.specs.Row.{tokens_of, width_of}
+use Rattle.hum_score.specs.Row.{tokens_of, width_of}
 use Rattle.hum_path.specs.Chains.{columns, longer}
 use Rattle.hum_stage.proofs.Telling.{answered_on, answered_as}
 use Rattle.hum_cells.specs.Rewriter.{Columns}

@@ -1,7 +1,7 @@
 use Rattle.std.proofs.Common.{◌≡◌, List, ◌∷◌, take}
-use Rattle.hum_record.specs.declared.SpinedKind.TheVariants.{Values}
-use Rattle.hum_record.specs.Row.{Row, tokens_of}
-use Rattle.hum_path.specs.Score.{IsOpen}
+use Rattle.hum_score.specs.declared.records.SpinedKind.TheVariants.{Values}
+use Rattle.hum_score.specs.Row.{Row, tokens_of}
+use Rattle.hum_score.specs.Score.{IsOpen}
 use Rattle.hum_path.specs.Chains.{columns, longer}
 use Rattle.hum_cells.specs.Rewriting.{Rewriting, kern_columns}
 use Rattle.hum_cells.proofs.Telling.{Done}

@@ -1,6 +1,6 @@
 use Rattle.std.proofs.Common.{◌≡◌, ◌∙◌, ◌∷◌, [], rules}
 use Rattle.std.proofs.lemmas.List.{map-append}
-use Rattle.hum_path.specs.Spines.{texts}
+use Rattle.hum_score.specs.Texts.{texts}
 use Rattle.hum_choices.proofs.Texts.{next_text}
 use Rattle.hum_choices.proofs.extract.copied_names.Goals as goal
 

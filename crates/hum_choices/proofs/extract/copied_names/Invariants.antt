@@ -1,5 +1,5 @@
 use Rattle.std.proofs.Common.{◌≡◌, ◌++◌, drop}
-use Rattle.hum_path.specs.Spines.{texts}
+use Rattle.hum_score.specs.Texts.{texts}
 use Rattle.hum_choices.proofs.extract.copied_names.Given as goal
 
 abbrev pub invariant-loop-name : goal.invariant-loop-name

@@ -1,5 +1,5 @@
-use Rattle.hum_record.specs.declared.SpinedKind.TheVariants.{Interpretation}
-use Rattle.hum_record.specs.Row.{tokens_of}
+use Rattle.hum_score.specs.declared.records.SpinedKind.TheVariants.{Interpretation}
+use Rattle.hum_score.specs.Row.{tokens_of}
 use Rattle.hum_cleave.specs.Columns.{together, opening_flags}
 use Rattle.hum_stage.proofs.Telling.{told_none, told_to}
 use Rattle.hum_cleave.proofs.Fitted.{name_token}

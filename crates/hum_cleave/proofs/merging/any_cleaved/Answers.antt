@@ -1,6 +1,6 @@
 use Rattle.std.proofs.Common.{◌≡◌, ◌∙◌, [], get_or, sym, ap}
-use Rattle.hum_record.specs.Row.{tokens_of}
-use Rattle.hum_path.specs.Sign.{sign_of}
+use Rattle.hum_score.specs.Row.{tokens_of}
+use Rattle.hum_score.specs.Sign.{sign_of}
 use Rattle.hum_cleave.proofs.Gathering.{any_skips, any_fails, any_holds, any_ended}
 use Rattle.hum_cleave.proofs.merging.any_cleaved.Goals as goal
 use Rattle.hum_cleave.proofs.merging.any_cleaved.Goals.{else-mark-via-then-mark+else-test, else-mark-via-else-mark}

@@ -1,8 +1,8 @@
 use Rattle.std.proofs.Common.{◌≡◌, drop, map, Bool}
 use Rattle.std.specs.List.{list_any}
-use Rattle.hum_record.specs.Row.{tokens_of, chosen}
-use Rattle.hum_path.specs.declared.signs.Sign.{Sign}
-use Rattle.hum_path.specs.Sign.{sign_of}
+use Rattle.hum_score.specs.Row.{tokens_of, chosen}
+use Rattle.hum_score.specs.declared.spines.Sign.{Sign}
+use Rattle.hum_score.specs.Sign.{sign_of}
 use Rattle.hum_cleave.proofs.merging.any_cleaved.Given as goal
 
 abbrev pub invariant-loop-j : goal.invariant-loop-j

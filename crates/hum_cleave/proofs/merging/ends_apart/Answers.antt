@@ -1,7 +1,7 @@
 use Rattle.std.proofs.Common.{rules, ◌≡◌, ◌∙◌, map, not, sym}
 use Rattle.std.specs.List.{list_any}
-use Rattle.hum_record.specs.Row.{tokens_of, chosen}
-use Rattle.hum_path.specs.Sign.{sign_of}
+use Rattle.hum_score.specs.Row.{tokens_of, chosen}
+use Rattle.hum_score.specs.Sign.{sign_of}
 use Rattle.hum_cleave.specs.Cleave.{is_end}
 use Rattle.hum_cleave.proofs.Signs.{some_fails}
 use Rattle.hum_cleave.proofs.merging.ends_apart.Goals as goal

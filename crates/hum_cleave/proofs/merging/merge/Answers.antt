@@ -1,5 +1,5 @@
 use Rattle.std.proofs.Common.{◌∙◌, sym, subst, ap, List, ℕ, false}
-use Rattle.hum_record.specs.Row.{tokens_of}
+use Rattle.hum_score.specs.Row.{tokens_of}
 use Rattle.hum_columns.specs.Spread.{JoinedToken, piece}
 use Rattle.hum_columns.specs.Writing.{Fit}
 use Rattle.hum_cleave.specs.Columns.{together}

@@ -1,5 +1,5 @@
 use Rattle.std.proofs.Common.{◌≡◌, ◌++◌, false, drop}
-use Rattle.hum_record.specs.Row.{tokens_of}
+use Rattle.hum_score.specs.Row.{tokens_of}
 use Rattle.hum_columns.specs.Spread.{piece}
 use Rattle.hum_cleave.specs.Columns.{together}
 use Rattle.hum_columns.specs.Chosen.{each_piece}

@@ -1,6 +1,6 @@
 use Rattle.std.proofs.Common.{◌∙◌, ap, sym, subst}
-use Rattle.hum_record.specs.declared.SpinedKind.TheVariants.{Local, Values}
-use Rattle.hum_record.specs.Row.{Row, tokens_of, chosen}
+use Rattle.hum_score.specs.declared.records.SpinedKind.TheVariants.{Local, Values}
+use Rattle.hum_score.specs.Row.{Row, tokens_of, chosen}
 use Rattle.hum_columns.specs.Following.{Answers}
 use Rattle.hum_cleave.specs.Cleave.{text_told}
 use Rattle.hum_cleave.specs.Columns.{together}

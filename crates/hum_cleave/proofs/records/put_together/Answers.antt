@@ -1,5 +1,5 @@
 use Rattle.std.proofs.Common.{◌∙◌}
-use Rattle.hum_record.specs.Row.{tokens_of}
+use Rattle.hum_score.specs.Row.{tokens_of}
 use Rattle.hum_cleave.proofs.Fitted.{some_tokens}
 use Rattle.hum_cleave.proofs.Placewise.{put_other, put_one, put_none, put_all, together_filled}
 use Rattle.hum_cleave.proofs.records.put_together.Goals as goal

@@ -1,5 +1,5 @@
 use Rattle.std.proofs.Common.{◌≡◌}
-use Rattle.hum_record.specs.Row.{tokens_of}
+use Rattle.hum_score.specs.Row.{tokens_of}
 use Rattle.hum_cleave.proofs.Placewise.{Put}
 use Rattle.hum_cleave.proofs.records.put_together.Given as goal
 

@@ -1,7 +1,7 @@
 use Rattle.std.proofs.Common.{◌≡◌, ◌≢◌, ◌∙◌, sym, ap, subst, [], get_or, ◌+◌, ◌∷◌, ◌++◌, take}
-use Rattle.hum_record.specs.declared.SpinedKind.TheVariants.{Values}
-use Rattle.hum_record.specs.Row.{tokens_of, chosen}
-use Rattle.hum_record.specs.Spelling.{IsToken}
+use Rattle.hum_score.specs.declared.records.SpinedKind.TheVariants.{Values}
+use Rattle.hum_score.specs.Row.{tokens_of, chosen}
+use Rattle.hum_score.specs.Spelling.{IsToken}
 use Rattle.hum_cleave.specs.Tokens.{is_left_out, data_of}
 use Rattle.hum_cleave.specs.Barlines.{Knows}
 use Rattle.hum_cleave.proofs.Gathering.{so_far, taken_from, passes, leaves_out, takes, adds, all_taken, none_taken, front_passes, front_takes}

@@ -1,5 +1,5 @@
 use Rattle.std.proofs.Common.{◌≡◌, take}
-use Rattle.hum_record.specs.Row.{tokens_of, chosen}
+use Rattle.hum_score.specs.Row.{tokens_of, chosen}
 use Rattle.hum_cleave.specs.Tokens.{data_of}
 use Rattle.hum_cleave.specs.Barlines.{Knows}
 use Rattle.hum_cleave.proofs.Gathering.{so_far, taken_from}

@@ -1,5 +1,5 @@
 use Rattle.std.proofs.Common.{◌≡◌, drop}
-use Rattle.hum_record.specs.Row.{tokens_of, chosen}
+use Rattle.hum_score.specs.Row.{tokens_of, chosen}
 use Rattle.hum_cleave.specs.Tokens.{comment_of}
 use Rattle.hum_cleave.proofs.tokens.leftmost_comment.Given as goal
 

@@ -1,6 +1,6 @@
 use Rattle.std.proofs.Common.{◌≡◌, ◌∙◌, [], get_or, sym, ap}
 use lib.Chars.{codes}
-use Rattle.hum_record.specs.Row.{tokens_of}
+use Rattle.hum_score.specs.Row.{tokens_of}
 use Rattle.hum_cleave.specs.Tokens.{is_silent}
 use Rattle.hum_cleave.proofs.Gathering.{left_skips, left_passes}
 use Rattle.hum_cleave.proofs.tokens.leftmost_interpretation.Goals as goal

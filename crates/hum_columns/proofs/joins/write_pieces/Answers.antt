@@ -1,5 +1,5 @@
 use Rattle.std.proofs.Common.{◌∙◌, refl, ap, sym, Ok}
-use Rattle.hum_record.specs.declared.SpinedKind.TheVariants.{Interpretation}
+use Rattle.hum_score.specs.declared.records.SpinedKind.TheVariants.{Interpretation}
 use Rattle.hum_stage.proofs.Moves.{over_room, fits_room}
 use Rattle.hum_stage.proofs.Telling.{told_as}
 use Rattle.hum_columns.specs.Spread.{spread, filled}

@@ -1,5 +1,5 @@
 use Rattle.std.proofs.Common.{◌≡◌, ◌∙◌, false, get_or}
-use Rattle.hum_path.specs.Spines.{source}
+use Rattle.hum_score.specs.Spines.{source}
 use Rattle.hum_path.proofs.Carry.{map_more}
 use Rattle.std.proofs.lemmas.Result.{err_from_is_err_and}
 use Rattle.hum_columns.proofs.marks.moved.Goals as goal

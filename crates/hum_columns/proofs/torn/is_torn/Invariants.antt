@@ -1,6 +1,6 @@
 use Rattle.std.proofs.Common.{◌≡◌, drop, map}
-use Rattle.hum_record.specs.Row.{tokens_of}
-use Rattle.hum_path.specs.Sign.{sign_of}
+use Rattle.hum_score.specs.Row.{tokens_of}
+use Rattle.hum_score.specs.Sign.{sign_of}
 use Rattle.hum_columns.specs.Chosen.{is_torn}
 use Rattle.hum_columns.proofs.TornJoins.{torn_after}
 use Rattle.hum_columns.proofs.torn.is_torn.Given as goal

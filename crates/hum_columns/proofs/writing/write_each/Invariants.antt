@@ -1,5 +1,5 @@
 use Rattle.std.proofs.Common.{◌≡◌, ◌≢◌, ◌≤◌, ◌++◌, ◌-◌, [], length, drop}
-use Rattle.hum_record.specs.declared.SpinedKind.TheVariants.{Interpretation}
+use Rattle.hum_score.specs.declared.records.SpinedKind.TheVariants.{Interpretation}
 use Rattle.hum_columns.specs.Spread.{one_by_one, before_last, filled}
 use Rattle.hum_columns.specs.Writing.{Fit, draft, behind}
 use Rattle.hum_columns.proofs.writing.write_each.Given as goal

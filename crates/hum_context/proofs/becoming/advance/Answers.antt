@@ -1,6 +1,6 @@
 use Rattle.std.proofs.Common.{ap, arith, length, ◌∷◌, [], ◌++◌}
-use Rattle.hum_record.specs.declared.SpinedKind.TheVariants.{Values}
-use Rattle.hum_record.specs.Row.{Row, Spined, token_at, tokens_of}
+use Rattle.hum_score.specs.declared.records.SpinedKind.TheVariants.{Values}
+use Rattle.hum_score.specs.Row.{Row, Spined, token_at, tokens_of}
 use Rattle.hum_context.specs.Context.{chain}
 use Rattle.hum_context.proofs.Weighing.{becomes_some, sofar_none, sofar_more, sofar_stops, sofar_all, kept_at}
 use Rattle.hum_context.proofs.becoming.advance.Goals as goal

@@ -1,7 +1,7 @@
 use Rattle.std.proofs.Common.{◌≡◌, ◌≤◌, ℕ, List, [], ◌∷◌, length, None}
-use Rattle.hum_record.specs.declared.SpinedKind.TheVariants.{Values}
-use Rattle.hum_record.specs.Row.{Row, Spined}
-use Rattle.hum_path.specs.Spines.{Path}
+use Rattle.hum_score.specs.declared.records.SpinedKind.TheVariants.{Values}
+use Rattle.hum_score.specs.Row.{Row, Spined}
+use Rattle.hum_score.specs.Spines.{Path}
 use Rattle.hum_context.specs.Context.{Choice, taken}
 use Rattle.hum_context.specs.Heard.{wanted_of}
 use Rattle.hum_context.specs.Queue.{Knows}

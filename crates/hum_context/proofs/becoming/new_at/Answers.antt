@@ -1,6 +1,6 @@
 use Rattle.std.proofs.Common.{◌∙◌, sym, ◌∷◌, arith}
-use Rattle.hum_record.specs.declared.SpinedKind.TheVariants.{Values}
-use Rattle.hum_record.specs.Row.{Spined, token_at}
+use Rattle.hum_score.specs.declared.records.SpinedKind.TheVariants.{Values}
+use Rattle.hum_score.specs.Row.{Spined, token_at}
 use Rattle.hum_context.proofs.Weighing.{kept_at, open_is, passed_stays, shut_is}
 use Rattle.hum_context.proofs.becoming.new_at.Goals as goal
 

@@ -1,8 +1,8 @@
 use Rattle.std.proofs.Common.{◌∙◌, sym, ap, refl, length, ◌+◌, ◌∷◌}
 use Rattle.std.specs.List.{join_with_byte}
 use lib.Chars.{codes}
-use Rattle.hum_record.specs.declared.SpinedKind.TheVariants.{Values}
-use Rattle.hum_record.specs.Row.{Row, Spined, token_at}
+use Rattle.hum_score.specs.declared.records.SpinedKind.TheVariants.{Values}
+use Rattle.hum_score.specs.Row.{Row, Spined, token_at}
 use Rattle.hum_context.proofs.Measured.{taken_bytes}
 use Rattle.hum_context.proofs.Weighing.{kept_at}
 use Rattle.hum_context.proofs.becoming.new_bytes.Goals as goal

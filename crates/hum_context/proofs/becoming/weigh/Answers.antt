@@ -1,6 +1,6 @@
 use Rattle.std.proofs.Common.{ap, refl, arith, inl, length, ◌∷◌, [], ◌++◌}
-use Rattle.hum_record.specs.declared.SpinedKind.TheVariants.{Values}
-use Rattle.hum_record.specs.Row.{Row, Spined, tokens_of}
+use Rattle.hum_score.specs.declared.records.SpinedKind.TheVariants.{Values}
+use Rattle.hum_score.specs.Row.{Row, Spined, tokens_of}
 use Rattle.hum_context.specs.Walking.{bytes_of}
 use Rattle.hum_context.proofs.Following.{none_stand}
 use Rattle.hum_context.proofs.Weighing.{sofar_none, sofar_more, sofar_stops, sofar_all, counts_more}

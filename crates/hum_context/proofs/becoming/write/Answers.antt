@@ -1,6 +1,6 @@
 use Rattle.std.proofs.Common.{◌≡◌, ◌∙◌, sym, ap, arith, refl, [], ◌∷◌, ◌++◌, length, length-append, ◌+◌}
-use Rattle.hum_record.specs.declared.SpinedKind.TheVariants.{Values}
-use Rattle.hum_record.specs.Row.{Row, Spined, tokens_of}
+use Rattle.hum_score.specs.declared.records.SpinedKind.TheVariants.{Values}
+use Rattle.hum_score.specs.Row.{Row, Spined, tokens_of}
 use Rattle.hum_context.proofs.Weighing.{kept_at, sofar_stops, sofar_all}
 use Rattle.hum_context.proofs.Written.{written_none, written_more, first_token, first_kind}
 use Rattle.hum_context.proofs.Written.{data_width, some_made}

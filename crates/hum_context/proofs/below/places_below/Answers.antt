@@ -1,7 +1,7 @@
 use Rattle.std.proofs.Common.{◌≡◌, ◌∙◌, ◌+◌, ◌-◌, ◌<◌, ℕ, arith, length, drop, get_or, cond, Option}
 use Rattle.std.proofs.Common.{Some, ap, sym}
 use Rattle.std.specs.List.{position_from}
-use Rattle.hum_path.specs.declared.moved.Move.TheVariants.{Same}
+use Rattle.hum_score.specs.declared.spines.Move.TheVariants.{Same}
 use Rattle.hum_path.specs.Chains.{goes_on}
 use Rattle.hum_context.proofs.Places.{position_step, position_all}
 use Rattle.hum_context.proofs.below.places_below.Goals as goal

@@ -1,5 +1,5 @@
 use Rattle.std.proofs.Common.{◌≡◌, ◌∙◌, sym, ap, refl, false, true}
-use Rattle.hum_record.specs.Row.{tokens_of}
+use Rattle.hum_score.specs.Row.{tokens_of}
 use Rattle.hum_context.specs.Heard.{heard_of}
 use Rattle.hum_context.specs.Options.{choice_of}
 use Rattle.hum_choices.specs.declared.context.ContextOptions.{ContextOptions}

@@ -1,6 +1,6 @@
 use Rattle.std.proofs.Common.{◌≡◌, ◌++◌, map}
 use Rattle.std.specs.List.{list_any}
-use Rattle.hum_record.specs.Row.{tokens_of}
+use Rattle.hum_score.specs.Row.{tokens_of}
 use Rattle.hum_context.specs.Options.{choice_of}
 use Rattle.hum_context.specs.Heard.{heard_of, is_taken}
 use Rattle.hum_context.proofs.heard.hear_all.Given as goal

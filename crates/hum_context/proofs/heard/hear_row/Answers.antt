@@ -1,6 +1,6 @@
 use Rattle.std.proofs.Common.{◌≡◌, ◌∙◌, length, ap, arith}
-use Rattle.hum_record.specs.declared.Kind.{Kind}
-use Rattle.hum_record.specs.declared.Kind.TheVariants.{Values, Interpretation, Local, Global}
+use Rattle.hum_score.specs.declared.records.Kind.{Kind}
+use Rattle.hum_score.specs.declared.records.Kind.TheVariants.{Values, Interpretation, Local, Global}
 use Rattle.hum_context.specs.Options.{choice_of}
 use Rattle.hum_context.proofs.Tokens.{other_passed}
 use Rattle.hum_context.proofs.heard.hear_row.Goals as goal

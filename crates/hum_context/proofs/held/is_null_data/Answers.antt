@@ -1,6 +1,6 @@
 use Rattle.std.proofs.Common.{◌∙◌, sym, ap}
-use Rattle.hum_record.specs.Row.{tokens_of, Spined}
-use Rattle.hum_record.specs.declared.SpinedKind.TheVariants.{Values}
+use Rattle.hum_score.specs.Row.{tokens_of, Spined}
+use Rattle.hum_score.specs.declared.records.SpinedKind.TheVariants.{Values}
 use Rattle.hum_context.proofs.Nulls.{all_nulls}
 use Rattle.hum_context.proofs.held.is_null_data.Goals as goal
 

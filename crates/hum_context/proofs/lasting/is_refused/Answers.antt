@@ -1,6 +1,6 @@
 use Rattle.std.proofs.Common.{◌∙◌, sym, ap, subst, ◌∷◌, ◌+◌, cond}
-use Rattle.hum_record.specs.Row.{Row, tokens_of}
-use Rattle.hum_path.specs.Score.{path_after}
+use Rattle.hum_score.specs.Row.{Row, tokens_of}
+use Rattle.hum_score.specs.Score.{path_after}
 use Rattle.hum_stage.specs.Settles.{or_stop}
 use Rattle.hum_context.specs.declared.becoming.Weight.{Weight}
 use Rattle.hum_context.specs.Queue.{Knows}

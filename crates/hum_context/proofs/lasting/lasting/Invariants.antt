@@ -1,6 +1,6 @@
 use Rattle.std.proofs.Common.{◌≡◌, ◌≤◌, List, [], None, length}
-use Rattle.hum_record.specs.Row.{Row}
-use Rattle.hum_path.specs.Score.{path_after}
+use Rattle.hum_score.specs.Row.{Row}
+use Rattle.hum_score.specs.Score.{path_after}
 use Rattle.hum_context.specs.Context.{Choice, taken}
 use Rattle.hum_context.specs.Heard.{wanted_of}
 use Rattle.hum_context.specs.Queue.{Knows}

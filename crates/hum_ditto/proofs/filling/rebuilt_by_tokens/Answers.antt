@@ -1,6 +1,6 @@
 use Rattle.std.proofs.Common.{arith}
-use Rattle.hum_record.specs.Row.{tokens_of}
-use Rattle.hum_record.specs.declared.SpinedKind.TheVariants.{Values}
+use Rattle.hum_score.specs.Row.{tokens_of}
+use Rattle.hum_score.specs.declared.records.SpinedKind.TheVariants.{Values}
 use Rattle.hum_ditto.proofs.Tokens.{some_filled, fill_more, fill_all}
 use Rattle.hum_ditto.proofs.filling.rebuilt_by_tokens.Goals as goal
 

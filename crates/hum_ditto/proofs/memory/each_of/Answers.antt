@@ -1,5 +1,5 @@
 use Rattle.std.proofs.Common.{◌∙◌, sym, ap}
-use Rattle.hum_path.specs.Spines.{same_upto}
+use Rattle.hum_score.specs.Spines.{same_upto}
 use Rattle.hum_ditto.proofs.Whole.{comes_same}
 use Rattle.hum_ditto.proofs.Passing.{each_alone}
 use Rattle.hum_ditto.proofs.memory.each_of.Goals as goal

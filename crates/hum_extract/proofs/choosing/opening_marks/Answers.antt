@@ -1,5 +1,5 @@
 use Rattle.std.proofs.Common.{◌<◌, ◌≤◌, length}
-use Rattle.hum_record.specs.Row.{tokens_of, width_of}
+use Rattle.hum_score.specs.Row.{tokens_of, width_of}
 use Rattle.std.proofs.lemmas.Result.{err_from_is_err_and}
 use Rattle.hum_choices.specs.Extract.{choice_of}
 use Rattle.hum_extract.proofs.ChosenTokens.{one_more_flag, no_more_flags}

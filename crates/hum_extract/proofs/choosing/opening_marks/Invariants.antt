@@ -1,5 +1,5 @@
 use Rattle.std.proofs.Common.{◌≡◌, ◌++◌, drop}
-use Rattle.hum_record.specs.Row.{tokens_of, width_of}
+use Rattle.hum_score.specs.Row.{tokens_of, width_of}
 use Rattle.hum_extract.specs.Choice.{each_chosen, opening_flags}
 use Rattle.hum_choices.specs.Extract.{choice_of}
 use Rattle.hum_extract.proofs.choosing.opening_marks.Given as goal

@@ -1,7 +1,7 @@
 use Rattle.std.proofs.Common.{◌≡◌, ◌∙◌, [], get_or, sym, ap}
 use Rattle.std.proofs.lemmas.Bool.{false≢true}
-use Rattle.hum_record.specs.Row.{tokens_of}
-use Rattle.hum_path.specs.Sign.{sign_of, is_exchange}
+use Rattle.hum_score.specs.Row.{tokens_of}
+use Rattle.hum_score.specs.Sign.{sign_of, is_exchange}
 use Rattle.hum_extract.proofs.Placewise.{between_ends, between_inside, between_outside}
 use Rattle.hum_extract.proofs.cutting.chosen_between.Goals as goal
 use Rattle.hum_extract.proofs.cutting.chosen_between.Goals.{else-inside-via-then-inside+else-exchanges, else-inside-via-else-inside}

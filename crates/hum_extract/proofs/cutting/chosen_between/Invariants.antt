@@ -1,6 +1,6 @@
 use Rattle.std.proofs.Common.{◌≡◌, drop, map}
-use Rattle.hum_record.specs.Row.{tokens_of}
-use Rattle.hum_path.specs.Sign.{sign_of}
+use Rattle.hum_score.specs.Row.{tokens_of}
+use Rattle.hum_score.specs.Sign.{sign_of}
 use Rattle.hum_extract.specs.Extract.{chosen_between}
 use Rattle.hum_extract.proofs.Placewise.{between_from}
 use Rattle.hum_extract.proofs.cutting.chosen_between.Given as goal

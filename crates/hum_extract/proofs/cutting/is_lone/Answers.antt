@@ -1,6 +1,6 @@
 use Rattle.std.proofs.Common.{◌≡◌, ◌∙◌, [], get_or, sym, ap}
-use Rattle.hum_record.specs.Row.{tokens_of}
-use Rattle.hum_path.specs.Sign.{sign_of, is_exchange}
+use Rattle.hum_score.specs.Row.{tokens_of}
+use Rattle.hum_score.specs.Sign.{sign_of, is_exchange}
 use Rattle.hum_extract.proofs.Placewise.{lone_first, lone_other}
 use Rattle.hum_extract.proofs.cutting.is_lone.Goals as goal
 use Rattle.hum_extract.proofs.cutting.is_lone.Goals.{then-is_exchange+in-None, else-is_exchange}

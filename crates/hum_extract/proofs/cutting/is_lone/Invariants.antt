@@ -1,6 +1,6 @@
 use Rattle.std.proofs.Common.{◌≡◌, drop, map}
-use Rattle.hum_record.specs.Row.{tokens_of}
-use Rattle.hum_path.specs.Sign.{sign_of}
+use Rattle.hum_score.specs.Row.{tokens_of}
+use Rattle.hum_score.specs.Sign.{sign_of}
 use Rattle.hum_extract.specs.Extract.{is_lone, exchanged_flags}
 use Rattle.hum_extract.proofs.Placewise.{lone_after}
 use Rattle.hum_extract.proofs.cutting.is_lone.Given as goal

@@ -1,5 +1,5 @@
 use Rattle.std.proofs.Common.{◌≡◌, ◌++◌, drop, map}
-use Rattle.hum_record.specs.Row.{tokens_of, chosen}
+use Rattle.hum_score.specs.Row.{tokens_of, chosen}
 use Rattle.hum_columns.specs.Chosen.{each_piece}
 use Rattle.hum_extract.specs.Extract.{pieces, softened}
 use Rattle.hum_extract.proofs.cutting.kept_pieces.Given as goal

@@ -1,5 +1,5 @@
 use Rattle.std.proofs.lemmas.Result.{IfOk-weaker}
-use Rattle.hum_path.specs.Spines.{texts}
+use Rattle.hum_score.specs.Texts.{texts}
 use Rattle.hum_laws.proofs.Fields.{names_twice}
 use Rattle.hum_laws.proofs.columns.names_twice.Goals as goal
 

@@ -1,7 +1,7 @@
 use Rattle.std.proofs.Common.{refl}
 use Rattle.std.proofs.lemmas.Result.{IfOk-weaker}
 use Rattle.std.specs.Prelude.{[], ◌∷◌}
-use Rattle.hum_stage.specs.declared.faults.Command.TheVariants.{Yank}
+use Rattle.hum_words.specs.declared.commands.Command.TheVariants.{Yank}
 use Rattle.hum_choices.specs.declared.yank.YankRange.TheVariants.{Onward}
 use Rattle.hum_yank.specs.Passages.{Lines}
 use Rattle.hum_yank.specs.Yank.{yank}

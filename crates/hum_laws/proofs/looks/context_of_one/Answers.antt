@@ -1,5 +1,5 @@
 use Rattle.std.proofs.lemmas.Result.{IfOk-weaker}
-use Rattle.hum_stage.specs.declared.faults.Command.TheVariants.{Context}
+use Rattle.hum_words.specs.declared.commands.Command.TheVariants.{Context}
 use Rattle.hum_context.specs.Context.{context}
 use Rattle.hum_context.specs.Options.{omits_of}
 use Rattle.hum_laws.proofs.One.{one, fine_whole, own_context}

@@ -1,4 +1,4 @@
-use Rattle.hum_path.specs.Spines.{texts}
+use Rattle.hum_score.specs.Texts.{texts}
 use Rattle.hum_options.proofs.Listing.{listed}
 use Rattle.hum_options.proofs.NameItems.{names_are, names_alone, names_lack}
 use Rattle.hum_options.proofs.naming.names.Goals as goal

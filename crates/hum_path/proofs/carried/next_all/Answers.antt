@@ -1,5 +1,5 @@
 use Rattle.std.proofs.Common.{◌∙◌}
-use Rattle.hum_record.specs.Row.{tokens_of}
+use Rattle.hum_score.specs.Row.{tokens_of}
 use Rattle.hum_path.specs.Memories.{memory_of}
 use Rattle.hum_path.proofs.Carry.{map_more}
 use Rattle.hum_path.proofs.carried.next_all.Goals as goal

@@ -1,5 +1,5 @@
 use Rattle.std.proofs.Common.{◌∙◌, inl, inr, arith}
-use Rattle.hum_record.specs.Row.{tokens_of}
+use Rattle.hum_score.specs.Row.{tokens_of}
 use Rattle.hum_path.proofs.Carry.{see_more, seen_all}
 use Rattle.hum_path.proofs.carried.see_each.Goals as goal
 

@@ -1,5 +1,5 @@
 use Rattle.std.proofs.Common.{◌≡◌, false, drop}
-use Rattle.hum_path.specs.Rules.{has_lone_join}
+use Rattle.hum_score.specs.Rules.{has_lone_join}
 use Rattle.hum_path.proofs.rules.has_lone_join.Given as goal
 
 abbrev pub invariant-loop-j : goal.invariant-loop-j

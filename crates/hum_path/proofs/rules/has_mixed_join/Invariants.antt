@@ -1,6 +1,6 @@
 use Rattle.std.proofs.Common.{◌≡◌, drop}
-use Rattle.hum_path.specs.Rules.{has_mixed_join}
-use Rattle.hum_path.specs.Spines.{texts}
+use Rattle.hum_score.specs.Rules.{has_mixed_join}
+use Rattle.hum_score.specs.Texts.{texts}
 use Rattle.hum_path.proofs.rules.has_mixed_join.Given as goal
 
 abbrev pub invariant-loop-j : goal.invariant-loop-j

@@ -1,8 +1,8 @@
 use Rattle.std.proofs.Common.{◌∙◌, sym}
 use Rattle.std.specs.List.{list_any}
 use Rattle.std.proofs.lemmas.List.{at_drop_all}
-use Rattle.hum_record.specs.Spelling.{is_empty}
-use Rattle.hum_path.specs.Spines.{texts}
+use Rattle.hum_score.specs.Spelling.{is_empty}
+use Rattle.hum_score.specs.Texts.{texts}
 use Rattle.hum_path.proofs.ByPlace.{nameless_at}
 use Rattle.hum_path.proofs.rules.has_nameless.Goals as goal
 

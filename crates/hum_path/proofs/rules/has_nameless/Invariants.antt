@@ -1,7 +1,7 @@
 use Rattle.std.proofs.Common.{◌≡◌, drop}
 use Rattle.std.specs.List.{list_any}
-use Rattle.hum_record.specs.Spelling.{is_empty}
-use Rattle.hum_path.specs.Spines.{texts}
+use Rattle.hum_score.specs.Spelling.{is_empty}
+use Rattle.hum_score.specs.Texts.{texts}
 use Rattle.hum_path.proofs.rules.has_nameless.Given as goal
 
 abbrev pub invariant-loop-name : goal.invariant-loop-name

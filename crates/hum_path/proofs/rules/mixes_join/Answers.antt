@@ -1,5 +1,5 @@
 use Rattle.std.proofs.Common.{arith, drop, length-drop}
-use Rattle.hum_path.specs.Spines.{texts}
+use Rattle.hum_score.specs.Texts.{texts}
 use Rattle.hum_path.proofs.Joins.{mixes_short}
 use Rattle.hum_path.proofs.rules.mixes_join.Goals as goal
 

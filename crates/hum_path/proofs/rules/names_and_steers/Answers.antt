@@ -1,5 +1,5 @@
 use Rattle.std.proofs.Common.{◌∙◌}
-use Rattle.hum_record.specs.Row.{tokens_of}
+use Rattle.hum_score.specs.Row.{tokens_of}
 use Rattle.hum_path.proofs.Plain.{signs_exclusive}
 use Rattle.hum_path.proofs.rules.names_and_steers.Goals as goal
 

@@ -1,7 +1,7 @@
 use Rattle.std.proofs.Common.{◌≡◌, ◌∙◌, sym, length}
 use Rattle.std.proofs.lemmas.List.{length-map}
-use Rattle.hum_record.specs.Row.{tokens_of}
-use Rattle.hum_path.specs.Spines.{texts}
+use Rattle.hum_score.specs.Row.{tokens_of}
+use Rattle.hum_score.specs.Texts.{texts}
 use Rattle.hum_path.proofs.Refused.{refused, stepped}
 use Rattle.hum_path.proofs.steering.advance_under.Goals as goal
 

@@ -1,7 +1,7 @@
 use Rattle.std.proofs.Common.{◌≡◌, ◌++◌, drop, map}
-use Rattle.hum_path.specs.Spines.{texts}
-use Rattle.hum_record.specs.Row.{tokens_of}
-use Rattle.hum_path.specs.Spines.{renamed}
+use Rattle.hum_score.specs.Texts.{texts}
+use Rattle.hum_score.specs.Row.{tokens_of}
+use Rattle.hum_score.specs.Spines.{renamed}
 use Rattle.hum_path.proofs.steering.all_renamed.Given as goal
 
 abbrev pub invariant-loop-from : goal.invariant-loop-from

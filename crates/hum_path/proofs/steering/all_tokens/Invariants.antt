@@ -1,6 +1,6 @@
 use Rattle.std.proofs.Common.{◌≡◌, ◌++◌}
-use Rattle.hum_path.specs.Spines.{texts}
-use Rattle.hum_record.specs.Row.{tokens_of}
+use Rattle.hum_score.specs.Texts.{texts}
+use Rattle.hum_score.specs.Row.{tokens_of}
 use Rattle.hum_path.proofs.steering.all_tokens.Given as goal
 
 abbrev pub invariant-loop-token : goal.invariant-loop-token

@@ -1,6 +1,6 @@
 use Rattle.std.proofs.Common.{◌∙◌, ◌++◌, [], ◌∷◌, sym, ap, append-nil, append_assoc, arith}
 use Rattle.std.proofs.lemmas.List.{at_drop_all}
-use Rattle.hum_path.specs.Spines.{exchanges}
+use Rattle.hum_score.specs.Spines.{exchanges}
 use Rattle.hum_path.proofs.ByPlace.{exchanges_at}
 use Rattle.hum_path.proofs.steering.exchanges.Goals.{then-is_exchange+in_ok-push, else-is_exchange}
 use Rattle.hum_path.proofs.steering.exchanges.Goals as goal

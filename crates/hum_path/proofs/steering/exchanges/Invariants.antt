@@ -1,5 +1,5 @@
 use Rattle.std.proofs.Common.{◌≡◌, ◌++◌, drop}
-use Rattle.hum_path.specs.Spines.{exchanges}
+use Rattle.hum_score.specs.Spines.{exchanges}
 use Rattle.hum_path.proofs.steering.exchanges.Given as goal
 
 abbrev pub invariant-loop-j : goal.invariant-loop-j

@@ -1,5 +1,5 @@
 use Rattle.std.proofs.Common.{◌≡◌, ◌++◌, ◌+◌, false, length}
-use Rattle.hum_path.specs.Spines.{heirs_from}
+use Rattle.hum_score.specs.Spines.{heirs_from}
 use Rattle.hum_path.proofs.steering.heirs.Given as goal
 
 abbrev pub invariant-loop-rest : goal.invariant-loop-rest

@@ -1,5 +1,5 @@
 use Rattle.std.proofs.Common.{◌≡◌, ◌+◌, ◌-◌, ◌≤◌, drop, length}
-use Rattle.hum_path.specs.Spines.{joins_at_front}
+use Rattle.hum_score.specs.Spines.{joins_at_front}
 use Rattle.hum_path.proofs.steering.joins_at_front.Given as goal
 
 abbrev pub invariant-loop-end : goal.invariant-loop-end

@@ -1,5 +1,5 @@
 use Rattle.std.proofs.Common.{◌≡◌, ◌++◌, ◌-◌}
-use Rattle.hum_path.specs.Spines.{same_upto}
+use Rattle.hum_score.specs.Spines.{same_upto}
 use Rattle.hum_path.proofs.steering.same.Given as goal
 
 abbrev pub invariant-loop-j : goal.invariant-loop-j

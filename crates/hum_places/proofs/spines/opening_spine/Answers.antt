@@ -1,6 +1,6 @@
 use Rattle.std.proofs.Common.{◌<◌, arith}
-use Rattle.hum_path.specs.Spines.{width}
-use Rattle.hum_path.specs.Score.{path_after}
+use Rattle.hum_score.specs.Spines.{width}
+use Rattle.hum_score.specs.Score.{path_after}
 use Rattle.hum_places.proofs.Above.{origins_above}
 use Rattle.hum_places.proofs.spines.opening_spine.Goals as goal
 

@@ -1,7 +1,7 @@
 use Rattle.std.proofs.Common.{◌≡◌, ◌≤◌, ◌+◌, length, take}
 use Rattle.hum_record.specs.Contents.{filled_from}
 use Rattle.hum_record.specs.Fields.{begins_at}
-use Rattle.hum_record.specs.Spelling.{parts}
+use Rattle.hum_score.specs.Spelling.{parts}
 use Rattle.hum_record.proofs.Filled.{Filling}
 use Rattle.hum_record.proofs.filling.put_filled.Given as goal
 

@@ -1,7 +1,7 @@
 use Rattle.std.proofs.Common.{sym, arith}
 use Rattle.std.proofs.lemmas.List.Sums.{prefix_len-le-length}
 use Rattle.std.proofs.lemmas.List.Splits.{join_with_byte-slice_split}
-use Rattle.hum_record.specs.Spelling.{parts}
+use Rattle.hum_score.specs.Spelling.{parts}
 use Rattle.hum_record.proofs.Laws.{parts_filled}
 use Rattle.hum_record.proofs.Selected.{unmoved, place_within, place_behind, end_within, least, most, turn, all_turns}
 use Rattle.hum_record.proofs.leaving.move_to_front.Goals as goal

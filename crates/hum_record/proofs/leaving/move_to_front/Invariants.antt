@@ -1,6 +1,6 @@
 use Rattle.std.proofs.Common.{drop}
-use Rattle.hum_record.specs.Row.{chosen}
-use Rattle.hum_record.specs.Spelling.{parts}
+use Rattle.hum_score.specs.Row.{chosen}
+use Rattle.hum_score.specs.Spelling.{parts}
 use Rattle.hum_record.proofs.Selected.{Moving}
 use Rattle.hum_record.proofs.leaving.move_to_front.Given as goal
 

@@ -2,7 +2,7 @@ use Rattle.std.proofs.Common.{◌≡◌, ◌∙◌, sym, ap, [], get_or, true, f
 use Rattle.std.proofs.lemmas.List.{get_or_default}
 use Rattle.std.proofs.lemmas.List.Folds.{list_any_none, list_any_at}
 use borrow.Author.Count.{below_more}
-use Rattle.hum_record.specs.Spelling.{is_comment, parts}
+use Rattle.hum_score.specs.Spelling.{is_comment, parts}
 use Rattle.hum_record.proofs.Ends.{part_lies, parts_count}
 use Rattle.hum_record.proofs.tokens.has_comment.Goals as goal
 

@@ -1,8 +1,8 @@
 use Rattle.std.proofs.Common.{◌≡◌, ◌≤◌, ◌∙◌, sym, ap, ◌+◌, [], length, take, get_or, Bool, arith, List, ℕ, rules}
 use Rattle.std.specs.List.{list_any}
 use Rattle.std.proofs.lemmas.List.{take_all}
-use Rattle.hum_record.specs.declared.SpinedKind.{SpinedKind}
-use Rattle.hum_record.specs.Spelling.{is_empty, kind_of_token, kind_of_first, mixes_kinds, parts}
+use Rattle.hum_score.specs.declared.records.SpinedKind.{SpinedKind}
+use Rattle.hum_score.specs.Spelling.{is_empty, kind_of_token, kind_of_first, mixes_kinds, parts}
 use Rattle.hum_record.specs.Fields.{ends_from}
 use Rattle.hum_record.proofs.Laws.{kinds_empty, kinds_mixed, kinds_comment, kinds_one}
 use Rattle.hum_record.proofs.Parts.{kind_of_parts}

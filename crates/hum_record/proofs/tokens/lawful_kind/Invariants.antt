@@ -1,6 +1,6 @@
 use Rattle.std.proofs.Common.{◌≡◌, take}
 use Rattle.std.specs.List.{list_any}
-use Rattle.hum_record.specs.Spelling.{is_empty, kind_of_token, parts}
+use Rattle.hum_score.specs.Spelling.{is_empty, kind_of_token, parts}
 use Rattle.hum_record.proofs.Cuts.{is_other}
 use Rattle.hum_record.proofs.tokens.lawful_kind.Given as goal
 

@@ -1,4 +1,4 @@
-use Rattle.std.proofs.Common.{◌≡◌, ◌≤◌, ◌+◌, ◌*◌, ◌/◌, ◌^◌, ◌++◌, ◌∙◌, ℕ, List, length, take, drop, subst, refl, ap, arith}
+use Rattle.std.proofs.Common.{◌≡◌, ◌≤◌, ◌+◌, ◌*◌, ◌/◌, ◌^◌, ◌++◌, ◌∙◌, ℕ, List, length, take, drop, subst, ap, arith, rules}
 use Rattle.hum_record.specs.Cutting.{set_places}
 use Rattle.hum_record.proofs.Held.{front_written, front_kept}
 use Rattle.hum_record.proofs.Short.{most_places}
@@ -20,17 +20,8 @@ put_places-count-requires-clause-room c =
     let places = c.give_places.new.places in
     omega (arith, most_places 64 (64 * c.loop-words.words) c.bits_at-ends.result, room, places.ok.0, c.deref_mut-in-loop-words.ensures.len)
 
-pub returns-then-stops-ne0-clause-line : goal.returns-then-stops-ne0-clause-line
-returns-then-stops-ne0-clause-line c =
-    let l = c.loop-words in
-    let end = c.in_ok-end.end in
-    let at = 64 * l.words in
-    let front = take l.count l.places.items in
-    (last_word c.args.held.now front (front ++ set_places 64 at end.ends) at l.head end.len end.size end.ends
-    c.in_ok-end.ensures.near l.invariant.0 c.in_ok-end.ensures.ends refl).line
-
-pub returns-then-stops-ne0-clause-plain : goal.returns-then-stops-ne0-clause-plain
-returns-then-stops-ne0-clause-plain c =
+pub returns-then-stops-ne0 : goal.returns-then-stops-ne0
+returns-then-stops-ne0 c =
     let l = c.loop-words in
     let end = c.in_ok-end.end in
     let at = 64 * l.words in
@@ -39,9 +30,30 @@ returns-then-stops-ne0-clause-plain c =
     let size : length written ≡ new.len = omega (arith, c.put_places.auto.places, c.deref_mut.ensures.len) in
     let put = rw c.deref_mut.ensures.value at c.put_places.ensures.places in
     let kept = front_kept l.count l.places.len l.places.items new.items l.invariant.2 c.in-Ok.ensures.kept in
-    (last_word c.args.held.now (take l.count l.places.items) _ at l.head end.len end.size end.ends
+    let count = c.put_places.ensures.count in
+    let last = last_word c.args.held.now (take l.count l.places.items) _ at l.head end.len end.size end.ends
     c.in_ok-end.ensures.near l.invariant.0 c.in_ok-end.ensures.ends
-    (front_written _ new.len written new.items size ∙ put ∙ ap (λ (xs : List ℕ). xs ++ set_places 64 at end.ends) kept)).plain
+    (front_written _ new.len written new.items size ∙ put ∙ ap (λ (xs : List ℕ). xs ++ set_places 64 at end.ends) kept) in
+    record {
+      line = last.line;
+      within = omega (arith, count, most_places 64 at end.ends, c.in-Ok.ensures.room);
+      plain = last.plain;
+      words = search rules;
+      last = search rules;
+      at_most = search rules;
+    }
+
+pub returns-in_default : goal.returns-in_default
+returns-in_default c = record { line = tt; within = tt; plain = tt; words = tt; last = tt; at_most = tt }
+
+pub returns-then-not-is_apart : goal.returns-then-not-is_apart
+returns-then-not-is_apart c = record { line = tt; within = tt; plain = tt; words = tt; last = tt; at_most = tt }
+
+pub returns-else-held-words-ge-NEAR : goal.returns-else-held-words-ge-NEAR
+returns-else-held-words-ge-NEAR c = record { line = tt; within = tt; plain = tt; words = tt; last = tt; at_most = tt }
+
+pub returns-after-loop-words : goal.returns-after-loop-words
+returns-after-loop-words c = record { line = tt; within = tt; plain = tt; words = tt; last = tt; at_most = tt }
 
 pub loop-words-preserved : goal.loop-words-preserved
 loop-words-preserved c =

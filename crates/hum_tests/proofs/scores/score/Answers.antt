@@ -1,5 +1,5 @@
 use Rattle.std.proofs.Common.{◌∙◌, sym, ap, [], ◌∷◌}
-use Rattle.hum_path.specs.Spines.{Unopened, after}
+use Rattle.hum_score.specs.Spines.{Unopened, after}
 use Rattle.hum_stage.proofs.Scores.{Follow-append, through-append}
 use Rattle.hum_tests.proofs.scores.score.Goals as goal
 

@@ -1,6 +1,6 @@
 use Rattle.std.proofs.Common.{◌≡◌}
-use Rattle.hum_path.specs.Spines.{Unopened}
-use Rattle.hum_stage.specs.Score.{Follow, through}
+use Rattle.hum_score.specs.Spines.{Unopened}
+use Rattle.hum_score.specs.InOrder.{Follow, through}
 use Rattle.hum_tests.proofs.scores.score.Given as goal
 
 abbrev pub invariant-loop-line : goal.invariant-loop-line

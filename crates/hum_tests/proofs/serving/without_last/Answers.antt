@@ -1,6 +1,6 @@
 use Rattle.std.proofs.Common.{take, drop}
 use Rattle.std.proofs.lemmas.List.{take-append-drop}
-use Rattle.hum_path.specs.Spines.{Unopened}
+use Rattle.hum_score.specs.Spines.{Unopened}
 use Rattle.hum_stage.proofs.Growth.{Follow-front}
 use Rattle.hum_tests.proofs.serving.without_last.Goals as goal
 

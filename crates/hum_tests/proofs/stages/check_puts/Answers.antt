@@ -1,5 +1,5 @@
 use Rattle.std.proofs.Common.{◌∙◌, refl, sym, ap, List, [], ◌∷◌, ◌++◌, append_assoc, inr}
-use Rattle.hum_record.specs.Row.{Row}
+use Rattle.hum_score.specs.Row.{Row}
 use Rattle.hum_stage.specs.Meaning.{settled_moment, after_put}
 use Rattle.hum_stage.proofs.Growth.{wants_when_settled}
 use Rattle.hum_tests.proofs.Puts.{score_so_far, few_so_far}

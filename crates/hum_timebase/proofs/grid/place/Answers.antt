@@ -1,5 +1,5 @@
 use Rattle.std.proofs.Common.{refl}
-use Rattle.hum_record.specs.Row.{tokens_of}
+use Rattle.hum_score.specs.Row.{tokens_of}
 use Rattle.hum_stage.proofs.Moves.{over_room}
 use Rattle.hum_stage.proofs.Telling.{told_as}
 use Rattle.hum_timebase.specs.Timebase.{around}

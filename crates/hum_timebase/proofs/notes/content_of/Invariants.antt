@@ -1,6 +1,6 @@
 use Rattle.std.proofs.Common.{◌≡◌, drop, ◌||◌}
 use Rattle.std.specs.List.{list_any}
-use Rattle.hum_record.specs.Row.{tokens_of}
+use Rattle.hum_score.specs.Row.{tokens_of}
 use Rattle.hum_record.specs.Contents.{is_barline}
 use Rattle.hum_timebase.specs.Notes.{is_sounding}
 use Rattle.hum_timebase.proofs.notes.content_of.Given as goal

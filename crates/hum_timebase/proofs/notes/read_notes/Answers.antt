@@ -1,5 +1,5 @@
 use Rattle.std.proofs.Common.{◌≡◌, ◌∙◌, sym, ap, [], ◌++◌, append-nil, get_or, false, None, Some, rules}
-use Rattle.hum_record.specs.Row.{tokens_of}
+use Rattle.hum_score.specs.Row.{tokens_of}
 use Rattle.hum_timebase.specs.Notes.{notes_of, has_misread}
 use Rattle.hum_timebase.specs.Placed.{placed}
 use Rattle.hum_timebase.proofs.Reading.{none_noted, none_misread}

@@ -1,4 +1,4 @@
-use Rattle.hum_record.specs.Row.{tokens_of}
+use Rattle.hum_score.specs.Row.{tokens_of}
 use Rattle.hum_timebase.proofs.ReadOn.{Noted}
 use Rattle.hum_timebase.proofs.notes.read_notes.Given as goal
 

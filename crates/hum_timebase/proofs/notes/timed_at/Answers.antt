@@ -1,6 +1,6 @@
 use Rattle.std.proofs.Common.{◌∙◌, arith}
-use Rattle.hum_record.specs.Row.{tokens_of}
-use Rattle.hum_path.specs.Spines.{exclusives}
+use Rattle.hum_score.specs.Row.{tokens_of}
+use Rattle.hum_score.specs.Spines.{exclusives}
 use Rattle.hum_timebase.proofs.Reading.{names_done, timed_more}
 use Rattle.hum_timebase.proofs.notes.timed_at.Goals as goal
 

@@ -1,5 +1,5 @@
 use Rattle.std.proofs.Common.{◌≡◌, ◌++◌, drop, map}
-use Rattle.hum_path.specs.Spines.{exclusives}
+use Rattle.hum_score.specs.Spines.{exclusives}
 use Rattle.hum_timebase.specs.Notes.{is_timed}
 use Rattle.hum_timebase.proofs.notes.timed_in.Given as goal
 

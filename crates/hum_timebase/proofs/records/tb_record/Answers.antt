@@ -1,5 +1,5 @@
 use Rattle.std.proofs.Common.{◌∙◌, arith}
-use Rattle.hum_record.specs.Row.{tokens_of}
+use Rattle.hum_score.specs.Row.{tokens_of}
 use Rattle.hum_timebase.specs.Timebase.{tb_token}
 use Rattle.hum_timebase.proofs.Writing.{one_more, front_fits, has_made, some_named, named_token, tb_short}
 use Rattle.hum_timebase.proofs.records.tb_record.Goals as goal

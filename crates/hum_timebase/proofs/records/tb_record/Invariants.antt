@@ -1,6 +1,6 @@
 use Rattle.std.proofs.Common.{◌≡◌, ◌++◌, drop, map, false}
-use Rattle.hum_record.specs.Row.{tokens_of}
-use Rattle.hum_record.specs.declared.SpinedKind.TheVariants.{Interpretation}
+use Rattle.hum_score.specs.Row.{tokens_of}
+use Rattle.hum_score.specs.declared.records.SpinedKind.TheVariants.{Interpretation}
 use Rattle.hum_timebase.specs.Timebase.{tb_token}
 use Rattle.hum_timebase.proofs.records.tb_record.Given as goal
 

@@ -1,7 +1,7 @@
 use Rattle.std.proofs.Common.{◌≡◌, ◌∙◌, ap, List, ℕ, ◌++◌}
 use Rattle.std.specs.Prelude.{option_map}
 use Rattle.hum_pitch.specs.Given.{spelled}
-use Rattle.hum_record.specs.declared.SpinedKind.TheVariants.{Values}
+use Rattle.hum_score.specs.declared.records.SpinedKind.TheVariants.{Values}
 use Rattle.hum_tones.specs.Mint.{approached}
 use Rattle.hum_path.proofs.Carry.{on_ok}
 use Rattle.hum_tones.proofs.MintedLawful.{approached_lawful}

@@ -1,6 +1,6 @@
 use Rattle.std.proofs.Common.{◌≡◌}
 use Rattle.std.specs.List.{list_any}
-use Rattle.hum_record.specs.Row.{tokens_of}
+use Rattle.hum_score.specs.Row.{tokens_of}
 use Rattle.hum_pattern.specs.Meaning.{matched}
 use Rattle.hum_yank.specs.Passages.{passes}
 use Rattle.hum_yank.proofs.marking.any_passes.Given as goal

@@ -1,6 +1,6 @@
 use Rattle.std.proofs.Common.{◌≡◌}
 use Rattle.std.specs.List.{find}
-use Rattle.hum_record.specs.Row.{tokens_of}
+use Rattle.hum_score.specs.Row.{tokens_of}
 use Rattle.hum_pattern.specs.Meaning.{first_end}
 use Rattle.hum_yank.specs.Passages.{passes, has_match}
 use Rattle.hum_yank.proofs.marking.first_by_number.Given as goal

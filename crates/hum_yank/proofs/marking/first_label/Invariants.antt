@@ -1,6 +1,6 @@
 use Rattle.std.proofs.Common.{◌≡◌}
 use Rattle.std.specs.List.{find}
-use Rattle.hum_record.specs.Row.{tokens_of}
+use Rattle.hum_score.specs.Row.{tokens_of}
 use Rattle.hum_yank.specs.Passages.{is_label}
 use Rattle.hum_yank.proofs.marking.first_label.Given as goal
 

@@ -1,9 +1,9 @@
 use Rattle.std.proofs.Common.{◌≡◌, ◌∙◌, sym, ap, refl, [], replicate}
 use Rattle.hum_assemble.specs.Source.{Source}
 use Rattle.hum_assemble.specs.Head.{coming}
-use Rattle.hum_record.specs.Row.{tokens_of}
+use Rattle.hum_score.specs.Row.{tokens_of}
 use Rattle.hum_record.specs.Nulls.{nulls as nulls_of_kind}
-use Rattle.hum_path.specs.Spines.{width}
+use Rattle.hum_score.specs.Spines.{width}
 use Rattle.hum_assemble.specs.Places.{null_at}
 use Rattle.hum_assemble.specs.Merge.{nulls, part_given}
 use Rattle.hum_assemble.proofs.Pushing.{first_added}

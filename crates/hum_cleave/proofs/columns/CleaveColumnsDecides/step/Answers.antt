@@ -2,9 +2,9 @@ use Rattle.std.proofs.Common.{◌≡◌, ◌∙◌, sym, true, false, ℕ}
 use Rattle.std.proofs.lemmas.List.{length-map}
 use Rattle.std.specs.Prelude.{IfNone}
 use Rattle.std.specs.Str.{bytes_eq}
-use Rattle.hum_record.specs.Row.{tokens_of}
-use Rattle.hum_path.specs.Spines.{after}
-use Rattle.hum_path.specs.Rules.{is_closed}
+use Rattle.hum_score.specs.Row.{tokens_of}
+use Rattle.hum_score.specs.Spines.{after}
+use Rattle.hum_score.specs.Rules.{is_closed}
 use Rattle.hum_stage.specs.Decided.{HasStepped}
 use Rattle.hum_columns.specs.Following.{Answers, Follows, memory, is_interpretation}
 use Rattle.hum_stage.proofs.Telling.{told_to, both_told, told_on, told_none}

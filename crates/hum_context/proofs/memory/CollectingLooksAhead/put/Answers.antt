@@ -1,8 +1,8 @@
 use Rattle.std.proofs.Common.{◌∙◌, ◌∷◌, ap, arith}
 use Rattle.std.specs.List.{position}
-use Rattle.hum_path.specs.Spines.{Path, after, width}
+use Rattle.hum_score.specs.Spines.{Path, after, width}
 use Rattle.hum_path.specs.Chains.{goes_on}
-use Rattle.hum_path.specs.Score.{passed}
+use Rattle.hum_score.specs.Score.{passed}
 use Rattle.hum_path.proofs.Obeyed.{narrow}
 use Rattle.hum_context.specs.Options.{choice_of}
 use Rattle.hum_context.proofs.Following.{follows_put, few_lines}

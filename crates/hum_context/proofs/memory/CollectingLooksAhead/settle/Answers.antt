@@ -1,9 +1,9 @@
 use Rattle.std.proofs.Common.{◌≡◌, ◌∙◌, sym, ap, arith, subst, ◌∷◌, []}
 use Rattle.std.specs.Prelude.{Ok, Err}
 use Rattle.hum_stage.proofs.Telling.{answered_none}
-use Rattle.hum_record.specs.declared.SpinedKind.TheVariants.{Values}
-use Rattle.hum_record.specs.Row.{Row, Spined, tokens_of}
-use Rattle.hum_path.specs.Score.{path_after}
+use Rattle.hum_score.specs.declared.records.SpinedKind.TheVariants.{Values}
+use Rattle.hum_score.specs.Row.{Row, Spined, tokens_of}
+use Rattle.hum_score.specs.Score.{path_after}
 use Rattle.hum_stage.specs.declared.faults.Rule.TheVariants.{L1}
 use Rattle.hum_context.specs.Options.{choice_of}
 use Rattle.hum_context.specs.Queue.{Knows}

@@ -1,5 +1,5 @@
 use Rattle.std.proofs.Common.{refl}
-use Rattle.hum_path.specs.Spines.{moves}
+use Rattle.hum_score.specs.Spines.{moves}
 use Rattle.hum_context.specs.Options.{choice_of}
 use Rattle.hum_context.proofs.Queues.{known_new}
 use Rattle.hum_context.proofs.queued.Queued.new.Goals as goal

@@ -1,9 +1,9 @@
 use Rattle.std.proofs.Common.{◌≡◌, ◌∙◌, sym, ap, true, false, []}
 use Rattle.std.specs.Option.{option_to_list}
 use Rattle.std.specs.Prelude.{Some, None}
-use Rattle.hum_record.specs.Row.{tokens_of}
-use Rattle.hum_path.specs.Sign.{steers}
-use Rattle.hum_path.specs.Rules.{is_closed}
+use Rattle.hum_score.specs.Row.{tokens_of}
+use Rattle.hum_score.specs.Sign.{steers}
+use Rattle.hum_score.specs.Rules.{is_closed}
 use Rattle.hum_stage.specs.Limits.{in_room}
 use Rattle.hum_columns.specs.Following.{Memory}
 use Rattle.hum_columns.proofs.Flags.{opening_wide}

@@ -1,6 +1,6 @@
 use Rattle.std.proofs.Common.{◌<◌, length, refl, arith}
 use Rattle.std.proofs.lemmas.Option.{slice_get_read}
-use Rattle.hum_path.specs.Spines.{same_upto}
+use Rattle.hum_score.specs.Spines.{same_upto}
 use Rattle.hum_path.proofs.Steady.{same_upto_length, get-same_upto_first}
 use Rattle.hum_path.proofs.moved.Moves.get.Goals as goal
 

@@ -1,5 +1,7 @@
 use Rattle.std.proofs.Common.{◌≡◌, ◌∙◌, refl, ap, sym, length, arith, rules}
-use Rattle.hum_path.specs.Spines.{width, path_in, texts, same_upto}
+use Rattle.hum_score.specs.Spines.{width, same_upto}
+use Rattle.hum_path.specs.Tracked.{path_in}
+use Rattle.hum_score.specs.Texts.{texts}
 use Rattle.hum_path.proofs.Staying.{unsteered, width_in}
 use Rattle.hum_path.proofs.spine_paths.Paths.follow.Goals as goal
 

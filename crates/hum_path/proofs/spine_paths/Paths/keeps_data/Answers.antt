@@ -4,14 +4,16 @@ use Rattle.std.specs.declared.alloc.Global.{Global}
 use Rattle.std.specs.Prelude.{◌==◌}
 use Rattle.std.specs.List.{find, list_any}
 use Rattle.std.proofs.lemmas.List.{length-map}
-use Rattle.hum_record.specs.declared.Kind.TheVariants.{Global as AnyGlobal, Values as AnyValues}
-use Rattle.hum_record.specs.declared.SpinedKind.TheVariants.{Local, Interpretation, Values}
-use Rattle.hum_record.specs.Row.{Row, Comment, Spined, kind_of, tokens_of, text_of, width_of}
-use Rattle.hum_record.specs.Spelling.{IsTextOf, is_empty}
-use Rattle.hum_path.specs.Sign.{steers}
-use Rattle.hum_path.specs.Spines.{Path, width, exclusives, path_in, texts}
+use Rattle.hum_score.specs.declared.records.Kind.TheVariants.{Global as AnyGlobal, Values as AnyValues}
+use Rattle.hum_score.specs.declared.records.SpinedKind.TheVariants.{Local, Interpretation, Values}
+use Rattle.hum_score.specs.Row.{Row, Comment, Spined, kind_of, tokens_of, text_of, width_of}
+use Rattle.hum_score.specs.Spelling.{IsTextOf, is_empty}
+use Rattle.hum_score.specs.Sign.{steers}
+use Rattle.hum_score.specs.Spines.{Path, width, exclusives}
+use Rattle.hum_path.specs.Tracked.{path_in}
+use Rattle.hum_score.specs.Texts.{texts}
 use Rattle.hum_path.specs.Step.{IsTidy}
-use Rattle.hum_path.specs.Rules.{breaks_as_text, in_order}
+use Rattle.hum_score.specs.Rules.{breaks_as_text, in_order}
 use Rattle.hum_path.proofs.Staying.{quiet_stays, width_in, names_in, data_fits}
 use Rattle.hum_path.proofs.spine_paths.Paths.keeps_data.Goals as goal
 

@@ -1,7 +1,9 @@
 use Rattle.std.proofs.Common.{◌≡◌, ◌∙◌, ap, sym, length, arith}
-use Rattle.hum_record.specs.Row.{tokens_of}
-use Rattle.hum_path.specs.Spines.{width, path_in, texts, same_upto}
-use Rattle.hum_path.specs.Rules.{breaks_as_text, in_order}
+use Rattle.hum_score.specs.Row.{tokens_of}
+use Rattle.hum_score.specs.Spines.{width, same_upto}
+use Rattle.hum_path.specs.Tracked.{path_in}
+use Rattle.hum_score.specs.Texts.{texts}
+use Rattle.hum_score.specs.Rules.{breaks_as_text, in_order}
 use Rattle.std.specs.List.{find}
 use Rattle.hum_path.proofs.Staying.{quiet_stays, width_in}
 use Rattle.hum_path.proofs.spine_paths.Paths.stay.Goals as goal

@@ -1,5 +1,6 @@
 use Rattle.std.proofs.Common.{◌≡◌, ap}
-use Rattle.hum_path.specs.Spines.{path_in, texts}
+use Rattle.hum_path.specs.Tracked.{path_in}
+use Rattle.hum_score.specs.Texts.{texts}
 use Rattle.hum_path.proofs.Within.{steered, tracked}
 use Rattle.hum_path.proofs.spine_paths.Paths.steer.Goals as goal
 

@@ -1,6 +1,6 @@
 use Rattle.std.proofs.Common.{◌≡◌, ◌∙◌, subst, sym, ap, None, Ok}
-use Rattle.hum_record.specs.Row.{text_of}
-use Rattle.hum_record.specs.Spelling.{reading}
+use Rattle.hum_score.specs.Row.{text_of}
+use Rattle.hum_score.specs.Spelling.{reading}
 use Rattle.hum_read.specs.Reading.{Scores, Gave}
 use Rattle.hum_read.specs.Steps.{IsAheadTo, Nexts}
 use Rattle.hum_read.proofs.Ahead.{taking_to}

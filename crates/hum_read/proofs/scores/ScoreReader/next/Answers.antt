@@ -1,6 +1,6 @@
 use Rattle.std.proofs.Common.{◌≡◌, ◌≤◌, ◌+◌, ◌++◌, ℕ, List, length, subst, None}
 use Rattle.hum_record.specs.Lines.{IsReadTo}
-use Rattle.hum_record.specs.Row.{Row}
+use Rattle.hum_score.specs.Row.{Row}
 use Rattle.hum_read.specs.Reading.{Scores}
 use Rattle.hum_read.specs.Steps.{IsAheadTo, Nexts, given_by}
 use Rattle.hum_read.proofs.Nexting.{stopped-nexts}

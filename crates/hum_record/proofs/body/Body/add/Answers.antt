@@ -1,5 +1,7 @@
-use Rattle.std.proofs.Common.{◌≡◌, ◌<◌, length, arith}
+use Rattle.std.proofs.Common.{◌≡◌, ◌<◌, ◌≤◌, length, vec_len, arith, rules}
 use Rattle.std.proofs.lemmas.Result.{err_from_is_err_and}
+use Rattle.hum_record.specs.Lines.{IsEnded}
+use Rattle.hum_record.proofs.Held.{lf_within, ended_back, ended_kept}
 use Rattle.hum_record.proofs.Added.{Counts, counts, more_bytes, more_places, added_text, added_ends}
 use Rattle.hum_record.proofs.body.Body.add.Goals.{then-len-self+in_ok-fill_bytes, else-len-self}
 use Rattle.hum_record.proofs.body.Body.add.Goals.{then-len-self-2+in_ok-fill_places, else-len-self-2}
@@ -56,3 +58,41 @@ pub returns-in_err-fill_places : goal.returns-in_err-fill_places
 returns-in_err-fill_places c =
     let p = err_from_is_err_and c.from_residual-in_err-fill_places.result c.from_residual-in_err-fill_places.ensures.1 in
     rw p.1 (record { text = tt; ends = tt })
+
+pub invariant_of-self : goal.invariant_of-self
+invariant_of-self c =
+    let held = c.self.inside.held in
+    let short = c.self.invariant.0 in
+    let more = c.fill_bytes.ensures.more in (
+      omega (arith, short, more),
+      c.self.invariant.1,
+      ended_kept held.len _ held.items _ held.ok.0 c.fill_bytes.ensures.kept c.self.invariant.2,
+    )
+
+pub invariant_of-self-in_err-fill_places : goal.invariant_of-self-in_err-fill_places
+invariant_of-self-in_err-fill_places c =
+    let first = c.if-len-self.self-inside in
+    let held = c.self.inside.held in
+    let short = c.self.invariant.0 in
+    let kept : (first.len ≤ vec_len first.held) × (first.count ≤ vec_len first.places) × IsEnded first.held.items first.len = elim c.if-len-self.branch [
+      | then-len-self+in_ok-fill_bytes w ↦
+          let more = w.fill_bytes.ensures.more in
+          rw w.self-inside-is (
+            omega (arith, short, more),
+            c.self.invariant.1,
+            ended_kept held.len _ held.items _ held.ok.0 w.fill_bytes.ensures.kept c.self.invariant.2,
+          )
+      | else-len-self w ↦ rw w.self-inside-is c.self.invariant
+    ] in
+    let few = kept.1 in
+    let more = c.fill_places.ensures.more in
+    (kept.0, omega (arith, few, more), kept.2)
+
+pub invariant_of-self-2 : goal.invariant_of-self-2
+invariant_of-self-2 c =
+    let then = c.if-len-self-2.self-inside in
+    let new = c.put_behind-end.new.text in
+    let end = c.put_behind-end.result in
+    let ended = c.put_behind-end.ensures.ended in
+    let size : length new ≡ then.held.len = omega (arith, c.put_behind-end.auto.text, c.deref_mut.ensures.len) in
+    (omega (arith, size, lf_within new end ended), search rules, ended_back then.held.len end new then.held.items size (λ _. ended))

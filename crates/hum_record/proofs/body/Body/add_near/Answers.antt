@@ -1,4 +1,5 @@
 use Rattle.std.proofs.Common.{◌≡◌, ◌<◌, length, arith}
+use Rattle.hum_record.proofs.Held.{lf_within, ended_back}
 use Rattle.hum_record.proofs.Added.{counts, added_text, added_ends}
 use Rattle.hum_record.proofs.body.Body.add_near.Goals as goal
 
@@ -25,3 +26,18 @@ returns-clause-ends c _ =
     let len = c.len-else-len-self.ensures in
     let room : c.self.inside.count < length places.items = omega (arith, most, some, len, places.ok.0) in
     added_ends _ _ _ held.len held.items places.items _ _ new c.args.token.now before size put room c.put_behind-end.ensures.end
+
+pub invariant_of-self : goal.invariant_of-self
+invariant_of-self c =
+    let held = c.self.inside.held in
+    let new = c.put_behind-end.new.text in
+    let end = c.put_behind-end.result in
+    let ended = c.put_behind-end.ensures.ended in
+    let size : length new ≡ held.len = omega (arith, c.put_behind-end.auto.text, c.deref_mut.ensures.len) in
+    let most = c.self.invariant.1 in
+    let some = c.if-len-count.false in
+    let len = c.len-else-len-self.ensures in (
+      omega (arith, size, lf_within new end ended),
+      omega (arith, most, some, len),
+      ended_back held.len end new held.items size (λ _. ended),
+    )

@@ -1,6 +1,6 @@
 use Rattle.std.proofs.Common.{◌≡◌, ◌∙◌, ◌*◌, ◌+◌, ◌/◌, ◌++◌, length, take, drop, ap, arith}
 use Rattle.hum_record.specs.Fields.{written}
-use Rattle.hum_record.proofs.Held.{front_written, fronts}
+use Rattle.hum_record.proofs.Held.{front_written, fronts, same_place, ended_back}
 use Rattle.hum_record.proofs.body.Body.copy_far.Goals as goal
 
 pub returns-clause-copied : goal.returns-clause-copied
@@ -20,3 +20,15 @@ returns-clause-copied c _ =
     ∙ fronts other.count (8 * (other.count / 8 + 1)) ends other.places.items (omega arith) (rw c.deref-2.ensures.value at c.copy_groups.ensures) in
     ap (λ t. written t (take other.count (take places.len (ends ++ drop (length ends) places.items)))) text_is
     ∙ ap (written (take other.len other.held.items)) ends_are ∙ c.other.view_is
+
+pub invariant_of-self : goal.invariant_of-self
+invariant_of-self c =
+    let other = c.other.inside in
+    let held = c.self.inside.held in
+    let bytes = c.copy_words.new.text in
+    let size : length bytes ≡ held.len = omega (arith, c.copy_words.auto.text, c.deref_mut.ensures.len) in
+    let same = same_place other.len (64 * (other.len / 64 + 1)) bytes other.held.items (omega arith) (rw c.deref.ensures.value at c.copy_words.ensures) in (
+      omega arith,
+      omega arith,
+      ended_back held.len other.len bytes held.items size (λ some. same ∙ (c.other.invariant.2 some).1),
+    )

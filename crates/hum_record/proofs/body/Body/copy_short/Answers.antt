@@ -1,6 +1,6 @@
 use Rattle.std.proofs.Common.{◌≡◌, ◌∙◌, ◌++◌, length, take, drop, ap, arith}
 use Rattle.hum_record.specs.Fields.{written}
-use Rattle.hum_record.proofs.Held.{written_back, front_put, same_place}
+use Rattle.hum_record.proofs.Held.{written_back, front_put, same_place, ended_back}
 use Rattle.hum_record.proofs.body.Body.copy_short.Goals as goal
 
 pub returns-then-len-ge-FEW-2-clause-copied : goal.returns-then-len-ge-FEW-2-clause-copied
@@ -29,13 +29,10 @@ invariant_of-self c =
     let held = c.self.inside.held in
     let bytes = c.copy_near.new.text in
     let size : length bytes ≡ held.len = omega (arith, c.copy_near.auto.text, c.deref_mut.ensures.len) in
-    let whole = written_back held.len bytes held.items size in
-    let front = ap (take 64) (whole ∙ rw (c.deref_mut.ensures.value, c.deref.ensures.value) at c.copy_near.ensures)
+    let front = ap (take 64) (rw (c.deref_mut.ensures.value, c.deref.ensures.value) at c.copy_near.ensures)
     ∙ front_put held.items other.held.items 64 64 (omega (arith, held.ok.0)) (omega (arith, other.held.ok.0)) (omega arith) in (
       omega arith,
       omega arith,
-      λ some. (
-        omega (arith, ap length whole, size),
-        same_place other.len 64 _ other.held.items (omega arith) front ∙ (c.other.invariant.2 some).1,
-      ),
+      ended_back held.len other.len bytes held.items size
+          (λ some. same_place other.len 64 bytes other.held.items (omega arith) front ∙ (c.other.invariant.2 some).1),
     )

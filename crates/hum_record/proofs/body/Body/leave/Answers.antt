@@ -2,9 +2,9 @@ use Rattle.std.proofs.Common.{◌≡◌, ◌∙◌, length, ap, arith, length-ta
 use Rattle.std.proofs.lemmas.List.{take-set}
 use Rattle.hum_record.specs.Fields.{Written, ends_from}
 use Rattle.hum_record.specs.Building.{spelled}
-use Rattle.hum_record.specs.Row.{chosen}
-use Rattle.hum_record.specs.Spelling.{parts}
-use Rattle.hum_record.proofs.Held.{front_written}
+use Rattle.hum_score.specs.Row.{chosen}
+use Rattle.hum_score.specs.Spelling.{parts}
+use Rattle.hum_record.proofs.Held.{front_written, ended_set}
 use Rattle.hum_record.proofs.Places.{take_count}
 use Rattle.hum_record.proofs.body.Body.leave.Goals as goal
 
@@ -33,3 +33,19 @@ returns-clause-short c =
     let whole = take_count c.self.inside.len held.items (omega (arith, within, held.ok.0)) in
     let same = ap (λ (w : Written). length w.text) c.self.view_is in
     omega (arith, written, front, whole, same, c.move_in_front-len.ensures.shorter)
+
+pub invariant_of-self : goal.invariant_of-self
+invariant_of-self c =
+    let held = c.self.inside.held in
+    let new = c.move_in_front-len.new.text in
+    let short = c.self.invariant.0 in
+    let few = c.self.invariant.1 in
+    let shorter = c.move_in_front-len.ensures.shorter in
+    let fewer = c.move_in_front-len.ensures.fewer in
+    let size : length new ≡ held.len = omega (arith, c.move_in_front-len.auto.text, c.deref_mut.ensures.len) in (
+      omega (arith, short, shorter),
+      omega (arith, few, fewer),
+      λ some.
+          let within = (c.self.invariant.2 (omega (arith, some, shorter))).0 in
+          ended_set held.len _ new held.items size (omega (arith, within, shorter, held.ok.0)) some,
+    )

@@ -2,7 +2,7 @@ use Rattle.std.proofs.Common.{refl, ◌∙◌, ◌≤◌, ◌++◌, ◌∷◌, �
 use Rattle.std.proofs.Common.{sym, ap, subst, arith}
 use Rattle.std.proofs.lemmas.Bool.{false≢true}
 use Rattle.hum_record.specs.Building.{Draft, spelled, text_in, ends_in}
-use Rattle.hum_record.specs.Spelling.{IsToken}
+use Rattle.hum_score.specs.Spelling.{IsToken}
 use Rattle.hum_record.proofs.Drafts.{draft_more, draft_length, more_tokens, not_spent}
 use Rattle.hum_record.proofs.building.RecordBuilder.push_near.Goals as goal
 

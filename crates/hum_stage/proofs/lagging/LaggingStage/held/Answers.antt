@@ -1,5 +1,5 @@
 use Rattle.std.proofs.Common.{◌∙◌, sym, refl, ap, arith, Option}
-use Rattle.hum_record.specs.Row.{Row}
+use Rattle.hum_score.specs.Row.{Row}
 use Rattle.hum_stage.specs.Settles.{with_due}
 use Rattle.hum_stage.proofs.Lags.{held_stopped, held_open, held_few, due_none, due_some}
 use Rattle.hum_stage.proofs.lagging.LaggingStage.held.Goals as goal

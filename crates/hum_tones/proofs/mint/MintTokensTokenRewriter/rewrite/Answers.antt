@@ -1,4 +1,4 @@
-use Rattle.hum_record.specs.declared.SpinedKind.TheVariants.{Values}
+use Rattle.hum_score.specs.declared.records.SpinedKind.TheVariants.{Values}
 use Rattle.hum_record.specs.RecordDraft.{Holds}
 use Rattle.hum_tones.proofs.MintSteps.{within_new, has_rewritten}
 use Rattle.hum_tones.proofs.mint.MintTokensTokenRewriter.rewrite.Goals as goal

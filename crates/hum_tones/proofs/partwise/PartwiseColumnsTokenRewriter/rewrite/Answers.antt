@@ -1,4 +1,4 @@
-use Rattle.hum_record.specs.declared.SpinedKind.TheVariants.{Values}
+use Rattle.hum_score.specs.declared.records.SpinedKind.TheVariants.{Values}
 use Rattle.hum_record.specs.RecordDraft.{Holds}
 use Rattle.hum_tones.proofs.Told.{rewritten_given}
 use Rattle.hum_tones.proofs.partwise.PartwiseColumnsTokenRewriter.rewrite.Goals as goal

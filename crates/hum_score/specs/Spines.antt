@@ -1,15 +1,13 @@
 -- The spines, and what a record does to them.
-use Rattle.std.specs.Prelude.{ℕ, zero, suc, ◌+◌, ◌==◌, Bool, true, false, if◌then◌else◌}
-use Rattle.std.specs.Prelude.{List, [], ◌∷◌, ◌++◌, map, length, slice_index_or, Option, None, Some}
-use Rattle.std.specs.declared.vec.Vec.{Vec}
-use Rattle.std.specs.declared.alloc.Global.{Global}
-use Rattle.hum_record.specs.declared.SpinedKind.TheVariants.{Interpretation}
-use Rattle.hum_record.specs.Row.{Row, Comment, Spined}
-use Rattle.hum_path.specs.declared.signs.Sign.{Sign}
-use Rattle.hum_path.specs.declared.signs.Sign.TheVariants.{Split, Join, Exchange, Add, End, Exclusive, Plain}
-use Rattle.hum_path.specs.declared.moved.Move.{Move}
-use Rattle.hum_path.specs.declared.moved.Move.TheVariants.{Same, Left, Right, Join as Joined, Added}
-use Rattle.hum_path.specs.Sign.{sign_of, is_join, is_exchange, is_exclusive}
+use Rattle.std.specs.Prelude.{ℕ, zero, suc, ◌+◌, ◌==◌, Bool, false, if◌then◌else◌}
+use Rattle.std.specs.Prelude.{List, [], ◌∷◌, ◌++◌, map, length, slice_index_or}
+use Rattle.hum_score.specs.declared.records.SpinedKind.TheVariants.{Interpretation}
+use Rattle.hum_score.specs.Row.{Row, Comment, Spined}
+use Rattle.hum_score.specs.declared.spines.Sign.{Sign}
+use Rattle.hum_score.specs.declared.spines.Sign.TheVariants.{Split, Join, Exchange, Add, End, Exclusive, Plain}
+use Rattle.hum_score.specs.declared.spines.Move.{Move}
+use Rattle.hum_score.specs.declared.spines.Move.TheVariants.{Same, Left, Right, Join as Joined, Added}
+use Rattle.hum_score.specs.Sign.{sign_of, is_join, is_exchange, is_exclusive}
 
 -- Where the spines stand after some records: not opened yet, or each spine by its exclusive
 -- interpretation, which is empty for an added spine that hasn't one yet. After the last spine's
@@ -109,21 +107,3 @@ abbrev pub after : Path → Row → Path
 after path (Comment text) = path
 after path (Spined Interpretation tokens) = Spines (names_after path tokens)
 after path (Spined kind tokens) = path
-
--- the spines, and whether memory ran out
-pub record Tracked : Type 0 where
-  pub path : Path
-  pub spent : Bool
-
-abbrev pub path_in : Bool → List (List ℕ) → Path
-path_in false names = Unopened
-path_in true names = Spines names
-
--- vectors of bytes, as lists
-abbrev pub texts : List (Vec ℕ Global) → List (List ℕ)
-texts = map (λ v. v.items)
-
--- moves that were listed, or so many spines that stay where they are
-abbrev pub moves_in : Option (Vec Move Global) → ℕ → List Move
-moves_in None width = same_upto 0 width
-moves_in (Some listed) width = listed.items

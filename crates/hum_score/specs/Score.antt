@@ -1,11 +1,11 @@
 -- Lists of records, the newest first, and the spines after them.
 use Rattle.std.specs.Prelude.{◌≡◌, ℕ, ◌+◌, false, length, if◌then◌else◌}
 use Rattle.std.specs.Prelude.{List, [], ◌∷◌, Option, None, Some}
-use Rattle.hum_record.specs.Row.{Row}
-use Rattle.hum_path.specs.declared.PathFault.{PathFault}
-use Rattle.hum_path.specs.declared.PathFault.TheVariants.{P8}
-use Rattle.hum_path.specs.Spines.{Path, Unopened, Spines, exclusives, after}
-use Rattle.hum_path.specs.Rules.{fault_of, is_unfinished}
+use Rattle.hum_score.specs.Row.{Row}
+use Rattle.hum_score.specs.declared.spines.PathFault.{PathFault}
+use Rattle.hum_score.specs.declared.spines.PathFault.TheVariants.{P8}
+use Rattle.hum_score.specs.Spines.{Path, Unopened, Spines, exclusives, after}
+use Rattle.hum_score.specs.Rules.{fault_of, is_unfinished}
 
 -- the spines after records
 abbrev pub path_after : List Row → Path

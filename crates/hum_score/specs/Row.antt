@@ -1,11 +1,11 @@
 -- Records as a reader sees them, and their texts.
 use Rattle.std.specs.Prelude.{ℕ, Bool, true, false, List, [], ◌∷◌, length, slice_index_or}
 use Rattle.std.specs.List.{join_with_byte}
-use Rattle.hum_record.specs.declared.Kind.{Kind}
-use Rattle.hum_record.specs.declared.Kind.TheVariants.{Global, Local as AnyLocal}
-use Rattle.hum_record.specs.declared.Kind.TheVariants.{Interpretation as AnyInterpretation, Values as AnyValues}
-use Rattle.hum_record.specs.declared.SpinedKind.{SpinedKind}
-use Rattle.hum_record.specs.declared.SpinedKind.TheVariants.{Local, Interpretation, Values}
+use Rattle.hum_score.specs.declared.records.Kind.{Kind}
+use Rattle.hum_score.specs.declared.records.Kind.TheVariants.{Global, Local as AnyLocal}
+use Rattle.hum_score.specs.declared.records.Kind.TheVariants.{Interpretation as AnyInterpretation, Values as AnyValues}
+use Rattle.hum_score.specs.declared.records.SpinedKind.{SpinedKind}
+use Rattle.hum_score.specs.declared.records.SpinedKind.TheVariants.{Local, Interpretation, Values}
 
 -- A global comment by its text, or a record of a kind with one token for each spine.
 pub data Row : Type 0 where

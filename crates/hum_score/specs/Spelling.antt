@@ -3,11 +3,11 @@ use Rattle.std.specs.Prelude.{◌≡◌, ◌≢◌, ◌≤◌, ℕ, Bool, true, 
 use Rattle.std.specs.Prelude.{List, [], ◌∷◌, Result, Ok, Err, length, IsTrue, if◌then◌else◌}
 use Rattle.std.specs.List.{list_any, starts_with, slice_split, join_with_byte, AllByRecursion}
 use lib.Chars.{codes}
-use Rattle.hum_record.specs.declared.SpinedKind.{SpinedKind}
-use Rattle.hum_record.specs.declared.SpinedKind.TheVariants.{Local, Interpretation, Values}
-use Rattle.hum_record.specs.declared.RecordFault.{RecordFault}
-use Rattle.hum_record.specs.declared.RecordFault.TheVariants.{S4, S5, S6, S8, L1, Memory}
-use Rattle.hum_record.specs.Row.{Row, Comment, Spined}
+use Rattle.hum_score.specs.declared.records.SpinedKind.{SpinedKind}
+use Rattle.hum_score.specs.declared.records.SpinedKind.TheVariants.{Local, Interpretation, Values}
+use Rattle.hum_score.specs.declared.records.RecordFault.{RecordFault}
+use Rattle.hum_score.specs.declared.records.RecordFault.TheVariants.{S4, S5, S6, S8, L1, Memory}
+use Rattle.hum_score.specs.Row.{Row, Comment, Spined}
 
 -- whether a byte stands in a text
 abbrev pub has_byte : ℕ → List ℕ → Bool

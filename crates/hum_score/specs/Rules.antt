@@ -4,14 +4,14 @@ use Rattle.std.specs.Prelude.{List, [], ◌∷◌, map, length, Option, None, So
 use Rattle.std.specs.List.{list_any, list_all, find}
 use Rattle.std.specs.Str.{bytes_eq}
 use lib.Chars.{codes}
-use Rattle.hum_record.specs.declared.SpinedKind.TheVariants.{Interpretation}
-use Rattle.hum_record.specs.Spelling.{is_empty}
-use Rattle.hum_record.specs.Row.{Row, Comment, Spined}
-use Rattle.hum_path.specs.declared.signs.Sign.{Sign}
-use Rattle.hum_path.specs.declared.PathFault.{PathFault}
-use Rattle.hum_path.specs.declared.PathFault.TheVariants.{P1, P2, P3, P4, P5, P6, P7, P9, P10, P11, Memory}
-use Rattle.hum_path.specs.Sign.{sign_of, is_join, is_exclusive, is_path_indicator}
-use Rattle.hum_path.specs.Spines.{Path, Unopened, Spines, exchanges, moves_under}
+use Rattle.hum_score.specs.declared.records.SpinedKind.TheVariants.{Interpretation}
+use Rattle.hum_score.specs.Spelling.{is_empty}
+use Rattle.hum_score.specs.Row.{Row, Comment, Spined}
+use Rattle.hum_score.specs.declared.spines.Sign.{Sign}
+use Rattle.hum_score.specs.declared.spines.PathFault.{PathFault}
+use Rattle.hum_score.specs.declared.spines.PathFault.TheVariants.{P1, P2, P3, P4, P5, P6, P7, P9, P10, P11, Memory}
+use Rattle.hum_score.specs.Sign.{sign_of, is_join, is_exclusive, is_path_indicator}
+use Rattle.hum_score.specs.Spines.{Path, Unopened, Spines, exchanges, moves_under}
 
 abbrev pub first_is : (Sign → Bool) → List Sign → Bool
 first_is test [] = false
