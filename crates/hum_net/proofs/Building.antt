@@ -6,7 +6,7 @@ use Rattle.hum_plan.specs.declared.stages.PlanStage.{PlanStage}
 use Rattle.hum_plan.specs.Stages.{Stage}
 use Rattle.hum_plan.specs.Seen.{options_of, stage_of, stages_of}
 use Rattle.std.specs.Prelude.{Option}
-use Rattle.hum_net.specs.Nodes.{AllFrom, AreTold, AreNarrow, reads_by, reads_of}
+use Rattle.hum_net.specs.Nodes.{AllFrom, AreTold, AreNarrow, readers_by, readers_of}
 
 -- one stage more, and its node
 all_push : {N : Type 0} (Holds : ℕ → PlanStage → N → Type 0) (k : ℕ) (stages : List PlanStage) (nodes : List N)
@@ -36,13 +36,13 @@ pub record Built {N R : Type 0} (Holds : ℕ → PlanStage → N → Type 0)
   pub made : AllFrom Holds 0 front nodes
   pub told : (bytes : ℕ → List ℕ) → AreTold remaining bytes 0 (stages_of all) readers
       → AllFrom (Tell bytes) 0 front nodes × AreTold remaining bytes (length front) (stages_of rest) left
-  pub many : reads_of (stages_of rest) ≡ length left
+  pub many : readers_of (stages_of rest) ≡ length left
   pub narrow : AreNarrow rest
 
 module _ {N R : Type 0} {Holds : ℕ → PlanStage → N → Type 0} {Tell : (ℕ → List ℕ) → ℕ → PlanStage → N → Type 0}
     {remaining : R → Option (List ℕ)} {all : List PlanStage} {readers : List R} where
   -- None was made yet.
-  pub none_built : reads_of (stages_of all) ≡ length readers → AreNarrow all
+  pub none_built : readers_of (stages_of all) ≡ length readers → AreNarrow all
       → Built Holds Tell remaining all all readers readers []
   none_built count narrow = record {
     front = [];
@@ -58,7 +58,7 @@ module _ {N R : Type 0} {Holds : ℕ → PlanStage → N → Type 0} {Tell : (�
       → Built Holds Tell remaining all (stage ∷ rest) readers left nodes → k ≡ length nodes → Holds k stage node
       → ((bytes : ℕ → List ℕ) (stages : List Stage) → AreTold remaining bytes k (stage_of stage ∷ stages) left
       → Tell bytes k stage node × AreTold remaining bytes (k + 1) stages more)
-      → length more + reads_by (options_of stage.options) ≡ length left
+      → length more + readers_by (options_of stage.options) ≡ length left
       → Built Holds Tell remaining all rest readers more (nodes ++ node ∷ [])
   one_built {stage} {rest} {left} {more} {nodes} {node} {k} b count here told used =
       let n = all_length Holds 0 b.front nodes b.made in

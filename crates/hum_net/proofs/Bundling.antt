@@ -16,7 +16,7 @@ use Rattle.hum_plan.specs.Grammar.{IsPlanOf}
 use Rattle.hum_net.specs.declared.bundles.HeldScore.{HeldScore}
 use Rattle.hum_net.specs.declared.outcome.Outcome.{Outcome}
 use Rattle.hum_net.specs.declared.outcome.Outcome.TheVariants as outcome
-use Rattle.hum_net.specs.Nodes.{reads_by, reads_of, ToldBy, AreTold}
+use Rattle.hum_net.specs.Nodes.{readers_by, readers_of, ToldBy, AreTold}
 use Rattle.hum_net.specs.Bundles.{score_by, bytes_by, or_empty, first_lacking, Adds, LacksHere}
 use Rattle.hum_net.specs.Bundles.{LacksNow, IsRefusal, ComesOfBundle}
 use Rattle.hum_net.specs.Bundles.{is_failed_write, is_read_by, Picks, Ends}
@@ -44,14 +44,14 @@ pub record Filled {R : Type 0} (remaining : R → Option (List ℕ)) (score : Li
   pub tells : (rest : List R)
       → AreTold remaining (bytes_by score (stages_of stages)) k (stages_of (drop k stages)) rest
       → AreTold remaining (bytes_by score (stages_of stages)) 0 (stages_of stages) (readers ++ rest)
-  pub count : reads_of (stages_of stages) ≡ length readers + reads_of (stages_of (drop k stages))
+  pub count : readers_of (stages_of stages) ≡ length readers + readers_of (stages_of (drop k stages))
   pub lacks : first_lacking score 1 (stages_of stages)
       ≡ first_lacking score (suc k) (stages_of (drop k stages))
 
 -- All are there.
 pub record AllFilled {R : Type 0} (remaining : R → Option (List ℕ)) (score : List ℕ → Option (List ℕ))
     (stages : List PlanStage) (readers : List R) : Type 0 where
-  pub count : reads_of (stages_of stages) ≡ length readers
+  pub count : readers_of (stages_of stages) ≡ length readers
   pub there : first_lacking score 1 (stages_of stages) ≡ None
   pub told : AreTold remaining (bytes_by score (stages_of stages)) 0 (stages_of stages) readers
 
@@ -61,7 +61,7 @@ record Adding {R : Type 0} (remaining : R → Option (List ℕ)) (score : List �
   front : List R
   along : old ++ front ≡ new ++ rest
   told : ToldBy remaining bytes options Rest front
-  longer : length new ≡ length old + reads_by options
+  longer : length new ≡ length old + readers_by options
   there : is_none (score_by score options) ≡ false
 
 module _ {R : Type 0} {remaining : R → Option (List ℕ)} {score : List ℕ → Option (List ℕ)} where
@@ -94,7 +94,7 @@ module _ {R : Type 0} {remaining : R → Option (List ℕ)} {score : List ℕ �
       let front = rest_of stages k here in
       let one = adding (options_of stage.options) (λ xs. Unit {0}) old new [] refl adds tt in
       let longer = one.longer in
-      let count = filled.count ∙ ap (λ s. length old + reads_of (stages_of s)) front in
+      let count = filled.count ∙ ap (λ s. length old + readers_of (stages_of s)) front in
       let lacks = filled.lacks ∙ ap (λ s. first_lacking score (suc k) (stages_of s)) front in
       let behind = first_lacking score (suc (suc k)) (stages_of (drop (suc k) stages)) in
       let next : suc k ≡ k + 1 = omega arith in
@@ -124,7 +124,7 @@ module _ {R : Type 0} {remaining : R → Option (List ℕ)} {score : List ℕ �
   filled_all {stages} {k} {readers} filled past =
       let none : drop k stages ≡ [] = drop_all k stages past in
       record {
-        count = filled.count ∙ ap (λ s. length readers + reads_of (stages_of s)) none ∙ omega arith;
+        count = filled.count ∙ ap (λ s. length readers + readers_of (stages_of s)) none ∙ omega arith;
         there = filled.lacks ∙ ap (λ s. first_lacking score (suc k) (stages_of s)) none;
         told = subst (AreTold remaining (bytes_by score (stages_of stages)) 0 (stages_of stages))
             (append-nil readers)

@@ -22,7 +22,7 @@ use Rattle.hum_nodes.specs.Trees.{Part, kind_of, part_at, plan_of, meaning_of, e
 use Rattle.hum_plan.specs.Stages as plan
 use Rattle.hum_plan.specs.Seen.{stages_of, stage_of}
 use Rattle.hum_plan.specs.declared.stages.PlanStage.{PlanStage}
-use Rattle.hum_net.specs.Parts.{part_of, parts_of, AreSoundFrom, AllGiveScores, AllKeepRecords}
+use Rattle.hum_net.specs.Parts.{part_of, parts_of, AreSoundFrom, AllGiveScores}
 use Rattle.hum_net.specs.Nodes.{AllFrom, Fits, Tells}
 use Rattle.hum_engine.proofs.Appending.{appends_none}
 use Rattle.hum_valid.specs.Records.{AreRecords}
@@ -139,11 +139,11 @@ pub record MeansValid (bytes : ℕ → List ℕ) (stages : List plan.Stage) : Ty
   pub valid : AllGiveScores stages → IsValid (meaning_of (parts_of bytes stages))
 
 pub means_valid : (bytes : ℕ → List ℕ) (stages : List plan.Stage) → plan.IsTree stages → AreSoundFrom 0 stages
-    → AllKeepRecords stages → MeansValid bytes stages
-means_valid bytes stages tree sound keeps =
+    → MeansValid bytes stages
+means_valid bytes stages tree sound =
     let parts = parts_of bytes stages in
     let is = is_tree bytes stages tree sound in
-    let records = plan_records bytes stages is keeps in
+    let records = plan_records bytes stages is sound in
     record {
       end = whose_fault _ (is_plan parts is) (is_numbered parts is);
       records = records;

@@ -18,6 +18,7 @@ use Rattle.hum_plan.specs.Seen.{options_of as said_by}
 use Rattle.hum_plan.specs.declared.stages.Options.{Options}
 use Rattle.hum_plan.specs.declared.stages.Options.TheVariants as said
 use Rattle.hum_plan.specs.declared.stages.PlanStage.{PlanStage}
+use Rattle.hum_valid.specs.Records.{KeepsRecords}
 use Rattle.hum_net.specs.Parts.{IsSoundBy, first_of, part_by}
 use Rattle.hum_net.specs.Nodes.{Fits}
 
@@ -26,9 +27,9 @@ numbered n (told.Rid options) = refl
 numbered n _ = refl
 
 is_sound : (n : ℕ) (options : CommandOptions) → IsLawful (meaning n options)
-    → (MakesScores options → KeepsScore (meaning n options).outcomes)
+    → (MakesScores options → KeepsScore (meaning n options).outcomes) → KeepsRecords (meaning n options).outcomes
     → IsSoundBy n (plan.Takes (options_of options))
-is_sound n options lawful keeps = (lawful, numbered n options, keeps)
+is_sound n options lawful keeps records = (lawful, numbered n options, keeps, records)
 
 -- what fits a stage of these sources and options
 abbrev FitsBy : {S R : Type 0} → Commands S → ℕ → List ℕ → plan.Options → Node S R → Type 0
@@ -49,14 +50,14 @@ module _ {S R : Type 0} (commands : Commands S) (k number : ℕ) (stage : PlanSt
       → stage.options ≡ said.Command options → stage.sources.items ≡ sources → source ≡ first_of sources
       → ((rest : List ℕ) → StandsAs commands.stands node rest (fresh (single source (meaning number options))))
       → IsLawful (meaning number options)
-      → (MakesScores options → KeepsScore (meaning number options).outcomes) → number ≡ k + 1
-      → Fits commands k stage node
-  command_fits sources options source node told at first fits lawful keeps is =
+      → (MakesScores options → KeepsScore (meaning number options).outcomes)
+      → KeepsRecords (meaning number options).outcomes → number ≡ k + 1 → Fits commands k stage node
+  command_fits sources options source node told at first fits lawful keeps records is =
       let At : ℕ → List ℕ → ℕ → Type 0 = λ s rest n.
       StandsAs commands.stands node rest (fresh (single s (meaning n options))) in
       by_parts sources (said.Command options) node told at (
         λ bytes. subst (λ s. At s bytes (k + 1)) first (subst (At source bytes) is (fits bytes)),
-        subst (λ n. IsSoundBy n (plan.Takes (options_of options))) is (is_sound number options lawful keeps),
+        subst (λ n. IsSoundBy n (plan.Takes (options_of options))) is (is_sound number options lawful keeps records),
       )
 
   -- of assemble

@@ -16,7 +16,7 @@ use Rattle.hum_nodes.specs.Trees.{Part, Reads, Through, Beside, kind_of, kind_at
 use Rattle.hum_nodes.proofs.TreeLaws.{is_plan}
 use Rattle.hum_plan.specs.Stages as plan
 use Rattle.hum_net.specs.Parts.{parts_of, AreSoundFrom}
-use Rattle.hum_net.specs.Nodes.{reads_by, reads_of}
+use Rattle.hum_net.specs.Nodes.{readers_by, readers_of}
 use Rattle.hum_net.proofs.Treeing.{is_tree, parts_length, few_sources}
 
 few_by_fine : (stage : Stage Row) → KeepsFine fine stage → IsLimited stage
@@ -64,16 +64,16 @@ is_net_plan bytes stages size h sound some =
 -- One reader for each stage that reads a score.
 
 count_by : (k : ℕ) (options : plan.Options) (rest : List plan.ReadStage) (n : ℕ) → length rest ≡ n
-    → length (plan.with_read_stage k options rest) ≡ reads_by options + n
+    → length (plan.with_read_stage k options rest) ≡ readers_by options + n
 count_by k (plan.Read name) rest n h = omega (arith, h)
 count_by k plan.Assemble rest n h = omega (arith, h)
 count_by k (plan.Takes options) rest n h = omega (arith, h)
 
-counted_from : (k : ℕ) (stages : List plan.Stage) → length (plan.reads_behind k stages) ≡ reads_of stages
+counted_from : (k : ℕ) (stages : List plan.Stage) → length (plan.reads_behind k stages) ≡ readers_of stages
 counted_from k [] = refl
 counted_from k (stage ∷ stages) =
-    count_by (k + 1) stage.options (plan.reads_behind (k + 1) stages) (reads_of stages)
+    count_by (k + 1) stage.options (plan.reads_behind (k + 1) stages) (readers_of stages)
     (counted_from (k + 1) stages)
 
-pub counted : (stages : List plan.Stage) → length (plan.reads_of stages) ≡ reads_of stages
+pub counted : (stages : List plan.Stage) → length (plan.reads_of stages) ≡ readers_of stages
 counted stages = counted_from 0 stages

@@ -9,26 +9,27 @@ use Rattle.hum_valid.specs.Trees.{Keeps, AllKeep}
 use Rattle.hum_valid.proofs.Again.{read_again}
 use Rattle.hum_valid.proofs.Trees.{tree_records}
 use Rattle.hum_plan.specs.Stages as plan
-use Rattle.hum_net.specs.Parts.{part_by, parts_from, parts_of, KeepsRecordsBy, AllKeepRecords}
+use Rattle.hum_net.specs.Parts.{part_by, parts_from, parts_of, IsSoundBy, AreSoundFrom}
 use Rattle.hum_net.specs.Runs.{IsValid}
 
 -- the stages of a plan
 
-keeps_by : (k : ℕ) (bytes sources : List ℕ) (options : plan.Options) → KeepsRecordsBy options → Keeps (part_by k bytes sources options)
+keeps_by : (k : ℕ) (bytes sources : List ℕ) (options : plan.Options) → IsSoundBy (k + 1) options
+    → Keeps (part_by k bytes sources options)
 keeps_by k bytes sources (plan.Read name) h = tt
 keeps_by k bytes sources plan.Assemble h = tt
-keeps_by k bytes sources (plan.Takes options) h = h (k + 1)
+keeps_by k bytes sources (plan.Takes options) h = h.3
 
-parts_keep : (from : ℕ) (bytes : ℕ → List ℕ) (stages : List plan.Stage) → AllKeepRecords stages
+parts_keep : (from : ℕ) (bytes : ℕ → List ℕ) (stages : List plan.Stage) → AreSoundFrom from stages
     → AllKeep (parts_from from bytes stages)
 parts_keep from bytes [] h = tt
 parts_keep from bytes (stage ∷ stages) h =
     (keeps_by from (bytes from) stage.sources stage.options h.0, parts_keep (suc from) bytes stages h.1)
 
-pub plan_records : (bytes : ℕ → List ℕ) (stages : List plan.Stage) → IsTree (parts_of bytes stages) → AllKeepRecords stages
+pub plan_records : (bytes : ℕ → List ℕ) (stages : List plan.Stage) → IsTree (parts_of bytes stages) → AreSoundFrom 0 stages
     → AreRecords (meaning_of (parts_of bytes stages)).items
-plan_records bytes stages tree keeps =
-    tree_records (parts_of bytes stages) tree (parts_keep 0 bytes stages keeps)
+plan_records bytes stages tree sound =
+    tree_records (parts_of bytes stages) tree (parts_keep 0 bytes stages sound)
 
 -- a score of lawful records
 pub valid : (f : Flow Row) → AreRecords f.items → IsFine 4294967295 f → IsValid f

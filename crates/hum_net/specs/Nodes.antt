@@ -11,14 +11,14 @@ use Rattle.hum_nodes.specs.Trees.{kind_of}
 use Rattle.hum_net.specs.Parts.{part_of, IsSoundBy}
 
 -- how many readers a stage has, and how many some stages have
-abbrev pub reads_by : Options → ℕ
-reads_by (Read name) = 1
-reads_by Assemble = 0
-reads_by (Takes options) = 0
+abbrev pub readers_by : Options → ℕ
+readers_by (Read name) = 1
+readers_by Assemble = 0
+readers_by (Takes options) = 0
 
-abbrev pub reads_of : List Stage → ℕ
-reads_of [] = 0
-reads_of (stage ∷ stages) = reads_by stage.options + reads_of stages
+abbrev pub readers_of : List Stage → ℕ
+readers_of [] = 0
+readers_of (stage ∷ stages) = readers_by stage.options + readers_of stages
 
 -- Something holds of each stage, from stage k on, and its node.
 abbrev pub AllFrom : {N : Type 0} → (ℕ → PlanStage → N → Type 0) → ℕ → List PlanStage → List N

@@ -1,6 +1,5 @@
 -- What the stages of a plan read from and do.
 use Rattle.std.specs.Prelude.{◌≡◌, ℕ, suc, pred, ◌+◌, false, List, [], ◌∷◌, map}
-use Rattle.std.specs.List.{AllByRecursion}
 use Rattle.hum_stage.specs.Meaning.{IsLawful, KeepsScore}
 use Rattle.hum_commands.specs.Meaning.{means}
 use Rattle.hum_plan.specs.Stages.{Stage, Options, Read, Assemble, Takes}
@@ -38,21 +37,14 @@ AllGiveScores stages = (k : ℕ) (stage : Stage) → IsStage stages k stage
     → drops_interpretations stage.options ≡ false
 
 -- What its command means keeps to the contract of stages; of scores it makes scores, unless it drops
--- all interpretations.
+-- all interpretations, and of lawful records lawful records.
 abbrev pub IsSoundBy : ℕ → Options → Type 0
 IsSoundBy number (Takes options) =
     IsLawful (means number options)
     × ((means number options).stage ≡ number)
     × (drops_interpretations (Takes options) ≡ false → KeepsScore (means number options).outcomes)
+    × KeepsRecords (means number options).outcomes
 IsSoundBy number _ = Unit {0}
-
--- Of lawful records it makes lawful records.
-abbrev pub KeepsRecordsBy : Options → Type 0
-KeepsRecordsBy (Takes options) = (number : ℕ) → KeepsRecords (means number options).outcomes
-KeepsRecordsBy _ = Unit {0}
-
-abbrev pub AllKeepRecords : List Stage → Type 0
-AllKeepRecords = AllByRecursion (λ stage. KeepsRecordsBy stage.options)
 
 -- what is sound of stage k and those behind it
 abbrev pub AreSoundFrom : ℕ → List Stage → Type 0

@@ -6,7 +6,7 @@ ghost use Rattle.hum_plan.specs.Seen.{stages_of, options_of};
 ghost use Rattle.hum_plan.specs.Grammar.{IsPlanOf};
 ghost use Rattle.hum_turns.specs.Ordering.{order_of};
 ghost use Rattle.hum_words.specs.Bundle.{largest, plan_of, score_of};
-ghost use Rattle.hum_net.specs.Nodes.{AreTold, reads_of};
+ghost use Rattle.hum_net.specs.Nodes.{AreTold, readers_of};
 ghost use Rattle.hum_net.specs.Bundles.{ComesOfBundle, LacksNow, IsRefusal, is_refused};
 ghost use Rattle.hum_net.specs.Bundles.{LacksHere, Adds, bytes_by, first_lacking, Picks, Ends};
 ghost use Rattle.hum_net.specs.Bundles.{is_failed_write, is_read_by};
@@ -124,7 +124,7 @@ fn readers<'a>(
     stages: &[PlanStage],
 ) -> Result<Vec<HeldScore<'a>>, Outcome>
     requires { length stages.now ≤ 64 }
-    ensures count { IfOk result (λ readers. reads_of (stages_of stages.now) ≡ length readers.items) }
+    ensures count { IfOk result (λ readers. readers_of (stages_of stages.now) ≡ length readers.items) }
     ensures there { OnOk result
         (first_lacking (λ name. score_of name bundle.entry.now) 1 (stages_of stages.now) ≡ None) }
     ensures told { IfOk result (λ readers. AreTold ⟦<HeldScore<'a> as Source>⟧.remaining

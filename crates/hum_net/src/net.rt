@@ -12,7 +12,7 @@ ghost use Rattle.hum_engine.specs.Readers.{failed_at, is_read_of, is_write};
 ghost use Rattle.hum_engine.specs.Nets.{NetAt, Tells, HasTurned, RunsBy, WroteFront};
 ghost use Rattle.hum_engine.specs.Nets.{CallsSink, AtEach, HadFewEach, IsLinked};
 ghost use Rattle.hum_turns.specs.Plan.{last};
-ghost use Rattle.hum_net.specs.Nodes.{AreTold, reads_of};
+ghost use Rattle.hum_net.specs.Nodes.{AreTold, readers_of};
 ghost use Rattle.hum_net.specs.Parts.{AreSoundFrom};
 ghost use Rattle.hum_net.specs.Scenes.{scene_of, first_now, IsReadyNow};
 
@@ -57,7 +57,7 @@ impl<R: Source + Drop, W: Sink, S: OfOptions + Drop> Net<R, W, S> {
         link: u16,
     ) -> Result<Net<R, W, S>, W>
         requires tree { IsTree (stages_of stages.items) }
-        requires readers { reads_of (stages_of stages.items) ≡ length readers.items }
+        requires readers { readers_of (stages_of stages.items) ≡ length readers.items }
         requires link { 1 ≤ link }
         requires room { link ≤ 4096 }
         ensures opens { IfOk result (λ net. (bytes : ℕ → List ℕ)

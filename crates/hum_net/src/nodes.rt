@@ -5,7 +5,8 @@ ghost use Rattle.hum_plan.specs.Seen.{options_of, stage_of, stages_of};
 ghost use Rattle.hum_net.specs.Parts.{first_of};
 ghost use Rattle.hum_stage.specs.Meaning.{opening, KeepsScore};
 ghost use Rattle.hum_commands.specs.Meaning.{meaning, MakesScores};
-ghost use Rattle.hum_net.specs.Nodes.{AllFrom, Fits, Tells, AreTold, reads_by, reads_of};
+ghost use Rattle.hum_valid.specs.Records.{KeepsRecords};
+ghost use Rattle.hum_net.specs.Nodes.{AllFrom, Fits, Tells, AreTold, readers_by, readers_of};
 
 use hum_choices::CommandOptions;
 use hum_commands::CommandStage;
@@ -13,6 +14,7 @@ use hum_nodes::Node;
 use hum_plan::{Options, PlanStage};
 use hum_stage::Stage;
 use hum_text::calls::Source;
+use hum_valid::commands_keep_records;
 use std::alloc::{AllocError, Global};
 use std::collections::VecDeque;
 
@@ -24,11 +26,15 @@ pub(crate) trait OfOptions: Stage {
         ensures stands { Self.stands result (opening (meaning number options)) }
 
         // Of scores it makes scores.
-        ensures keeps { MakesScores options → KeepsScore (meaning number options).outcomes };
+        ensures keeps { MakesScores options → KeepsScore (meaning number options).outcomes }
+
+        // Of lawful records that are a score it makes lawful records.
+        ensures records { KeepsRecords (meaning number options).outcomes };
 }
 
 impl OfOptions for CommandStage {
     fn of_options(alloc: Global, number: u8, options: CommandOptions) -> CommandStage {
+        commands_keep_records(&options);
         CommandStage::new(alloc, number, options)
     }
 }
@@ -67,8 +73,8 @@ fn plan_node<S: OfOptions + Drop, R: Source + Drop>(
 ) -> Result<Node<S, R>, AllocError>
     requires few { k < 64 }
     requires narrow { length stage.sources.items ≤ 15 }
-    requires reader { reads_by (options_of stage.options) ≤ length readers.old.items }
-    ensures left { length readers.new.items + reads_by (options_of stage.options)
+    requires reader { readers_by (options_of stage.options) ≤ length readers.old.items }
+    ensures left { length readers.new.items + readers_by (options_of stage.options)
         ≡ length readers.old.items }
     ensures fits { IfOk result (Fits S.Stage k stage) }
     ensures told { IfOk result (λ made. (bytes : ℕ → List ℕ) (stages : List TreeStage)
@@ -101,7 +107,7 @@ pub(crate) fn plan_nodes<S: OfOptions + Drop, R: Source + Drop>(
     readers: Vec<R>,
 ) -> Result<Vec<Node<S, R>>, AllocError>
     requires tree { IsTree (stages_of stages.items) }
-    requires readers { reads_of (stages_of stages.items) ≡ length readers.items }
+    requires readers { readers_of (stages_of stages.items) ≡ length readers.items }
     ensures fits { IfOk result (λ nodes. AllFrom (Fits S.Stage) 0 stages.items nodes.items) }
     ensures told { IfOk result (λ nodes. (bytes : ℕ → List ℕ)
         → AreTold R.remaining bytes 0 (stages_of stages.items) readers.items

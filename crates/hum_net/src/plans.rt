@@ -1,6 +1,6 @@
 //! Nets of plans: their stages are those of commands.
 ghost use Rattle.std.specs.Prelude.{◌≡◌, ◌≤◌, ℕ, List, None, length, IfOk, IfErr};
-ghost use Rattle.hum_plan.specs.Stages.{reads_of as read_stages};
+ghost use Rattle.hum_plan.specs.Stages.{reads_of};
 ghost use Rattle.hum_engine.specs.Nets.{NetAt, Tells};
 ghost use Rattle.hum_net.specs.Nodes.{AreTold};
 ghost use Rattle.hum_net.specs.Scenes.{commands, scene_of, first_now};
@@ -23,7 +23,7 @@ impl<R: Source + Drop, W: Sink> Net<R, W> {
         writer: W,
         link: u16,
     ) -> Result<Net<R, W>, W>
-        requires readers { length (read_stages plan) ≡ length readers.items }
+        requires readers { length (reads_of plan) ≡ length readers.items }
         requires link { 1 ≤ link }
         requires room { link ≤ 4096 }
 

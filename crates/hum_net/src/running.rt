@@ -1,39 +1,17 @@
 //! Runs of plans.
 ghost use Rattle.std.specs.Prelude.{◌≡◌, ◌≤◌, ◌||◌, ◌⊎◌, ℕ, false, List, Some, length};
 ghost use Rattle.hum_plan.specs.Stages.{IsTree};
-ghost use Rattle.hum_plan.specs.Seen.{stages_of, options_of};
+ghost use Rattle.hum_plan.specs.Seen.{stages_of};
 ghost use Rattle.hum_turns.specs.Ordering.{order_of};
 ghost use Rattle.hum_engine.specs.Readers.{is_write, is_read_of};
-ghost use Rattle.hum_net.specs.Nodes.{AreTold, reads_of};
-ghost use Rattle.hum_net.specs.Parts.{KeepsRecordsBy, AllKeepRecords};
+ghost use Rattle.hum_net.specs.Nodes.{AreTold, readers_of};
 ghost use Rattle.hum_net.specs.Runs.{HasWritten, HasPicked, HasEnded, HasDriven, IsUnasked};
 
 use crate::net::Net;
-use hum_plan::{Options, PlanStage};
+use hum_plan::PlanStage;
 use hum_text::calls::{Sink, Source};
 use hum_turns::{Order, RunResult};
-use hum_valid::commands_keep_records;
 use std::alloc::Global;
-
-/// What a stage does makes lawful records of lawful records.
-fn keeps_records(stage: &PlanStage)
-    ensures { KeepsRecordsBy (options_of stage.now.options) }
-{
-    match &stage.options {
-        Options::Command(options) => commands_keep_records(options),
-        Options::Read(_) => (),
-        Options::Assemble => (),
-    }
-}
-
-/// So does each of several stages.
-fn all_keep_records(stages: &[PlanStage])
-    ensures { AllKeepRecords (stages_of stages.now) }
-{
-    for stage in stages {
-        keeps_records(stage);
-    }
-}
 
 /// Runs the stages of a plan, with a reader for each that reads a score, in their order, and links
 /// that hold so many records. The sink is handed back with how the run ended.
@@ -46,7 +24,7 @@ pub fn run_stages<R: Source + Drop, O: Order, W: Sink + Drop>(
     sink: W,
 ) -> (RunResult, W)
     requires tree { IsTree (stages_of stages.items) }
-    requires readers { reads_of (stages_of stages.items) ≡ length readers.items }
+    requires readers { readers_of (stages_of stages.items) ≡ length readers.items }
     requires link { 1 ≤ link }
     requires room { link ≤ 4096 }
 
@@ -79,7 +57,6 @@ pub fn run_stages<R: Source + Drop, O: Order, W: Sink + Drop>(
     ensures unread { ((reader : R) → R.failed reader ≡ false)
         → (k : ℕ) → is_read_of k (Some result.0) ≡ false }
 {
-    all_keep_records(&stages);
     match <Net<R, W>>::of_stages(alloc, stages, readers, sink, link) {
         Ok(mut net) => {
             let result = net.run(order);

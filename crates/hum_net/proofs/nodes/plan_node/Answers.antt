@@ -13,7 +13,7 @@ returns-clause-fits g c =
     command_fits g.S.Stage c.args.k _ c.args.stage _ c.in-Command.options _ c.command.result (sym said ∙ c.in-Command.is)
     (sym at) (c.first_from_zero.ensures ∙ ap first_of c.deref-in-Command.ensures.value)
     (λ rest. c.command.ensures.stands _ rest stands) (c.command.ensures.lawful _ stands) c.of_options-stage.ensures.keeps
-    refl
+    c.of_options-stage.ensures.records refl
 
 pub returns-in-Assemble-clause-fits : goal.returns-in-Assemble-clause-fits
 returns-in-Assemble-clause-fits g c =

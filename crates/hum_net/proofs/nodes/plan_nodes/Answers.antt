@@ -1,7 +1,7 @@
 use Rattle.std.proofs.Common.{ap, length, length-append, arith}
 use Rattle.std.proofs.lemmas.List.{length-map}
 use Rattle.hum_plan.specs.Seen.{stage_of, stages_of}
-use Rattle.hum_net.specs.Nodes.{reads_of}
+use Rattle.hum_net.specs.Nodes.{readers_of}
 use Rattle.hum_net.proofs.Building.{none_built, one_built, all_built, all_length}
 use Rattle.hum_net.proofs.Treeing.{are_narrow}
 use Rattle.hum_net.proofs.nodes.plan_nodes.Goals as goal
@@ -29,7 +29,7 @@ plan_node-requires-clause-narrow g c = (rw c.in-Some.ensures.items at c.stages.i
 pub plan_node-requires-clause-reader : goal.plan_node-requires-clause-reader
 plan_node-requires-clause-reader g c =
     let many = c.stages.invariant.many in
-    let sum = ap (λ s. reads_of (stages_of s)) c.in-Some.ensures.items in
+    let sum = ap (λ s. readers_of (stages_of s)) c.in-Some.ensures.items in
     omega (arith, many, sum)
 
 pub stages-preserved : goal.stages-preserved

@@ -10,8 +10,7 @@ returns-in-Ok-clause-wrote g c bytes told =
     let stages = stages_of c.args.stages.items in
     let ran = c.run-result.ensures.whole _ (scene_of bytes bytes stages c.args.link) first_now
     (c.in-Ok.ensures.tells bytes told) (c.in-Ok.ensures.opens bytes) in
-    let is = means_valid bytes stages c.requires.tree c.in-Ok.ensures.valid
-    (rw (← c.deref.ensures.value) c.all_keep_records.ensures) in
+    let is = means_valid bytes stages c.requires.tree c.in-Ok.ensures.valid in
     rw c.into_writer.ensures.sink (has_written is ran.left c.args.link _ _ _ _ ran.runs.outcome)
 
 pub returns-in-Ok-clause-picked : goal.returns-in-Ok-clause-picked
