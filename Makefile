@@ -2,9 +2,10 @@
 #
 #   make            proves each crate and builds ./humpipe
 #   make demo       shows the main job on a score of examples/
-#   make test       the merge gate: make lint, every proof from nothing, the edits that must fail, tests, runs, the rows of tests/,
-#                   make faults, the Python package, a release, the examples of the docs; what needs a program that isn't there is left
-#                   out, and told
+#   make test       the merge gate: make lint, the rows of tests/ and the examples of the docs by a program that isn't proved, every proof
+#                   from nothing, the edits that must be refused, tests, runs, and by the proved program the rows, make faults, the Python
+#                   package, a release, the examples; what needs a program that isn't there is left out, and told
+#   make edits      tries the edits alone, over what rt check has proved
 #   make bench      times and peak memory beside other programs on the same score
 #   make install    the program, its man page, the manual (docs/) and completions, into PREFIX=/usr/local
 #   make dist       a release in dist/: a tarball, a Debian package and their checksums
@@ -20,15 +21,18 @@
 # has changed and what stands on it. What the prover says of each function is in crates/humpipe/out/log. The laws and the
 # crates of tests, which the program doesn't need, are proved by make test.
 #
-# Both make as many checks at once as there are processors and memory for; the gate plans on LANES of 4 GB each.
+# Both make as many checks at once as there are processors and memory for: LANES, by what each crate's check was seen to take
+# (tests/measured.txt). Where there are 4 GB for each processor, rt plans by itself, and gives one check several processors too.
 #
 # dist, dist-test and plots take the program that is there, and prove nothing anew. PROGRAM names another.
 
 PREFIX ?= /usr/local
-memory = $(shell awk '$$1 == "MemAvailable:" { print $$2 }' /proc/meminfo)
-at_most = $(shell awk -v most=$(1) -v each=$(2) -v memory=$(memory) \
-	'BEGIN { n = int(memory / each); print n < 1 ? 1 : n < most ? n : most }')
-LANES ?= $(call at_most,$(shell nproc),4000000)
+memory = $(shell awk '$$1 == "MemAvailable:" { print int(0.9 * $$2 / 1024) }' /proc/meminfo)
+processors = $(shell nproc)
+# as many of the largest crates as fit into the memory together, and one a processor at most
+LANES ?= $(shell sort -k2,2nr tests/measured.txt | awk -v memory=$(memory) -v most=$(processors) \
+	'/^[^\#]/ { used += $$2; if (used > memory) exit; n++ } END { print n < 1 ? 1 : n < most ? n : most }')
+jobs = $(shell test $(memory) -ge $$((4000 * $(processors))) || echo RT_JOBS=$(LANES))
 
 log = crates/humpipe/out/log
 # the crates that the program is made of: each line of crates.txt names those that a crate uses
@@ -38,27 +42,27 @@ crates = $(shell awk -F'[: ]+' '{ line[$$1] = $$0 } \
 		reached[crate]; n = split(line[crate], names); \
 		for (i = 2; i <= n; i++) reach(names[i]); print crate } \
 	END { reach("humpipe") }' crates.txt)
-files = $(shell find crates -name out -prune -o -name must-fail -prune -o -type f -print)
+files = $(shell find crates -name out -prune -o -name must-fail -prune -o -name edits -prune -o -type f -print)
 
 # the program that is there, for a recipe, and what makes one where none is
 there = $${PROGRAM:-$$(ls humpipe crates/humpipe/out/humpipe 2>/dev/null | head -n 1)}
 export PROGRAM
 needed = $(if $(PROGRAM)$(wildcard humpipe crates/humpipe/out/humpipe),,humpipe)
 
-.PHONY: all demo test bench rows faults docs python plots lint install dist dist-test clean
+.PHONY: all demo test early edits bench rows faults docs python plots lint install dist dist-test clean
 
 all: humpipe
 
-# Reads the log as it grows: tells each crate that is proved, and ends with the status that the last line bears.
+# Reads the log as it grows: tells, once a crate is proved, how much of the work is done, by the seconds that each crate was seen to take,
+# and ends with the status that the last line bears.
 define progress
-proved=0; \
-while read -r first crate last; do \
-	case "$$first $$crate $$last" in \
-	'rt: '*' proved'|'rt: '*' is kept:'*) proved=$$((proved + 1)); echo "$$proved of $(words $(crates)) crates proved: $$crate" ;; \
-	'== ended '*) exit "$$last" ;; \
-	esac; \
-done; \
-exit 1
+awk -v crates="$(crates)" 'BEGIN { many = split(crates, names); for (i in names) wanted[names[i]] = 1 } \
+	FILENAME == "tests/measured.txt" { if ($$1 in wanted) { seconds[$$1] = $$3; all += $$3 } next } \
+	!begun++ { printf "proving %d crates: some %d minutes of one processor, where nothing is kept\n", many, all / 60; fflush() } \
+	$$1 == "rt:" && ($$NF == "proved" || $$0 ~ / is kept: /) && $$2 in wanted { done += seconds[$$2]; \
+		printf "%3d %% of the work done: %s is proved\n", all ? 100 * done / all : 0, $$2; fflush() } \
+	$$1 == "==" && $$2 == "ended" { status = $$3; exit } \
+	END { exit status }' tests/measured.txt -
 endef
 
 # What the log says of a build that failed.
@@ -75,13 +79,13 @@ define prove
 room=$$(mktemp -d) && trap 'rm -rf "$$room"' EXIT INT TERM; \
 mkdir "$$room/.git" && cp HANDLES "$$room" && \
 for crate in $(crates); do grep "^$$crate:" crates.txt; done >"$$room/crates.txt" && \
-tar -c --exclude=out --exclude=must-fail $(crates:%=crates/%) | tar -x -C "$$room" && \
-(cd "$$room" && rt ci) && mkdir -p $(dir $(log)) && cp "$$room/crates/humpipe/out/humpipe" humpipe
+tar -c --exclude=out --exclude=must-fail --exclude=edits $(crates:%=crates/%) | tar -x -C "$$room" && \
+(cd "$$room" && $(jobs) rt ci) && mkdir -p $(dir $(log)) && cp "$$room/crates/humpipe/out/humpipe" humpipe
 endef
 
 humpipe: crates.txt HANDLES $(files)
 	@mkdir -p $(dir $(log))
-	@{ { $(prove); }; echo "== ended $$?"; } 2>&1 | tee $(log) | { $(progress); } || { $(failure); exit 1; }
+	@{ echo begun; { $(prove); }; echo "== ended $$?"; } 2>&1 | tee $(log) | { $(progress); } || { $(failure); exit 1; }
 
 demo: humpipe
 	@echo '$$ cat examples/no_comments.hpl'
@@ -89,10 +93,23 @@ demo: humpipe
 	@echo '$$ ./humpipe examples/no_comments.hpl'
 	@./humpipe examples/no_comments.hpl
 
-# Rows, faults, Python, release and examples run with the program that is there, the rows as Rattle's own compiler makes it too; DOCS=no leaves them out.
-test: lint
+# Rows and examples run first, so that a wrong page fails in minutes: by the program that is there, or one that isn't proved.
+early:
+	@test "$(DOCS)" = no && exit 0; program=$(there); \
+	if test -z "$$program"; then \
+		command -v rt >/dev/null || { echo 'no program at humpipe, and no rt to make it: say DOCS=no'; echo '0 passed, 1 failed'; exit 1; }; \
+		mkdir -p bench/data && program=bench/data/unproved && python3 bench/unproved.py --fast "$$program" >/dev/null || exit 1; \
+	fi; \
+	python3 tests/check.py "$$program" && python3 docs/check.py "$$program"
+
+edits:
+	@python3 tests/edits.py --lanes $(LANES)
+
+# Then all is proved, and the edits tried; and rows, faults, Python, release and examples run with the proved program, the rows as Rattle's own
+# compiler makes it too; DOCS=no leaves them out.
+test: lint early
 	@command -v rt >/dev/null || { echo 'left out: the proofs, the edits and the tests of the crates (no rt)'; exit 0; }; \
-	echo 'RT_JOBS=$(LANES) rt ci'; RT_JOBS=$(LANES) rt ci
+	echo '$(jobs) rt ci'; $(jobs) rt ci && python3 tests/edits_test.py && python3 tests/edits.py --lanes $(LANES)
 	@program=$(there); \
 	if test "$(DOCS)" = no; then :; \
 	elif test -n "$$program"; then \
@@ -124,15 +141,15 @@ plots: $(needed)
 	for plot in intervals contour rhythms reach; do \
 		(cd "$$room" && gnuplot examples/plots/$$plot.gp) >docs/plots/$$plot.svg || exit 1; echo docs/plots/$$plot.svg; done
 
-# A program that isn't there is left out.
-has = command -v $(1) >/dev/null ||
+# What needs a program that isn't there is left out, and told.
+has = command -v $(1) >/dev/null || { echo 'left out: what $(1) would read (no $(1))'; exit 0; };
 lint:
-	@$(call has,groff) exit 0; test -z "$$(LC_ALL=C.UTF-8 groff -ww -man -Tutf8 -z man/humpipe.1 2>&1 | tee /dev/stderr)"
-	@$(call has,man) exit 0; test -z "$$(LC_ALL=C.UTF-8 man --warnings -l -Tutf8 -Z man/humpipe.1 2>&1 >/dev/null | tee /dev/stderr)"
-	@$(call has,mandoc) exit 0; mandoc -Tlint man/humpipe.1
+	@$(call has,groff) test -z "$$(LC_ALL=C.UTF-8 groff -ww -man -Tutf8 -z man/humpipe.1 2>&1 | tee /dev/stderr)"
+	@$(call has,man) test -z "$$(LC_ALL=C.UTF-8 man --warnings -l -Tutf8 -Z man/humpipe.1 2>&1 >/dev/null | tee /dev/stderr)"
+	@$(call has,mandoc) mandoc -Tlint man/humpipe.1
 	@sh -n examples/corpus.sh && sh -n install.sh && sh -n packaging/dist.sh && bash -n completions/humpipe.bash
-	@$(call has,zsh) exit 0; zsh -n completions/_humpipe
-	@$(call has,fish) exit 0; fish -n completions/humpipe.fish
+	@$(call has,zsh) zsh -n completions/_humpipe
+	@$(call has,fish) fish -n completions/humpipe.fish
 	@for file in editors/vscode/*.json; do python3 -m json.tool "$$file" /dev/null || exit 1; done
 
 install: humpipe

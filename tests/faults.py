@@ -133,6 +133,9 @@ def main():
         results = [result for results in told for result in results]
     for needed, is_there in ('C compiler', library), ('strace', has_strace):
         print('' if is_there else f'left out: what needs {needed}, which is not here\n', end='')
+    if not library and not has_strace:
+        print('no failure could be made\n0 passed, 1 failed')
+        sys.exit(1)
     wrong = [line for line, _ in results if line]
     print(*wrong[:20], sep='\n', end='\n' if wrong else '')
     print(f'{len(results)} runs, in {sum(is_told for _, is_told in results)} of which a failure is told')

@@ -1,5 +1,5 @@
 -- One step behind another.
-use Rattle.std.proofs.Common.{◌≡◌, ◌∙◌, ℕ, Bool, false, List, [], ◌++◌, Option, None, refl, sym, ap, subst, append_assoc, arith}
+use Rattle.std.proofs.Common.{◌≡◌, ◌∙◌, ℕ, Bool, false, List, [], ◌++◌, Option, None, refl, sym, ap, subst, append_assoc, arith, length-append}
 use Rattle.std.proofs.Math.Path.{fun_ext}
 use Rattle.std.specs.Prelude.{is_some, IfSome}
 use Rattle.hum_text.specs.declared.calls.Source.{Ghosts as Source}
@@ -69,7 +69,7 @@ module _ {S R W O : Type 0} {stage : Stage S} {reader : Source R} {writer : Sink
   abbrev pub then_on : Then may one.reads rests
   then_on = then_at may reader net one.reads rests one.read over
 
-  pub led_on : (d : Leads stage writer order o p may.start (record then_on.scene { rests = rests }) then_on.now net)
+  pub led_on : (d : Leads stage writer order o p may.start (record then_on.scene { rests = rests }) then_on.now old.turns net)
       × Watches look is_over (record then_on.scene { rests = rests }) d.to net
   led_on = one.goes may.start (record then_on.scene { rests = rests }) then_on.now over then_on.at then_on.going then_on.sees
 
@@ -107,8 +107,16 @@ module _ {S R W O : Type 0} {stage : Stage S} {reader : Source R}
         none (seen before s mid.rests now old sees) in
         let going = not_over _ d.1.tells refl in
         let g = two.goes start s d.0.to over d.0.at going (seen look mid s.rests d.0.to net (d.1.sees going)) in
-        let driven = driven_on order s d.0.turns g.0.turns o p q now d.0.to g.0.to d.0.driven g.0.driven in
-        (record { turns = d.0.turns ++ g.0.turns; to = g.0.to; driven = driven; at = g.0.at }, g.1);
+        let driven = driven_on order s d.0.turns g.0.turns o p q now d.0.to g.0.to d.0.driven g.0.driven in (
+          record {
+            turns = d.0.turns ++ g.0.turns;
+            counted = omega (arith, d.0.counted, g.0.counted, length-append d.0.turns g.0.turns);
+            to = g.0.to;
+            driven = driven;
+            at = g.0.at;
+          },
+          g.1,
+        );
   }
 
 -- Nothing has moved.
@@ -130,12 +138,13 @@ module _ {S R W O : Type 0} {stage : Stage S} {reader : Source R}
       reads = λ i. [];
       read = λ i. read_none _ _;
       goes = λ start s now over h none sees. (
-        record { turns = []; to = now; driven = (still now, refl); at = h },
+        record { turns = []; counted = omega arith; to = now; driven = (still now, refl); at = h },
         record { tells = ap is_some (sym none); sees = λ going. sees },
       );
     });
     leans = leans;
     marks = marks_none same none;
+    flushes = rw same (record { none_before = λ on. refl; once = omega arith });
   }
 
 module _ {S R W O : Type 0} {stage : Stage S} {reader : Source R} {writer : Sink W} {order : Order O}
@@ -156,5 +165,9 @@ module _ {S R W O : Type 0} {stage : Stage S} {reader : Source R} {writer : Sink
           reads = λ i. grind (arith, one.marks.reads i, two.marks.reads i, none);
           writes = grind (arith, one.marks.writes, two.marks.writes, none);
           takers = two.marks.takers ∙ one.marks.takers;
+        };
+        flushes = record {
+          none_before = λ on. two.flushes.none_before on ∙ one.flushes.none_before refl;
+          once = omega (arith, two.flushes.once, one.flushes.none_before refl);
         };
       }

@@ -22,13 +22,13 @@ use Rattle.hum_engine.specs.declared.web.Web.{Web}
 use Rattle.hum_engine.specs.declared.link.Link as port
 use Rattle.hum_engine.specs.declared.link.Taken.{Taken}
 use Rattle.hum_engine.specs.Links.{Goes, Tells, is_some_of, room, taken_of}
-use Rattle.hum_engine.specs.Scene.{Scene, plan_of, IsActor, HasActor, IsAbout, IsAboutKind, IsDoing, IsKind, WantsFrom}
+use Rattle.hum_engine.specs.Scene.{Scene, plan_of, IsActor, HasActor, IsAbout, IsAboutKind, IsDoing, IsKind}
 use Rattle.hum_engine.specs.Scene.{MayTurn, MayAct, Done, Keeps, HasFullLink, Somewhere}
 use Rattle.hum_engine.specs.Told.{HasTold, HasActed}
 use Rattle.hum_engine.proofs.Acting.{keeps, link_here, passed}
 use Rattle.hum_engine.proofs.Doings.{about_by, done_about, gives_about, wants_about}
 use Rattle.hum_engine.proofs.Feeding.{link_of, node_at}
-use Rattle.hum_engine.proofs.Handing.{Changes, next_about, next_kind, next_source, takes}
+use Rattle.hum_engine.proofs.Nexts.{Changes, WantsFrom, next_about, next_kind, next_source, takes}
 use Rattle.hum_engine.proofs.Moving.{set_here, set_there}
 use Rattle.hum_engine.proofs.Readying.{room_gives, touched_gives, touched_takes, unset_ends}
 use Rattle.hum_engine.proofs.Polling.{state_gives}

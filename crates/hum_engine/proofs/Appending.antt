@@ -37,6 +37,7 @@ pub record IsWriting {W : Type 0} (writer : Sink W) (old now : W)
   pub wrote : Wrote (writer.contents old) (writer.contents now) text rest
   pub sound : writer.failed now ≡ writer.failed old
   pub few : writer.calls now + length rest ≤ writer.calls old + length text
+  pub unflushed : writer.flushes now ≡ writer.flushes old
 
 pub begun : {W : Type 0} {writer : Sink W} (sink : W) (text : List ℕ)
     → IsWriting writer sink sink text text
@@ -44,14 +45,15 @@ begun {writer = writer} sink text = record {
   wrote = record { bytes = []; sum = refl; appends = appends_none (writer.contents sink) };
   sound = refl;
   few = omega arith;
+  unflushed = refl;
 }
 
 module _ {W : Type 0} {writer : Sink W} {old now : W} {text rest : List ℕ} (w : IsWriting writer old now text rest) where
   -- A call takes bytes of it.
   pub writes_on : {new : W} (n : ℕ) → (n ≡ 0 → ⊥) → n ≤ length rest → Appends (writer.contents now) (writer.contents new) (take n rest)
       → writer.calls new ≡ counted (writer.calls now) → writer.failed new ≡ (writer.failed now || (n == 0))
-      → IsWriting writer old new text (take (length rest - n) (drop n rest))
-  writes_on {new} n some within appends called marked =
+      → writer.flushes new ≡ writer.flushes now → IsWriting writer old new text (take (length rest - n) (drop n rest))
+  writes_on {new} n some within appends called marked unflushed =
       rw (take_all (length rest - n) (drop n rest) (omega (arith, length-drop n rest))) (record {
         wrote = record {
           bytes = w.wrote.bytes ++ take n rest;
@@ -60,6 +62,7 @@ module _ {W : Type 0} {writer : Sink W} {old now : W} {text rest : List ℕ} (w 
         };
         sound = grind (arith, ne_eqb n 0 some, marked, w.sound);
         few = omega (arith, length-drop n rest, w.few, one_call (writer.calls now) (writer.calls new) called, some, within);
+        unflushed = unflushed ∙ w.unflushed;
       })
 
   -- Another call writes the rest.
@@ -71,6 +74,7 @@ module _ {W : Type 0} {writer : Sink W} {old now : W} {text rest : List ℕ} (w 
     sound = h.sound ∙ w.sound;
     marked = tt;
     few = omega (arith, w.few, h.few);
+    unflushed = h.unflushed ∙ w.unflushed;
   }
   written_behind {new = new} {result = Err e} h = record {
     ok = tt;
@@ -82,18 +86,20 @@ module _ {W : Type 0} {writer : Sink W} {old now : W} {text rest : List ℕ} (w 
     sound = tt;
     marked = h.marked;
     few = omega (arith, w.few, h.few);
+    unflushed = h.unflushed ∙ w.unflushed;
   }
 
   -- A call fails, and takes none.
   pub gives_up : {A E : Type 0} {new : W} {e : E} → false ≡ (length rest == 0) → Appends (writer.contents now) (writer.contents new) []
       → writer.calls new ≡ counted (writer.calls now) → writer.failed new ≡ (writer.failed now || true)
-      → HasWritten {A = A} writer old new text (Err e)
-  gives_up {new = new} some appends called marked = written_behind (record {
+      → writer.flushes new ≡ writer.flushes now → HasWritten {A = A} writer old new text (Err e)
+  gives_up {new = new} some appends called marked unflushed = written_behind (record {
     ok = tt;
     err = record { bytes = []; front = (rest, refl); appends = appends };
     sound = tt;
     marked = marked ∙ or_right (writer.failed now) true refl;
     few = omega (arith, one_call (writer.calls now) (writer.calls new) called, eqb-false (length rest) 0 (sym some));
+    unflushed = unflushed;
   })
 
   -- Nothing is left.
@@ -104,6 +110,7 @@ module _ {W : Type 0} {writer : Sink W} {old now : W} {text rest : List ℕ} (w 
     sound = w.sound;
     marked = tt;
     few = omega (arith, w.few);
+    unflushed = w.unflushed;
   }
 
 -- what is left of a text behind a call that took some bytes of it

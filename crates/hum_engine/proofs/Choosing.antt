@@ -26,19 +26,19 @@ use Rattle.hum_engine.specs.declared.net.Net.{Net}
 use Rattle.hum_engine.specs.declared.net.Turned.{Turned}
 use Rattle.hum_engine.specs.declared.search.Search.{Search}
 use Rattle.hum_engine.specs.Search.{IsNearer, outer, passed, stayed, changed, skipped, reached, is_left}
-use Rattle.hum_engine.specs.Scene.{Scene, plan_of, moved, before_all, IsCrowded, HasIdleLink}
+use Rattle.hum_engine.specs.Scene.{Scene, plan_of, moved, before_all}
 use Rattle.hum_engine.specs.Nets.{NetAt, AtEach, AreOver, GoesTo, IsChanged, Sees, IsRunning, MayAsk, MayStep}
 use Rattle.hum_engine.specs.Nets.{MayAdvance, HasPicked, IsNext, HasMoved, HasRested, HasWorked, HasStepped}
-use Rattle.hum_engine.specs.Nets.{HasAdvanced, IsCloser, MarksFailures, IsFront}
+use Rattle.hum_engine.specs.Nets.{HasAdvanced, IsCloser, FlushesLast, IsFront}
 use Rattle.hum_engine.proofs.Advancing.{pick_now, none_yet, then_at, marks_none}
 use Rattle.hum_engine.proofs.Flags.{IsTurn, touched_below, two_set}
-use Rattle.hum_engine.proofs.HeldUp.{held_by, held_unready, crowded_by}
+use Rattle.hum_engine.proofs.HeldUp.{held_by, held_unready}
 use Rattle.hum_engine.proofs.Leaning.{leaning_choice}
 use Rattle.hum_engine.proofs.Moving.{nth}
 use Rattle.hum_engine.proofs.Netting.{is_at, not_over, at_now, ready_at}
 use Rattle.hum_engine.proofs.Running.{at_some, relisted, picked, any_ready, unfailed_at, no_rests, seen}
-use Rattle.hum_engine.proofs.Searching.{IsTaker, front_passed, passed_fewer, front_changed, front_skipped, moves_past}
-use Rattle.hum_engine.proofs.Searching.{stays_past, stays_on, others_as_ready, reached_on, reached_over, left_side}
+use Rattle.hum_engine.proofs.Searching.{IsTaker, front_passed, passed_fewer, front_changed, front_skipped}
+use Rattle.hum_engine.proofs.Searching.{others_as_ready, reached_on, reached_over, left_side}
 use Rattle.hum_engine.proofs.Searching.{skipped_side}
 
 -- a search, or none
@@ -136,7 +136,7 @@ module _ {S R W O : Type 0} {stage : Stage S} {writer : Sink W} {order : Order O
           reads = λ i. [];
           read = λ i. read_none _ _;
           goes = λ start s now over h none sees. (
-            record { turns = []; to = now; driven = (still now, (a.here by is).1); at = h },
+            record { turns = []; counted = omega arith; to = now; driven = (still now, (a.here by is).1); at = h },
             record {
               tells = ap is_some (sym none);
               sees = λ none. front_passed (front_of s now net is sees) (unready_at is h none) (any_ready h none);
@@ -150,6 +150,7 @@ module _ {S R W O : Type 0} {stage : Stage S} {writer : Sink W} {order : Order O
       stepped = stepped_past is to;
       leans = leans_on is (ap (λ (b : Search). b.side) to);
       marks = marks_none rests.same (none_yet a.may);
+      flushes = rw rests.same (record { none_before = λ on. refl; once = omega arith });
     }
 
     pub past_closer : {by after : Search} → look ≡ Some by → after ≡ passed by → IsCloser look (Some after) net new false
@@ -235,6 +236,7 @@ module _ {S R W O : Type 0} {stage : Stage S} {writer : Sink W} {order : Order O
           let n = next_at start s now over h none sees in (
             record {
               turns = k ∷ [];
+              counted = m.turns;
               to = n.goes.to;
               driven = (n.goes.to, n.picks.choice, n.goes.turn, (still n.goes.to, n.picks.next));
               at = relisted refl len n.goes.at;
@@ -286,31 +288,6 @@ module _ {S R W O : Type 0} {stage : Stage S} {writer : Sink W} {order : Order O
         (λ taker at start s now n goes here front.
         subst (λ l. IsFront l s n.goes.to) (sym (to taker at)) (front_changed (turn_of n goes) (taker_of n goes at) here front))
 
-    pub moved_advanced : {by after : Search} → MarksFailures reader writer net behind
-        → look ≡ Some by → after.side ≡ by.side
-        → ((taker : ℕ) → slice_get behind.takers.items link ≡ Some taker → after ≡ changed by (outer by.side link taker))
-        → HasAdvanced stage reader writer order p q look (Some after) net behind is_over
-    moved_advanced marks is same to = record { stepped = stepped_on is to; leans = leans_on is same; marks = marks }
-
-    -- From the right it looks on from who takes from the actor's own link, and not at the actor, which isn't ready;
-    pub stepped_past_it : {by : Search} {taker : ℕ} → look ≡ Some by → by.side ≡ side.Right → k ≡ link → 0 < k
-        → slice_get behind.takers.items link ≡ Some taker
-        → AtEach stage writer behind (λ start s now. result (plan_of s) now ≡ None
-        → is_ready (plan_of s) s.size now k ≡ false)
-        → HasStepped stage reader writer order p q look (Some (record by { from = taker })) net behind is_over
-    stepped_past_it is right own some at idle = searched is
-        (λ start s now n goes here front.
-        moves_past (turn_of n goes) (taker_of n goes at) here front right own some (idle start s n.goes.to n.goes.at goes))
-
-    -- or stays where it is, behind the turn of who takes from the link.
-    pub stepped_there : {by : Search} → look ≡ Some by → by.side ≡ side.Right → slice_get behind.takers.items link ≡ Some k
-        → AtEach stage writer behind (λ start s now. result (plan_of s) now ≡ None → by.behind < link
-        → is_ready (plan_of s) s.size now link ≡ false)
-        → HasStepped stage reader writer order p q look (Some by) net behind is_over
-    stepped_there is right at idle = searched is
-        (λ start s now n goes here front.
-        stays_past (turn_of n goes) (taker_of n goes at) here front right refl (idle start s n.goes.to n.goes.at goes))
-
 -- A turn as it is told, and what the search makes of it.
 module _ {S R W O : Type 0} {stage : Stage S} {writer : Sink W} {order : Order O} {look : Option Search} {k : ℕ} {p q : O}
     {net : Net S R W} (a : Asked stage writer order look k p q net) {reader : Source R} {behind : Net S R W} {turned : Turned}
@@ -337,6 +314,7 @@ module _ {S R W O : Type 0} {stage : Stage S} {writer : Sink W} {order : Order O
       stepped = subst (Steps after (record behind { actors = flags })) is_so stepped;
       leans = leans;
       marks = record { reads = w.gone.marks.reads; writes = w.gone.marks.writes; takers = w.gone.marks.takers };
+      flushes = subst (FlushesLast (writer.flushes net.sink) (writer.flushes behind.sink)) is_so w.gone.flushes;
     }
 
     pub on_advanced : {by after : Search} → look ≡ Some by → after.side ≡ by.side
@@ -363,45 +341,6 @@ module _ {S R W O : Type 0} {stage : Stage S} {writer : Sink W} {order : Order O
         (λ taker at. to ∙ ap (reached by turned.link) isnt ∙ reached_on by turned.link taker left below))
         (cases_Bool turned.is_full)
 
-    -- The search is from the right, and its turn was nothing to anyone nearer.
-    module _ {by : Search} (is : look ≡ Some by) (right : by.side ≡ side.Right) (quiet : turned.link ≡ k → IsCrowded k behind.web) where
-      front_on : {taker : ℕ} → slice_get behind.takers.items turned.link ≡ Some taker
-          → {start : Option (List ℕ)} {s : Scene} {now : Now Row} (n : Next a worked start s now)
-          → result (plan_of s) n.goes.to ≡ None → k ≡ by.from → IsFront by s now → IsFront (stayed by) s n.goes.to
-      front_on at n goes here front = stays_on (turn_of a worked n goes) (taker_of a worked n goes at) here front right
-          (λ own. crowded_by n.goes.at goes n.within (quiet own))
-
-      pub stayed_advanced : {after : Search} → after ≡ stayed by → Advances (Some after) behind is_over
-      stayed_advanced to = rw to (told_so behind.actors (leans_on a is refl)
-          (searched_on a worked is (λ taker at start s now n goes here front. front_on at n goes here front)))
-
-      -- It is known not to be ready then.
-      pub rested_advanced : {hand after : Search} → (turned.is_full ≡ true)
-          ⊎ ((k ≡ length behind.web.nodes.items) × HasIdleLink turned.link behind.web)
-          → hand ≡ stayed by → after ≡ passed hand → Advances (Some after) behind is_over
-      rested_advanced rests stays to = rw (to, stays) (told_so behind.actors (leans_on a is refl)
-          (searched_on a worked is (λ taker at start s now n goes here front.
-          front_passed (front_on at n goes here front)
-          (subst (λ i. is_ready (plan_of s) s.size n.goes.to i ≡ false) here (isnt n goes rests)) (any_ready n.goes.at goes))))
-        where
-          isnt : {start : Option (List ℕ)} {s : Scene} {now : Now Row} (n : Next a worked start s now)
-              → result (plan_of s) n.goes.to ≡ None
-              → (turned.is_full ≡ true) ⊎ ((k ≡ length behind.web.nodes.items) × HasIdleLink turned.link behind.web)
-              → is_ready (plan_of s) s.size n.goes.to k ≡ false
-          isnt {s = s} {now = now} n goes rests = ⊎_elim
-              (λ full. ap (λ o. is_none o && ready (plan_of s) s.size n.goes.to.links k) goes
-              ∙ held_unready s n.goes.to.links k (held_by n.goes.at goes n.within (w.gone.full full)))
-              (λ idle.
-              let at = at_now n.goes.at goes in
-              let past : s.count ≤ k = omega (arith, idle.0, at.stand.count) in
-              let last_is : turned.link ≡ last (plan_of s) =
-              (turn_of a worked n goes).link_is ∙ ap (touched k) (sink_state (plan_of s) now.links k past) in
-              let p = at.stand.links turned.link idle.1.link idle.1.its in
-              sym (ready_at n.goes.at goes k (sym (ready_sink (plan_of s) s.size k n.goes.to.links past
-              ∙ ap (λ i. has_some (n.goes.to.links i)) (sym last_is)
-              ∙ rw (sym p.waiting ∙ idle.1.idle.empty, sym p.mark ∙ idle.1.idle.unset, and-false) refl))))
-              rests
-
   pub out_advanced : turned.is_over ≡ true → Advances look behind true
   out_advanced over = told_so over behind.actors (leans_still a) (stepped_out a worked over)
 
@@ -409,12 +348,6 @@ module _ {S R W O : Type 0} {stage : Stage S} {writer : Sink W} {order : Order O
   module _ (on : turned.is_over ≡ false) where
     pub link_by : turned.link < length behind.takers.items
     link_by = link_few a worked on
-
-    pub port_by : turned.link < length behind.web.links.items
-    port_by =
-        let t = next_now a worked on in
-        let at = at_now t.3.goes.at t.4 in
-        omega (arith, link_within a worked t.3 t.4, at.stand.as_many)
 
     -- The two ends of the link may be asked,
     module _ {taker : ℕ} (read : taker ≡ get_or behind.takers.items turned.link taker) where

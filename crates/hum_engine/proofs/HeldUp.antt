@@ -26,7 +26,7 @@ use Rattle.hum_engine.proofs.Doings.{gives_of}
 use Rattle.hum_engine.proofs.Polling.{state_gives}
 use Rattle.std.proofs.lemmas.Option.{slice_get_within}
 use Rattle.std.specs.Prelude.{Option}
-use Rattle.hum_engine.specs.Scene.{Scene, plan_of, IsFull, IsCrowded}
+use Rattle.hum_engine.specs.Scene.{Scene, plan_of, IsFull}
 use Rattle.hum_turns.specs.Failures.{Now, result}
 use Rattle.hum_engine.specs.declared.net.Net.{Net}
 use Rattle.hum_engine.specs.Nets.{IsHeldUp, NetAt}
@@ -85,23 +85,6 @@ module _ {R : Type 0} (plan : Plan R) (ok : IsPlan plan) (k : ℕ) where
   does_more (Takes t) old new none d = absurd (none t refl)
   does_more Ends old new none d = omega (arith, ap (λ l. length l.waiting) d.here)
 
-  turns_more : (st : State) (old new : Moment R) → state plan old k ≡ st → ((t : ℕ) → st ≡ Takes t → ⊥) → Turns plan k st old new
-      → length (new k).waiting ≤ length (old k).waiting + 1
-  turns_more Gives old new e none t = does_more Gives old new none t
-  turns_more (Takes s) old new e none t = does_more (Takes s) old new none t
-  turns_more Ends old new e none t = does_more Ends old new none t
-  turns_more Reads old new e none t =
-      let read = ap (λ l. length l.waiting) t.reads.becomes.here in
-      ⊎_elim
-      (λ stays. omega (arith, ap (λ l. length l.waiting) (stays.1 k), read))
-      (λ does. omega (
-        arith,
-        read,
-        does_more (state plan t.between k) t.between new
-            (λ i is. source_takes plan ok t.between k i (reads_source plan ok old k e) is) does,
-      ))
-      t.does
-
 -- A turn of stage k that changes its own link.
 module _ (s : Scene) (ok : IsPlan (plan_of s)) (k : ℕ) (old new : Moment Row) (step : Step (plan_of s) s.size k old new)
     (own : k ≡ touched k (state (plan_of s) old k)) where
@@ -137,31 +120,6 @@ module _ (s : Scene) (ok : IsPlan (plan_of s)) (k : ℕ) (old new : Moment Row) 
     full = ap (has_room s.size) (elsewhere j other) ∙ h.full;
   }
 
-  -- Where several records lie on the link then, nobody else is ready who wasn't.
-  module _ (more : 1 < length (new k).waiting) where
-    some_before : 0 < length (old k).waiting
-    some_before =
-        omega (arith, more, turns_more (plan_of s) ok k (state (plan_of s) old k) old new refl gives_own step.turns)
-
-    heard_same : (t : ℕ) → t ≡ k → has_some (new t) ≡ has_some (old t)
-    heard_same t is = rw (
-      is,
-      ap (λ (f : Flow Row). f.end) (views k),
-      lt-ltb 0 (length (new k).waiting) (omega (arith, more)),
-      lt-ltb 0 (length (old k).waiting) some_before,
-    ) refl
-
-    can_stays : (st : State) (j : ℕ) → j ≢ k → can s.size new j st ≡ can s.size old j st
-    can_stays Gives j other = ap (has_room s.size) (elsewhere j other)
-    can_stays Reads j other = ap (has_room s.size) (elsewhere j other)
-    can_stays (Takes t) j other = ⊎_elim (λ is. heard_same t is) (λ apart. ap has_some (elsewhere t apart)) (cases_eq t k)
-    can_stays Ends j other = ap (λ l. is_none l.mark) (elsewhere j other)
-
-    pub crowded_as_ready : (j : ℕ) → j ≢ k → ready (plan_of s) s.size new j ≡ ready (plan_of s) s.size old j
-    crowded_as_ready j other = ap₂ (λ l c. if is_source (plan_of s) j then is_none l.mark && has_room s.size l else c)
-        (elsewhere j other)
-        (ap (can s.size new j) (state_stays j other) ∙ can_stays (state (plan_of s) old j) j other)
-
 -- It is a stage.
 pub held_less : (s : Scene) (m : Moment Row) (k : ℕ) → IsHeldUp s m k → k < s.count
 held_less s m k h = ⊎_elim (λ src. (source_less (plan_of s) k src).0) (λ gives. gives_less (plan_of s) m k gives) h.gives
@@ -170,15 +128,6 @@ held_less s m k h = ⊎_elim (λ src. (source_less (plan_of s) k src).0) (λ giv
 
 gives_by : (b : Bool) (d : Doing) → readiness_at b d ≡ kinds.Gives → b ≡ false → d ≡ does.Gives
 gives_by b d is other = gives_of d (subst (λ x. readiness_at x d ≡ kinds.Gives) other is)
-
--- So many records wait there in a net.
-pub crowded_by : {S R W : Type 0} {stage : Stage S} {writer : Sink W}
-    {k : ℕ} {net : Net S R W} {start : Option (List ℕ)} {s : Scene} {now : Now Row}
-    → NetAt stage writer start s net now → result (plan_of s) now ≡ None → k ≤ s.count
-    → IsCrowded k net.web → 1 < length (now.links k).waiting
-crowded_by {stage = stage} {writer} {k} {net} {start} {s} {now} h none within c =
-    let st = h.going (unfailed_now stage writer start s net now k h none) in
-    omega (arith, c.more, ap length (st.links k c.link c.its).waiting)
 
 -- The actor of a net that a turn has left so, while the run goes on.
 pub held_by : {S R W : Type 0} {stage : Stage S} {writer : Sink W}

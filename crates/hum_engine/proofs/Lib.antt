@@ -1,9 +1,7 @@
 pub mod Moving
 pub mod Polling
 pub mod Feeding
-pub mod Handing
-pub mod HandingOn
-pub mod HandingTo
+pub mod Nexts
 pub mod Taking
 pub mod Acting
 pub mod Turning

@@ -205,10 +205,10 @@ module _ {S R W : Type 0} {stage : Stage S} {writer : Sink W}
 
 -- An order has led a net to the end of its run.
 pub runs_to : {S R W O : Type 0} {stage : Stage S} {writer : Sink W}
-    {order : Order O} {o p : O} {start : Option (List ℕ)} {s : Scene} {now : Now Row} {net : Net S R W} {by : RunResult}
-    → (d : Leads stage writer order o p start s now net) → result (plan_of s) d.to ≡ Some by
-    → RunsTo stage writer order o p start s now net by
-runs_to {S} {R} {W} {O} {stage} {writer} {order} {o} {p} {start} {s} {now} {net} {by} d e =
+    {order : Order O} {o p : O} {start : Option (List ℕ)} {s : Scene} {now : Now Row} {before : ℕ} {net : Net S R W} {by : RunResult}
+    → (d : Leads stage writer order o p start s now before net) → result (plan_of s) d.to ≡ Some by
+    → RunsTo stage writer order o p start s now before net by
+runs_to {S} {R} {W} {O} {stage} {writer} {order} {o} {p} {start} {s} {now} {before} {net} {by} d e =
     let h = d.at in
     record {
       leads = d;

@@ -17,7 +17,7 @@ use Rattle.hum_engine.specs.declared.search.Search.{Search}
 use Rattle.hum_engine.specs.Scene.{Scene, plan_of, TakesFrom}
 use Rattle.hum_engine.specs.declared.net.Net.{Net}
 use Rattle.hum_engine.specs.Nets.{IsFront, IsHeldUp, Sees, still_to_ask}
-use Rattle.hum_engine.proofs.HeldUp.{held_unready, held_stays, held_less, crowded_as_ready}
+use Rattle.hum_engine.proofs.HeldUp.{held_unready, held_stays, held_less}
 use Rattle.hum_engine.proofs.Flags.{IsTurn, moves, took}
 
 -- Nearer and further, as numbers.
@@ -82,10 +82,6 @@ away_few side.Right a count few = omega (arith, few)
 
 right_left : side.Right ≡ side.Left → ⊥
 right_left e = false≢true (ap is_left e)
-
-pub right_side : {to : Side} {b : Bool} → b ≡ is_left to → b ≡ false → to ≡ side.Right
-right_side {to = side.Left} tells isnt = absurd (false≢true (sym isnt ∙ tells))
-right_side {to = side.Right} tells isnt = refl
 
 none_left : (to : Side) (a j : ℕ) → to ≡ side.Left → a < j → j < away to a → ⊥
 none_left side.Left a j e past low = absurd (omega (arith, past, low))
@@ -352,78 +348,3 @@ module _ {s : Scene} {k link taker : ℕ} {old new : Now Row} (t : IsTurn s k li
   front_skipped {look} left here front held some =
       subst (λ to. IsFront (skipped (record look { side = to }) link) s new) (sym left) (skipped_front here
       (subst (λ to. IsFront (record look { side = to }) s old) left front) held some)
-
--- From the right.
-module _ {s : Scene} {k link taker : ℕ} {old new : Now Row} (t : IsTurn s k link old new) (u : IsTaker s link taker)
-    {from behind : ℕ} (here : k ≡ from) (front : IsFront (record { side = side.Right; from = from; behind = behind }) s old) where
-  moves_right : k ≡ link → 0 < k → is_ready (plan_of s) s.size new k ≡ false
-      → IsFront (record { side = side.Right; from = taker; behind = behind }) s new
-  moves_right own some isnt =
-      let low = u.behind in
-      let below : behind < from = front.beyond 0 (omega arith) (omega (arith, some, here)) in
-      record {
-        within = u.most;
-        nearer = λ j less near.
-            before t u j less (λ e. absurd (omega (arith, near, low, e)), λ e. absurd (omega (arith, near, e)))
-            (front.nearer j less (omega (arith, near, low, own, here)));
-        between = λ j less past near. ⊎_elim
-            (λ (is : j ≡ from). subst (λ i. is_ready (plan_of s) s.size new i ≡ false) (here ∙ sym is) isnt)
-            (λ other. before t u j less (λ e. other (e ∙ sym own ∙ here), λ e. absurd (omega (arith, past, e)))
-            (quiet front j less near other))
-            (cases_eq j from);
-        beyond = λ j less past. omega (arith, below, low, own, here);
-        last = front.last;
-        waits = λ j left past near. absurd (right_left left);
-      }
-
-  -- A turn that takes from the link, or puts a record behind others, is nothing to anyone nearer.
-  stays_on_right : (link ≡ k → 1 < length (new.links k).waiting)
-      → IsFront (record { side = side.Right; from = from; behind = away side.Right from }) s new
-  stays_on_right crowded = front_away side.Right from front.within (λ j less near.
-      let was = front.nearer j less near in
-      ⊎_elim
-      (λ (own : link ≡ k). ap (λ o. is_none o && ready (plan_of s) s.size new.links j) t.none
-      ∙ crowded_as_ready s t.plan.ok k old.links new.links (moves t) (sym own ∙ t.link_is) (crowded own) j
-      (λ e. absurd (omega (arith, near, e, here)))
-      ∙ sym (ap (λ o. is_none o && ready (plan_of s) s.size old.links j) t.going) ∙ was)
-      (λ (apart : link ≢ k).
-      let taken : k ≡ taker = ⊎_elim (λ is. absurd (apart (sym is))) (λ is. is) (one t u) in
-      before t u j less (λ e. absurd (omega (arith, near, e, here, taken, u.behind)), λ e. absurd (omega (arith, near, e, here, taken)))
-      was)
-      (cases_eq link k))
-
-  stays_right : k ≡ taker → (behind < link → is_ready (plan_of s) s.size new link ≡ false)
-      → IsFront (record { side = side.Right; from = from; behind = behind }) s new
-  stays_right own isnt = record {
-    within = front.within;
-    nearer = λ j less near.
-        let low = u.behind in
-        before t u j less (λ e. absurd (omega (arith, near, own, here, low, e)), λ e. absurd (omega (arith, near, own, here, e)))
-        (front.nearer j less near);
-    between = λ j less past near. ⊎_elim
-        (λ (is : j ≡ link). subst (λ i. is_ready (plan_of s) s.size new i ≡ false) (sym is) (isnt (omega (arith, near, is))))
-        (λ other. before t u j less (other, λ e. absurd (omega (arith, past, own, here, e))) (front.between j less past near))
-        (cases_eq j link);
-    beyond = front.beyond;
-    last = front.last;
-    waits = λ j left past near. absurd (right_left left);
-  }
-
-module _ {s : Scene} {k link taker : ℕ} {old new : Now Row} (t : IsTurn s k link old new) (u : IsTaker s link taker)
-    {look : Search} (here : k ≡ look.from) (front : IsFront look s old) (right : look.side ≡ side.Right) where
-  pub stays_on : (link ≡ k → 1 < length (new.links k).waiting) → IsFront (stayed look) s new
-  stays_on crowded =
-      subst (λ to. IsFront (stayed (record look { side = to })) s new) (sym right) (stays_on_right t u here
-      (subst (λ to. IsFront (record look { side = to }) s old) right front) crowded)
-
-  -- It gave onto its own link and isn't ready any more: whoever was to be asked behind it is still.
-  pub moves_past : k ≡ link → 0 < k → is_ready (plan_of s) s.size new k ≡ false → IsFront (record look { from = taker }) s new
-  moves_past own some isnt =
-      subst (λ to. IsFront (record look { side = to; from = taker }) s new) (sym right) (moves_right t u here
-      (subst (λ to. IsFront (record look { side = to }) s old) right front) own some isnt)
-
-  -- It took from the link, whose stage isn't ready, if that stands before whoever is to be asked behind it.
-  pub stays_past : k ≡ taker → (look.behind < link → is_ready (plan_of s) s.size new link ≡ false) → IsFront look s new
-  stays_past own isnt =
-      subst (λ to. IsFront (record look { side = to }) s new) (sym right) (stays_right t u here
-      (subst (λ to. IsFront (record look { side = to }) s old) right front) own isnt)

@@ -28,9 +28,6 @@ use Rattle.hum_engine.proofs.Taking.{next_record, next_end, next_front, some_mar
 abbrev pub failed_so : Bool → Option RunResult
 failed_so is_over = if is_over then Some ends.Write else None
 
-pub unread_so : (is_over : Bool) (k : ℕ) → is_read_of k (failed_so is_over) ≡ false
-unread_so is_over k = grind arith
-
 pub not_heard : (l : Link Row) → has_some l ≡ true → l.heard ≡ None
 not_heard l some = none_by l.heard (and_parts _ _ some).0
 
@@ -38,9 +35,6 @@ module _ {S R W : Type 0} {writer : Sink W} {row : Row} {old new : Net S R W}
     {is_over : Bool} (none : old.failure ≡ None) (h : HasSent writer row old new is_over) where
   pub sent_net : new ≡ record old { sink = new.sink; failure = failed_so is_over }
   sent_net = h.net ∙ ap (λ f. record old { sink = new.sink; failure = if is_over then Some ends.Write else f }) none
-
-  pub sent_marked : writer.failed new.sink ≡ (writer.failed old.sink || is_write new.failure)
-  sent_marked = grind (arith, ap (λ (n : Net S R W). n.failure) sent_net, h.marked)
 
 -- The record that comes next was written, or a prefix of it.
 pub sent_record : {S R W : Type 0} {stage : Stage S} {writer : Sink W} {row : Row} {old new : Net S R W} (flushed is_over : Bool)

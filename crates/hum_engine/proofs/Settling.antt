@@ -148,6 +148,7 @@ module _ {S R W : Type 0} {stage : Stage S} {reader : Source R} {writer : Sink W
     turned = told_turned (Ok moved) other h.turned h.read h.asked;
     link = λ s a. inl (h.link s a);
     marks = told_marked {told = Ok moved} refl h.asked refl;
+    flushes = record { none_before = λ on. refl; once = omega arith };
     turns = refl;
     actors = refl;
     full = h.full;
@@ -157,6 +158,7 @@ module _ {S R W : Type 0} {stage : Stage S} {reader : Source R} {writer : Sink W
     turned = told_turned (Err e) other tt h.read h.asked;
     link = λ s a. inr (refl, λ none. none-some _ (sym none));
     marks = told_marked {told = Err e} refl h.asked refl;
+    flushes = record { none_before = λ on. refl; once = omega arith };
     turns = refl;
     actors = refl;
     full = λ full. absurd (false≢true full);

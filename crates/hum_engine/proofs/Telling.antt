@@ -1,5 +1,5 @@
 -- What a run has come to, also of sources that tell their bytes.
-use Rattle.std.proofs.Common.{◌≡◌, ◌∙◌, ℕ, ◌+◌, ◌-◌, ◌*◌, ◌<◌, Bool, true, List, [], ◌∷◌, ◌++◌, length, Option, Some}
+use Rattle.std.proofs.Common.{◌≡◌, ◌∙◌, ℕ, ◌+◌, ◌-◌, ◌*◌, ◌<◌, ◌≤◌, Bool, true, List, [], ◌∷◌, ◌++◌, length, Option, Some}
 use Rattle.std.proofs.Common.{None, Vec, Global, false, refl, sym, ap, subst, arith, inl, inr, ⊎_elim, slice_get}
 use Rattle.std.specs.Prelude.{is_some, IfSome}
 use Rattle.std.proofs.lemmas.Bool.{cases_Bool, false≢true}
@@ -83,7 +83,7 @@ module _ {S R W : Type 0} {stage : Stage S} {writer : Sink W} where
 
     run_on : {start : Option (List ℕ)} {s : Scene} {now : Now Row} → s.rests ≡ rests
         → NetAt stage writer start s old now
-        → HasRunOn stage writer order o p start s now new by
+        → HasRunOn stage writer order o p start s now old.turns new by
     unfolding Left
     run_on {start} {s} {now} is h = record {
       left = λ i. (left_at i).0;
@@ -199,10 +199,11 @@ module _ {S R W O : Type 0} {stage : Stage S} {reader : Source R}
       → IsRunning stage writer new
       → AtEach stage writer new (λ start s now. result (plan_of s) now ≡ Some by)
       → (old.failure ≡ None → MarksFailures reader writer old new)
+      → writer.flushes new.sink ≤ writer.flushes old.sink + 1
       → AtEach stage writer old (λ start s now. (e : RunResult) → result (plan_of s) now ≡ Some e
       → (by ≡ e) × (new ≡ old) × (p ≡ o))
       → RunsBy stage reader writer order o p old new by
-  runs_by {p} {new} {by} ran w ends marks again =
+  runs_by {p} {new} {by} ran w ends marks once again =
       let heard = (w.now.links (last (plan_of w.scene))).heard in
       let is = ap (λ f. ended_by f heard) w.at.failure ∙ ends w.start w.scene w.now w.at in
       record {
@@ -210,6 +211,7 @@ module _ {S R W O : Type 0} {stage : Stage S} {reader : Source R}
         whole = λ start s now tells h. run_on ran tells refl h;
         reads = λ none i. grind (arith, (marks none).reads i, is);
         writes = λ none. grind (arith, (marks none).writes, is);
+        flushes = once;
         again = again;
       }
 
@@ -225,9 +227,9 @@ module _ {S R W O : Type 0} {stage : Stage S} {reader : Source R}
         reads = λ i. [];
         read = λ i. read_none _ _;
         runs = λ start s now over h.
-            runs_to (record { turns = []; to = now; driven = (still now, refl); at = h }) (ends start s now h);
+            runs_to (record { turns = []; counted = omega arith; to = now; driven = (still now, refl); at = h }) (ends start s now h);
       })
-      (first_running r) ends (λ none. marks_none refl none) (λ start s now h e is. (told start s now h e is, refl, refl))
+      (first_running r) ends (λ none. marks_none refl none) (omega arith) (λ start s now h e is. (told start s now h e is, refl, refl))
 
   module _ {p q : O} {look after : Option Search} {net new : Net S R W} {is_over : Bool} (r : IsNet stage writer old)
       (ran : Ran stage reader writer order o p look old net)
@@ -238,7 +240,7 @@ module _ {S R W O : Type 0} {stage : Stage S} {reader : Source R}
     ran_out over told =
         let marks = (all r ran more).marks in
         runs_by (has_run r ran more over told) (runs_on r ran more) (ends r ran more over told)
-        (λ none. record { reads = marks.reads; writes = marks.writes; takers = marks.takers })
+        (λ none. record { reads = marks.reads; writes = marks.writes; takers = marks.takers }) (all r ran more).flushes.once
         (λ start s now h e is. absurd (none-some e (sym (ran.going start s now h) ∙ is)))
 
     -- The turns that are left become fewer.

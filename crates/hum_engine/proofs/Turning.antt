@@ -23,7 +23,7 @@ use Rattle.hum_score.specs.Row.{Row}
 use Rattle.hum_turns.specs.Links.{Moment}
 use Rattle.hum_engine.specs.Scene.{Scene, plan_of, moved, before, at_of, held_of, Done, IsActor, HasActor, MayTurn, MayAct}
 use Rattle.hum_engine.specs.Scene.{IsAbout, Keeps, IsKind, Fed}
-use Rattle.hum_engine.specs.Told.{AsksNone, AsksOne}
+use Rattle.hum_engine.specs.Told.{AsksOne}
 use Rattle.hum_engine.proofs.Feeding.{node_at, node_of}
 
 -- A node of this kind makes its stage one.
@@ -129,14 +129,6 @@ act_stays reader {k} {old} {new} was keep =
     (record { consumes = tt; at_end = λ e. absurd (false≢true e); still = λ e. absurd (false≢true e) })
 
 module _ {S R : Type 0} {reader : Source R} {k : ℕ} {old new : Web S R} (was : IsKind false k old) (keep : Keeps k old new) where
-  pub asks_none : new.links ≡ old.links → AsksNone reader k old new
-  asks_none links = record {
-    others = keep.others;
-    links = links;
-    marks = (quiet reader k new keep.kind _ refl).0 ∙ sym (quiet reader k old was _ refl).0;
-    stays = act_stays reader was keep;
-  }
-
   pub asks_no_one : {A : Type 0} (told : Result A ReadError) → is_failed_read told ≡ false
       → AsksOne reader k old new told
   asks_no_one told none =

@@ -15,15 +15,6 @@ pub record IsLink (size : ℕ) (link : Link) (l : Traffic) : Type 0 where
   pub mark : link.mark ≡ l.mark
   pub heard : link.heard ≡ l.heard
 
--- No record waits on it, and its end isn't set.
-pub record IsIdle (link : Link) : Type 0 where
-  pub empty : link.waiting.items ≡ []
-  pub unset : link.mark ≡ None
-
--- the link with a record more
-abbrev pub loaded : Row → Link → Link
-loaded row link = record link { waiting = record link.waiting { items = link.waiting.items ++ row ∷ [] } }
-
 -- whether a record more has room
 abbrev pub room : Link → Bool
 room link = nat_lt (length link.waiting.items) link.waiting.capacity

@@ -38,7 +38,7 @@ use Rattle.hum_engine.specs.declared.net.Stepped.{Stepped as Step}
 use Rattle.hum_engine.specs.declared.net.Stepped.TheVariants as steps
 use Rattle.hum_engine.specs.Readers.{ended_at, failed_at, is_read_of, is_write, ShowsSame, HaveRead, AsksOnce}
 use Rattle.hum_engine.specs.Scene.{Scene, plan_of, moved, before_all, Stands, IsAt, IsNetPlan, IsBegun, Done}
-use Rattle.hum_engine.specs.Scene.{IsActor, AreTakers, TakesFrom, IsFull, HasRoom, IsWaiting, IsHanding, HandsOut}
+use Rattle.hum_engine.specs.Scene.{IsActor, AreTakers, TakesFrom, IsFull, HasRoom}
 use Rattle.hum_engine.specs.Scene.{KeepsOthers}
 use Rattle.hum_engine.specs.declared.search.Search.{Search}
 use Rattle.hum_engine.specs.Writing.{WroteFront as WroteSome}
@@ -55,6 +55,7 @@ pub record HasSent {S R W : Type 0} (writer : Sink W) (row : Row) (old new : Net
   pub part : is_over ≡ true → WroteSome (writer.contents old.sink) (writer.contents new.sink) (text_of row ++ 10 ∷ [])
   pub marked : writer.failed new.sink ≡ (writer.failed old.sink || is_over)
   pub few : writer.calls new.sink ≤ writer.calls old.sink + length (text_of row ++ 10 ∷ [])
+  pub unflushed : writer.flushes new.sink ≡ writer.flushes old.sink
 
 -- The sink has taken what came next, and has written the text of that; behind the end it was flushed,
 -- and the run is over.
@@ -79,6 +80,16 @@ pub record Failed (k : ℕ) (by : RunResult) (old new : Option (List ℕ)) (s : 
 abbrev pub CallsSink : ℕ → ℕ → List Row → Type 0
 CallsSink old new (row ∷ rows) = new ≤ old + length (text_of row ++ 10 ∷ [])
 CallsSink old new [] = new ≡ counted old
+
+-- The flushes among them: none for a record, and one for the end.
+abbrev pub FlushesSink : ℕ → ℕ → List Row → Type 0
+FlushesSink old new (row ∷ rows) = new ≡ old
+FlushesSink old new [] = new ≡ counted old
+
+-- Nothing is flushed while a run goes on, and it is flushed once at most as the run ends.
+pub record FlushesLast (old new : ℕ) (is_over : Bool) : Type 0 where
+  pub none_before : is_over ≡ false → new ≡ old
+  pub once : new ≤ old + 1
 
 abbrev pub SinkWent : {S R : Type 0} → Stage S → Option RunResult → Option (List ℕ) → Option (List ℕ) → Bool → Bool
     → Web S R → Scene → Type 0
@@ -106,6 +117,9 @@ pub record SinkActed {S R W : Type 0} (stage : Stage S) (reader : Source R) (wri
       (writer.contents new.sink) (writer.flushed new.sink) is_over new.web s
   pub asked : (s : Scene) → MayWrite stage old.web s
       → CallsSink (writer.calls old.sink) (writer.calls new.sink) (s.links (last (plan_of s))).waiting
+  pub flushes : (s : Scene) → MayWrite stage old.web s
+      → FlushesSink (writer.flushes old.sink) (writer.flushes new.sink) (s.links (last (plan_of s))).waiting
+  pub flushed_last : FlushesLast (writer.flushes old.sink) (writer.flushes new.sink) is_over
   pub marked : writer.failed new.sink ≡ (writer.failed old.sink || is_write new.failure)
   pub unread : (k : ℕ) → is_read_of k new.failure ≡ false
   pub room : is_over ≡ false → HasRoom (length old.web.links.items - 1) new.web
@@ -148,10 +162,10 @@ HadFewEach stage writer net =
     (start : Option (List ℕ)) (s : Scene) (now : Now Row) → (at : NetAt stage writer start s net now)
     → now.failure ≡ None → (k : ℕ) → turns_of k at.turns ≤ most (plan_of s) now.links k
 
--- So many records lie on the link of stage k, if there is one.
-abbrev pub IsLinked : Scene → Now Row → ℕ → ℕ → Type 0
-IsLinked s now k many =
-    now.failure ≡ None → k < s.count → (many ≡ linked (now.links k)) × (many ≤ s.size)
+-- So many records lie on the link of stage k; on that of the sink, which has none, there are none.
+pub record IsLinked (s : Scene) (now : Now Row) (k many : ℕ) : Type 0 where
+  pub stage : now.failure ≡ None → k < s.count → (many ≡ linked (now.links k)) × (many ≤ s.size)
+  pub sink : now.failure ≡ None → s.count ≤ k → many ≡ 0
 
 -- Nothing comes behind the end of a source that was read.
 abbrev pub AreOver : {S R : Type 0} → List (Node S R) → (ℕ → List ℕ) → Type 0
@@ -291,6 +305,7 @@ pub record HasGone {S R W : Type 0} (stage : Stage S) (reader : Source R) (write
   pub turned : HasTurned stage reader writer k old new answer.is_over
   pub link : (s : Scene) → IsActor stage k old.web s → IsChanged k s new.failure answer.link
   pub marks : MarksFailures reader writer old new
+  pub flushes : FlushesLast (writer.flushes old.sink) (writer.flushes new.sink) answer.is_over
   pub turns : new.turns ≡ old.turns + 1
   pub actors : new.actors ≡ old.actors
   pub full : answer.is_full ≡ true → IsFull k new.web
@@ -305,36 +320,6 @@ pub record HasMoved {S R W : Type 0} (stage : Stage S) (reader : Source R) (writ
   pub changes : (s : Scene) → IsActor stage k old.web s → IsChanged k s new.failure link
   pub turns : new.turns ≡ old.turns + 1
 
--- Stage k has given a record onto its link, and actor t has taken it from there: the net between the two.
-pub record HasHandedOn {S R W : Type 0} (stage : Stage S) (reader : Source R) (writer : Sink W) (k t : ℕ)
-    (old new : Net S R W) (is_over : Bool) : Type 0 where
-  pub between : Net S R W
-  pub given : HasMoved stage reader writer k k old between false
-  pub taken : HasMoved stage reader writer t k between new is_over
-  pub takers : between.takers ≡ old.takers
-  pub waits : IsWaiting k new.web → IsWaiting k between.web
-
--- Stage k has had its turn and has given this record, which is in hand and lies nowhere as yet.
-pub record HasInHand {S R W : Type 0} (stage : Stage S) (reader : Source R) (k : ℕ) (old new : Net S R W)
-    (row : Row) : Type 0 where
-  pub net : new ≡ record old { web = new.web; turns = old.turns + 1 }
-  pub out : HandsOut stage reader k row old.web new.web
-  pub others : KeepsOthers k old.web new.web
-  pub marks : failed_at reader k new.web.nodes.items ≡ failed_at reader k old.web.nodes.items
-
--- It has had its turn, and no record has come of it. The run is over where that has failed.
-pub record HasGoneAlone {S R W : Type 0} (stage : Stage S) (reader : Source R) (writer : Sink W) (k : ℕ)
-    (old new : Net S R W) : Type 0 where
-  pub moved : HasMoved stage reader writer k k old new (is_some new.failure)
-  pub marks : MarksFailures reader writer old new
-
--- Stage k has handed a record on to actor t, and tells whether the run is over.
-pub record HasHanded {S R W : Type 0} (stage : Stage S) (reader : Source R) (writer : Sink W) (k t : ℕ)
-    (old new : Net S R W) (is_over : Bool) : Type 0 where
-  pub both : HasHandedOn stage reader writer k t old new is_over
-  pub marks : MarksFailures reader writer old new
-  pub turns : new.turns ≡ old.turns + 2
-
 -- In a turn of an actor its reader is called once at most, and no other. The sink is asked for no write
 -- but those of the record that it takes, or for one flush at the end; by a stage for nothing.
 pub record AsksLittle {S R W : Type 0} (stage : Stage S) (reader : Source R) (writer : Sink W) (k : ℕ)
@@ -346,6 +331,7 @@ pub record AsksLittle {S R W : Type 0} (stage : Stage S) (reader : Source R) (wr
       → NetAt stage writer start s old now → is_ready (plan_of s) s.size now k ≡ true
       → k ≡ s.count
       → CallsSink (writer.calls old.sink) (writer.calls new.sink) (now.links (last (plan_of s))).waiting
+      × FlushesSink (writer.flushes old.sink) (writer.flushes new.sink) (now.links (last (plan_of s))).waiting
   pub unasked : k ≢ length old.web.nodes.items → new.sink ≡ old.sink
 
 -- While the run goes on the actor isn't ready, and nothing has changed.
@@ -383,10 +369,11 @@ Outcome s start held flushed (ends.Read k) = WroteFront s start held
 Outcome s start held flushed ends.Write = WroteFront s start held
 Outcome s start held flushed ends.Memory = WroteFront s start held
 
--- The order's picks have led a net to a moment.
+-- The order's picks have led a net that had had so many turns to a moment, and each was counted.
 pub record Leads {S R W O : Type 0} (stage : Stage S) (writer : Sink W) (order : Order O) (o p : O)
-    (start : Option (List ℕ)) (s : Scene) (now : Now Row) (net : Net S R W) : Type 0 where
+    (start : Option (List ℕ)) (s : Scene) (now : Now Row) (before : ℕ) (net : Net S R W) : Type 0 where
   pub turns : List ℕ
+  pub counted : net.turns ≡ before + length turns
   pub to : Now Row
   pub driven : Driven order (plan_of s) s.size text_of o now turns to p
   pub at : NetAt stage writer start s net to
@@ -408,7 +395,7 @@ pub record HasStepped {S R W O : Type 0} (stage : Stage S) (reader : Source R) (
       → AreOver new.web.nodes.items s.rests
       → NetAt stage writer start (before_all reads s) old now
       → result (plan_of s) now ≡ None → Sees before s now old
-      → (d : Leads stage writer order o p start s now new)
+      → (d : Leads stage writer order o p start s now old.turns new)
       × Watches after is_over s d.to new
 
 -- It has gone on by some turns, and the order leans there still. A failed read or write has ended it exactly where
@@ -419,6 +406,7 @@ pub record HasAdvanced {S R W O : Type 0} (stage : Stage S) (reader : Source R) 
   pub stepped : HasStepped stage reader writer order o p before after old new is_over
   pub leans : IfSome after (λ look. LeansTo look.side order.pick order.next p)
   pub marks : MarksFailures reader writer old new
+  pub flushes : FlushesLast (writer.flushes old.sink) (writer.flushes new.sink) is_over
 
 -- how many actors are still asked at most before one is ready
 abbrev pub still_to_ask : Option Search → ℕ
@@ -435,8 +423,8 @@ IsCloser before after old new is_over =
 -- The order's picks have led it to its end. What the plan means is a score, where the last stage too
 -- makes scores of scores; its fault is the lowest-numbered one.
 pub record RunsTo {S R W O : Type 0} (stage : Stage S) (writer : Sink W) (order : Order O) (o p : O)
-    (start : Option (List ℕ)) (s : Scene) (now : Now Row) (net : Net S R W) (by : RunResult) : Type 0 where
-  pub leads : Leads stage writer order o p start s now net
+    (start : Option (List ℕ)) (s : Scene) (now : Now Row) (before : ℕ) (net : Net S R W) (by : RunResult) : Type 0 where
+  pub leads : Leads stage writer order o p start s now before net
   pub over : result (plan_of s) leads.to ≡ Some by
   pub outcome : Outcome s start (writer.contents net.sink) (writer.flushed net.sink) by
   pub valid : KeepsFine fine (s.kinds (last (plan_of s))).stage
@@ -453,7 +441,7 @@ pub record HasRun {S R W O : Type 0} (stage : Stage S) (reader : Source R) (writ
   pub runs : (start : Option (List ℕ)) (s : Scene) (now : Now Row)
       → AreOver new.web.nodes.items s.rests
       → NetAt stage writer start (before_all reads s) old now
-      → RunsTo stage writer order o p start s now new by
+      → RunsTo stage writer order o p start s now old.turns new by
 
 -- However the bytes go on that are still to come, the net stands for a moment of a plan.
 pub record IsNet {S R W : Type 0} (stage : Stage S) (writer : Sink W) (net : Net S R W) : Type 0 where
@@ -485,12 +473,6 @@ pub record MayAdvance {S R W O : Type 0} (stage : Stage S) (writer : Sink W) (or
   pub step : MayStep stage writer look net
   pub leans : IfSome look (λ look. LeansTo look.side order.pick order.next o)
 
--- The run goes on however the bytes do, and this stage may hand a record on.
-pub record MayHand {S R W : Type 0} (stage : Stage S) (writer : Sink W) (k : ℕ) (net : Net S R W) : Type 0 where
-  pub look : Option Search
-  pub step : MayStep stage writer look net
-  pub handing : IsHanding stage k net.web
-
 -- Nodes that were asked nothing yet, of a plan by what is still to come of the bytes.
 pub record AreBegun {S R : Type 0} (stage : Stage S) (size : ℕ) (nodes : List (Node S R))
     (scene : (ℕ → List ℕ) → Scene) : Type 0 where
@@ -508,9 +490,9 @@ pub record Tells {S R : Type 0} (reader : Source R) (nodes : List (Node S R)) (r
 
 -- Of these bytes some are left, and the plan has gone on to its end.
 pub record HasRunOn {S R W O : Type 0} (stage : Stage S) (writer : Sink W) (order : Order O) (o p : O)
-    (start : Option (List ℕ)) (s : Scene) (now : Now Row) (net : Net S R W) (by : RunResult) : Type 0 where
+    (start : Option (List ℕ)) (s : Scene) (now : Now Row) (before : ℕ) (net : Net S R W) (by : RunResult) : Type 0 where
   pub left : ℕ → List ℕ
-  pub runs : RunsTo stage writer order o p start (record s { rests = left }) now net by
+  pub runs : RunsTo stage writer order o p start (record s { rests = left }) now before net by
 
 -- What a run by an order has come to.
 pub record RunsBy {S R W O : Type 0} (stage : Stage S) (reader : Source R) (writer : Sink W) (order : Order O)
@@ -521,12 +503,14 @@ pub record RunsBy {S R W O : Type 0} (stage : Stage S) (reader : Source R) (writ
   -- Where the sources tell their bytes, it is what the plan means over these.
   pub whole : (start : Option (List ℕ)) (s : Scene) (now : Now Row)
       → Tells reader old.web.nodes.items s.rests → NetAt stage writer start s old now
-      → HasRunOn stage writer order o p start s now new by
+      → HasRunOn stage writer order o p start s now old.turns new by
   -- It ends by a failed read or write exactly where a call has failed in it.
   pub reads : old.failure ≡ None → (i : ℕ) → failed_at reader i new.web.nodes.items
       ≡ (failed_at reader i old.web.nodes.items || is_read_of i (Some by))
   pub writes : old.failure ≡ None
       → writer.failed new.sink ≡ (writer.failed old.sink || is_write (Some by))
+  -- It is flushed once at most, as it ends.
+  pub flushes : writer.flushes new.sink ≤ writer.flushes old.sink + 1
   -- A run that is over answers its result again.
   pub again : AtEach stage writer old (λ start s now. (e : RunResult)
       → result (plan_of s) now ≡ Some e → (by ≡ e) × (new ≡ old) × (p ≡ o))

@@ -24,7 +24,7 @@ use Rattle.hum_nodes.specs.declared.node.Readiness.TheVariants as kinds
 use Rattle.hum_nodes.specs.declared.node.Node.{Node}
 use Rattle.hum_nodes.specs.Nodes.{StandsAs, is_source, remaining_of, ended_of}
 use Rattle.hum_engine.specs.declared.link.Link.{Link}
-use Rattle.hum_engine.specs.Links.{IsLink, IsIdle, loaded, room}
+use Rattle.hum_engine.specs.Links.{IsLink, room}
 use Rattle.hum_engine.specs.declared.web.Web.{Web}
 
 -- A moment of a plan, with the bytes that each source has still to read: how many stages, what each
@@ -225,63 +225,6 @@ pub record IsFull {S R : Type 0} (k : ℕ) (web : Web S R) : Type 0 where
   pub its : slice_get web.links.items k ≡ Some link
   pub full : room link ≡ false
 
--- The web with this record more on the link of stage k, which is this one.
-abbrev pub laid : {S R : Type 0} → ℕ → Row → Link → Web S R → Web S R
-laid k row link web = record web { links = with_item web.links k (loaded row link) }
-
--- Nothing lies on the link of stage k, no end either.
-pub record HasIdleLink {S R : Type 0} (k : ℕ) (web : Web S R) : Type 0 where
-  pub link : Link
-  pub its : slice_get web.links.items k ≡ Some link
-  pub idle : IsIdle link
-
--- Several records lie on the link of stage k.
-pub record IsCrowded {S R : Type 0} (k : ℕ) (web : Web S R) : Type 0 where
-  pub link : Link
-  pub its : slice_get web.links.items k ≡ Some link
-  pub more : 1 < length link.waiting.items
-
--- Stage k may hand a record on: nothing lies on its link, and it reads bytes or gives next.
-pub record IsHanding {S R : Type 0} (stage : Stage S) (k : ℕ) (web : Web S R) : Type 0 where
-  pub less : k < length web.nodes.items
-  pub node : Node S R
-  pub is : slice_get web.nodes.items k ≡ Some node
-  pub next : (is_source node ≡ true) ⊎ ((is_source node ≡ false)
-      × ((rest : List ℕ) (t : At) → StandsAs stage.stands node rest t → doing_of t ≡ does.Gives))
-  pub idle : HasIdleLink k web
-
--- Stage k waits: it takes next from the link of a stage before it, on which nothing lies.
-pub record IsWaiting {S R : Type 0} (k : ℕ) (web : Web S R) : Type 0 where
-  pub node : Node S R
-  pub is : slice_get web.nodes.items k ≡ Some node
-  pub kind : is_source node ≡ false
-  pub place : ℕ
-  pub wants : node.readiness ≡ kinds.Wants place
-  pub less : node.from < k
-  pub link : Link
-  pub its : slice_get web.links.items node.from ≡ Some link
-  pub idle : IsIdle link
-
--- Stage k takes from the link of this stage next, at this place.
-pub record WantsFrom {S R : Type 0} (stage : Stage S) (k place source : ℕ) (web : Web S R) : Type 0 where
-  pub node : Node S R
-  pub is : slice_get web.nodes.items k ≡ Some node
-  pub kind : is_source node ≡ false
-  pub wants : (rest : List ℕ) (t : At) → StandsAs stage.stands node rest t → doing_of t ≡ does.Wants place
-  pub from : (rest : List ℕ) (t : At) → StandsAs stage.stands node rest t → slice_index (sources_of t) place ≡ source
-
--- Stage k takes this record next, which would be alone on the link that it takes from.
-pub record IsOffered {S R : Type 0} (stage : Stage S) (k : ℕ) (row : Row) (web : Web S R) : Type 0 where
-  pub place : ℕ
-  pub source : ℕ
-  pub link : Link
-  pub its : slice_get web.links.items source ≡ Some link
-  pub empty : link.waiting.items ≡ []
-  pub wants : WantsFrom stage k place source web
-  pub scene : Scene
-  pub at : IsAt stage (laid source row link web) scene
-  pub less : k < scene.count
-
 -- Only the node of stage k may have changed.
 abbrev pub KeepsOthers : {S R : Type 0} → ℕ → Web S R → Web S R → Type 0
 KeepsOthers k old new =
@@ -325,15 +268,3 @@ pub record Fed {S R : Type 0} (stage : Stage S) (reader : Source R) (k : ℕ) (o
   pub still : ended_of node ≡ true → (read ≡ []) × (ended_of after ≡ true)
   pub turns : (s : Scene) → (ended_of after ≡ true → s.rests k ≡ [])
       → MayTurn stage k old (before read k s) → Stepped stage k new s
-
--- Stage k has had its turn and has given this record, but that the record doesn't lie on its link.
-pub record HandsOut {S R : Type 0} (stage : Stage S) (reader : Source R) (k : ℕ) (row : Row) (old new : Web S R)
-    : Type 0 where
-  pub links : new.links ≡ old.links
-  pub fed : (link : Link) → slice_get new.links.items k ≡ Some link → Fed stage reader k old (laid k row link new)
-
--- Stage k has had its turn, in which it has taken this record from a link on which it would have been alone.
-abbrev pub HasAccepted : {S R : Type 0} → Stage S → Source R → ℕ → Row → Web S R → Web S R → Type 0
-HasAccepted stage reader k row old new =
-    (source place : ℕ) (link : Link) → slice_get old.links.items source ≡ Some link → link.waiting.items ≡ []
-    → WantsFrom stage k place source old → Fed stage reader k (laid source row link old) new

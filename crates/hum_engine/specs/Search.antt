@@ -56,11 +56,6 @@ changed look end =
     if nat_eq end look.from then stayed look
     else record look { from = end; behind = look.from }
 
--- The actor that was asked has given a record to this one, which is asked next; and behind it the actor itself
--- or, where that waits for a record, whoever was to be asked behind it.
-abbrev pub handed : Search → ℕ → Bool → Search
-handed look taker waits = record look { from = taker; behind = if waits then look.behind else look.from }
-
 -- On the left the actor that was asked has taken a record from this link, whose stage is asked next; and behind it
 -- the actor itself, unless its own link is full.
 abbrev pub reached : Search → ℕ → Bool → Search

@@ -12,7 +12,7 @@ use Rattle.hum_nodes.specs.Polls.{is_failed_read}
 use Rattle.hum_engine.specs.declared.web.Web.{Web}
 use Rattle.hum_engine.specs.declared.web.Moved.{Moved}
 use Rattle.hum_engine.specs.Readers.{failed_at, HasReadNone, AsksOnce}
-use Rattle.hum_engine.specs.Scene.{Scene, plan_of, HasActor, IsActor, IsKind, IsFull, HasRoom, KeepsOthers, Fed, HandsOut}
+use Rattle.hum_engine.specs.Scene.{Scene, plan_of, HasActor, IsActor, IsKind, IsFull, HasRoom, KeepsOthers, Fed}
 
 -- The reader of stage k was called once at most, and no other. A failed read, or running out of memory,
 -- has read no byte.
@@ -23,13 +23,6 @@ pub record AsksOne {S R A : Type 0} (reader : Source R) (k : ℕ) (old new : Web
       ≡ (failed_at reader k old.nodes.items || is_failed_read told)
   pub once : AsksOnce reader k old.nodes.items new.nodes.items
   pub stays : OnErr told (HasReadNone reader k old.nodes.items new.nodes.items)
-
--- No byte was read and no read has failed, and nothing but the node of stage k may have changed.
-pub record AsksNone {S R : Type 0} (reader : Source R) (k : ℕ) (old new : Web S R) : Type 0 where
-  pub others : KeepsOthers k old new
-  pub links : new.links ≡ old.links
-  pub marks : failed_at reader k new.nodes.items ≡ failed_at reader k old.nodes.items
-  pub stays : HasReadNone reader k old.nodes.items new.nodes.items
 
 -- Stage k has had its turn, which tells what it has come to.
 pub record HasTold {S R : Type 0} (stage : Stage S) (reader : Source R) (k : ℕ) (old new : Web S R)
@@ -52,12 +45,3 @@ pub record HasActed {S R : Type 0} (stage : Stage S) (reader : Source R) (k : �
     (told : Result Moved ReadError) : Type 0 where
   pub was_ready : (s : Scene) → HasActor stage k old s → ready (plan_of s) s.size s.links k ≡ true
   pub tells : HasTold stage reader k old new told
-
--- Stage k was ready and has had its turn, but that the record which it has given, if it has given one, doesn't lie on
--- its link.
-pub record HasFetched {S R : Type 0} (stage : Stage S) (reader : Source R) (k : ℕ) (old new : Web S R)
-    (told : Result (Option Row) ReadError) : Type 0 where
-  pub turned : IfOk told (λ given. MatchOption given (Fed stage reader k old new)
-      (λ row. HandsOut stage reader k row old new))
-  pub read : told ≡ Err error.Read → IsKind true k old
-  pub asked : AsksOne reader k old new told

@@ -5,7 +5,7 @@ ghost use Rattle.hum_turns.specs.Links.{fresh, linked, has_room, has_some};
 ghost use Rattle.hum_turns.specs.Turns.{pushed, popped};
 ghost use Rattle.hum_engine.specs.Traffic.{Traffic, ended};
 ghost use Rattle.hum_score.specs.Row.{Row};
-ghost use Rattle.hum_engine.specs.Links.{IsLink, IsIdle, Tells, Goes, room, taken_of, is_some_of};
+ghost use Rattle.hum_engine.specs.Links.{IsLink, Tells, Goes, room, taken_of, is_some_of};
 ghost use Rattle.hum_engine.specs.declared.link.Taken.TheVariants as kinds;
 
 use circular_buffer::HeapCircularBuffer;
@@ -58,22 +58,6 @@ impl Link {
         ensures pushed { Goes self.old self.new (λ l. pushed l row) }
     {
         let _refused = self.waiting.try_push_back(row);
-    }
-
-    /// Whether no record waits and no end is set.
-    #[inline(always)]
-    pub fn is_idle(&self) -> bool
-        ensures { result ≡ true → IsIdle self.now }
-    {
-        self.waiting.is_empty() && self.mark.is_none()
-    }
-
-    /// Whether more than one record waits.
-    #[inline(always)]
-    pub fn is_crowded(&self) -> bool
-        ensures { result ≡ true → 1 < length self.now.waiting.items }
-    {
-        self.waiting.len() > 1
     }
 
     /// Takes the record that has waited longest. Where none waits the end is heard, if it was set.

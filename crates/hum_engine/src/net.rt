@@ -11,10 +11,8 @@ ghost use Rattle.hum_turns.specs.Ordering.{order_of};
 ghost use Rattle.hum_turns.specs.Counts.{most_in_all};
 ghost use Rattle.hum_turns.specs.Holds.{SomeReady};
 ghost use Rattle.hum_engine.specs.Scene.{Scene, plan_of, Somewhere, IsAt, IsNetPlan, IsBegun};
-ghost use Rattle.hum_engine.specs.Scene.{held_of, HoldsFew, HasRoom, IsOffered, HasAccepted};
-ghost use Rattle.hum_engine.specs.Scene.{WantsFrom, HasActor, IsWaiting, IsCrowded, HasIdleLink};
+ghost use Rattle.hum_engine.specs.Scene.{held_of, HoldsFew, HasRoom};
 ghost use Rattle.hum_engine.specs.Search.{is_left};
-ghost use Rattle.hum_engine.specs.Told.{AsksNone};
 ghost use Rattle.hum_engine.specs.declared.net.Stepped.TheVariants as steps;
 ghost use Rattle.hum_engine.specs.Nets.{HasSent, SinkWaited, SinkActed, MayGo, IsRunning, IsAmong};
 ghost use Rattle.hum_engine.specs.Nets.{HadFewEach, IsLinked, flagged};
@@ -22,7 +20,6 @@ ghost use Rattle.hum_engine.specs.Nets.{NetAt, AtEach, AreBegun, IsNet, RunsBy, 
 ghost use Rattle.hum_engine.specs.Nets.{MayPick, IsNext, MayAsk, HasRested, HasWorked};
 ghost use Rattle.hum_engine.specs.Nets.{HasGone, AsksLittle, fault_by, turned_by, failed_by, is_over};
 ghost use Rattle.hum_engine.specs.Nets.{MayAdvance, HasAdvanced, IsCloser};
-ghost use Rattle.hum_engine.specs.Nets.{MayHand, HasInHand, HasGoneAlone, HasHanded};
 
 use crate::link::Taken;
 use crate::search::Search;
@@ -34,7 +31,7 @@ use hum_read::ReadError;
 use hum_record::Record;
 use hum_stage::Stage;
 use hum_text::calls::{Sink, Source};
-use hum_turns::{Order, RunResult, Side, choose};
+use hum_turns::{Order, RunResult, choose};
 use std::alloc::Global;
 
 /// Nodes and links, what the last stage is written to, and the failure that has ended the run.
@@ -128,13 +125,6 @@ impl<S: Stage + Drop, R: Source + Drop, W: Sink> Net<S, R, W> {
         ensures { self.new ≡ record self.old { failure = Some ends.Write } }
     {
         self.failure = Some(RunResult::Write);
-    }
-
-    #[inline(never)]
-    fn fail_for_memory(&mut self)
-        ensures { self.new ≡ record self.old { failure = Some ends.Memory } }
-    {
-        self.failure = Some(RunResult::Memory);
     }
 
     // Counts the turn of a stage, which has told what it has come to. A failure ends the run.
@@ -276,27 +266,6 @@ impl<S: Stage + Drop, R: Source + Drop, W: Sink> Net<S, R, W> {
         choose(&self.actors, pick)
     }
 
-    // Whether an actor's turn that has changed this link may have made ready who takes from there: not where the actor
-    // took from it, nor where other records lie in front.
-    #[inline(always)]
-    fn wakes(&self, k: usize, link: usize) -> bool
-        requires { link < length self.now.web.links.items }
-        ensures { result ≡ false → link ≡ k → IsCrowded k self.now.web }
-    {
-        link == k && !self.web.is_crowded(k)
-    }
-
-    // Whether an actor is known not to be ready behind its turn: a stage whose link is full, or the sink where nothing
-    // is left on the link that it took from.
-    #[inline(always)]
-    fn rests(&self, k: usize, turned: Turned) -> bool
-        requires { turned.link < length self.now.web.links.items }
-        ensures { result ≡ true → (turned.is_full ≡ true)
-            ⊎ ((k ≡ length self.now.web.nodes.items) × HasIdleLink turned.link self.now.web) }
-    {
-        turned.is_full || (k == self.web.count() && self.web.is_idle(turned.link))
-    }
-
     // Asks the actor that is next and, if it is ready, gives it its turn.
     #[inline(always)]
     fn step<O: Order>(&mut self, order: &mut O, search: &mut Option<Search>) -> Stepped
@@ -320,23 +289,14 @@ impl<S: Stage + Drop, R: Source + Drop, W: Sink> Net<S, R, W> {
         }
         match search {
             Some(search) => {
-                if search.is_left() {
-                    if turned.has_taken {
-                        search.reach(turned.link, turned.is_full);
-                        return Stepped::Room;
-                    }
-                    if turned.is_full {
-                        search.skip(turned.link);
-                    } else {
-                        search.change(turned.link, &self.takers);
-                    }
-                } else if self.wakes(actor, turned.link) {
-                    search.change(turned.link, &self.takers);
+                if search.is_left() && turned.has_taken {
+                    search.reach(turned.link, turned.is_full);
+                    return Stepped::Room;
+                }
+                if search.is_left() && turned.is_full {
+                    search.skip(turned.link);
                 } else {
-                    search.stay();
-                    if self.rests(actor, turned) {
-                        search.pass();
-                    }
+                    search.change(turned.link, &self.takers);
                 }
             }
             None => {
@@ -345,135 +305,6 @@ impl<S: Stage + Drop, R: Source + Drop, W: Sink> Net<S, R, W> {
             }
         }
         Stepped::On
-    }
-
-    // A stage takes a record that was handed to it, and tells whether the run is over.
-    #[inline(always)]
-    fn accept(&mut self, k: usize, row: Record) -> bool
-        requires none { self.old.failure ≡ None }
-        requires offered { IsOffered S.Stage k row self.old.web }
-        ensures ok { result ≡ false → (self.new ≡ record self.old { web = self.new.web })
-            × HasAccepted S.Stage R.Source k row self.old.web self.new.web }
-        ensures err { result ≡ true → self.new ≡ record self.old { web = self.new.web; failure = Some ends.Memory } }
-        ensures asked { AsksNone R.Source k self.old.web self.new.web }
-    {
-        match self.web.accept(k, row) {
-            Ok(()) => false,
-            Err(_) => {
-                self.fail_for_memory();
-                true
-            }
-        }
-    }
-
-    // The turn of a stage that may hand a record on, but that the record which it gives doesn't come to lie on its
-    // link.
-    #[inline(always)]
-    fn fetch(&mut self, k: usize) -> Option<Record>
-        requires { MayHand S.Stage W.Sink k self.old }
-        ensures fetched { MatchOption result (HasGoneAlone S.Stage R.Source W.Sink k self.old self.new)
-            (HasInHand S.Stage R.Source k self.old self.new) }
-        ensures turns { self.new.turns ≡ self.old.turns + 1 }
-    {
-        self.turns += 1;
-        match self.web.fetch(k) {
-            Ok(given) => given,
-            Err(error) => {
-                self.fail(k, error);
-                None
-            }
-        }
-    }
-
-    // Such a turn and, behind it, that of the stage that takes the record. Tells whether the run is over; none, where
-    // there was no record.
-    #[inline(always)]
-    fn hand_to_stage(&mut self, k: usize, taker: usize) -> Option<bool>
-        requires may { MayHand S.Stage W.Sink k self.old }
-        requires wants { (place : ℕ) × WantsFrom S.Stage taker place k self.old.web }
-        ensures { MatchOption result (HasGoneAlone S.Stage R.Source W.Sink k self.old self.new)
-            (HasHanded S.Stage R.Source W.Sink k taker self.old self.new) }
-    {
-        let row = self.fetch(k)?;
-        self.turns += 1;
-        Some(self.accept(taker, row))
-    }
-
-    // The same where it is the sink that takes the record. It isn't ready then.
-    #[inline(always)]
-    fn hand_to_sink(&mut self, k: usize) -> Option<bool>
-        requires may { MayHand S.Stage W.Sink k self.old }
-        requires last { k + 1 ≡ length self.old.web.nodes.items }
-        ensures handed { MatchOption result (HasGoneAlone S.Stage R.Source W.Sink k self.old self.new)
-            (HasHanded S.Stage R.Source W.Sink k (k + 1) self.old self.new) }
-        ensures idle { IfSome result (λ is_over. AtEach S.Stage W.Sink self.new
-            (λ start s now. ended (plan_of s) now ≡ None → is_ready (plan_of s) s.size now (k + 1) ≡ false)) }
-    {
-        let row = self.fetch(k)?;
-        self.turns += 1;
-        Some(self.send(row))
-    }
-
-    // Whether a stage waits, while the run goes on.
-    fn waits(&self, k: usize, is_over: bool) -> bool
-        requires { is_over ≡ false → Somewhere (HasActor S.Stage k self.now.web) }
-        ensures { result ≡ true → IsWaiting k self.now.web }
-    {
-        !is_over && self.web.waits(k)
-    }
-
-    // From the right, the turn of a stage whose link is idle and, behind it, that of who takes from it and waits
-    // for a record: they were to be asked next in any case. Tells whether the run is over, or nothing has moved.
-    #[inline(always)]
-    fn hand_on<O: Order>(&mut self, order: &O, search: &mut Option<Search>) -> Option<bool>
-        requires may { MayAdvance S.Stage W.Sink (order_of O.Order) order.now search.old self.old }
-        ensures advanced { IfSome result
-            (HasAdvanced S.Stage R.Source W.Sink (order_of O.Order) order.now order.now search.old search.new
-            self.old self.new) }
-        ensures turns { IfSome result (λ is_over. self.old.turns < self.new.turns) }
-        ensures same { result ≡ None → (self.new ≡ self.old) × (search.new ≡ search.old) }
-    {
-        let Some(Side::Right) = order.side() else {
-            return None;
-        };
-        let Some(look) = search else {
-            return None;
-        };
-        let k = look.from();
-        if look.is_left() || !self.web.may_hand(k) {
-            return None;
-        }
-        let sink = self.web.count();
-        if k + 1 == sink {
-            return Some(match self.hand_to_sink(k) {
-                Some(is_over) => {
-                    look.hand(sink, self.waits(k, is_over));
-                    look.pass();
-                    is_over
-                }
-                None => {
-                    look.change(k, &self.takers);
-                    self.failure.is_some()
-                }
-            });
-        }
-        let taker = self.takers[k];
-        if !self.web.wants_from(taker, k) {
-            return None;
-        }
-        Some(match self.hand_to_stage(k, taker) {
-            Some(is_over) => {
-                look.hand(taker, self.waits(k, is_over));
-                if self.waits(taker, is_over) {
-                    look.pass();
-                }
-                is_over
-            }
-            None => {
-                look.change(k, &self.takers);
-                self.failure.is_some()
-            }
-        })
     }
 
     // From the left a stage onto whose link room has come has its turn, if it gives or reads at once: it was to be
@@ -499,8 +330,7 @@ impl<S: Stage + Drop, R: Source + Drop, W: Sink> Net<S, R, W> {
         turned.is_over
     }
 
-    // From the right a record that is handed on, or else a step and, from the left, the turn of the stage onto
-    // whose link room has come. Tells whether the run is over.
+    // A step and, from the left, the turn of the stage onto whose link room has come. Tells whether the run is over.
     #[inline(always)]
     fn advance<O: Order>(&mut self, order: &mut O, search: &mut Option<Search>) -> bool
         requires { MayAdvance S.Stage W.Sink (order_of O.Order) order.old search.old self.old }
@@ -508,13 +338,10 @@ impl<S: Stage + Drop, R: Source + Drop, W: Sink> Net<S, R, W> {
             search.new self.old self.new result }
         ensures closer { IsCloser search.old search.new self.old self.new result }
     {
-        match self.hand_on(order, search) {
-            Some(is_over) => is_over,
-            None => match self.step(order, search) {
-                Stepped::On => false,
-                Stepped::Room => self.go_on(order, search),
-                Stepped::Over => true,
-            },
+        match self.step(order, search) {
+            Stepped::On => false,
+            Stepped::Room => self.go_on(order, search),
+            Stepped::Over => true,
         }
     }
 

@@ -1,7 +1,7 @@
 //! Where a run by an order that leans to a side looks for an actor that is ready.
 ghost use Rattle.std.specs.Prelude.{◌≡◌, ◌<◌, ◌-◌, ◌^◌, ℕ, Some, length, slice_get};
 ghost use Rattle.hum_engine.specs.Search.{beginning, away, outer, passed, stayed, changed, skipped, kept_behind};
-ghost use Rattle.hum_engine.specs.Search.{handed, reached, is_left};
+ghost use Rattle.hum_engine.specs.Search.{reached, is_left};
 
 use hum_turns::Side;
 
@@ -96,18 +96,6 @@ impl Search {
         }
     }
 
-    /// From the right it has given a record to this actor, which has taken it: two turns. Where it waits for
-    /// another it isn't asked before whoever is behind it.
-    #[inline(always)]
-    pub fn hand(&mut self, taker: usize, waits: bool)
-        ensures { self.new ≡ handed self.old taker waits }
-    {
-        if !waits {
-            self.behind = self.from;
-        }
-        self.from = taker;
-    }
-
     /// From the left it has taken a record from this link, and its own link is full or isn't.
     #[inline(always)]
     pub fn reach(&mut self, link: usize, is_full: bool)
@@ -133,7 +121,7 @@ impl Search {
 
     /// It is asked again: its turn was nothing to anyone nearer to the side.
     #[inline(always)]
-    pub fn stay(&mut self)
+    fn stay(&mut self)
         requires { self.old.from < 2 ^ 64 - 1 }
         ensures { self.new ≡ stayed self.old }
     {

@@ -12,13 +12,11 @@ ghost use Rattle.hum_nodes.specs.declared.node.Readiness.TheVariants as kinds;
 ghost use Rattle.hum_score.specs.Row.{Row};
 ghost use Rattle.hum_engine.specs.Links.{taken_of, is_some_of};
 ghost use Rattle.hum_engine.specs.declared.link.Taken.TheVariants as taken;
-ghost use Rattle.hum_engine.specs.Told.{HasTold, HasWaited, HasActed, HasFetched, AsksNone};
+ghost use Rattle.hum_engine.specs.Told.{HasTold, HasWaited, HasActed};
 ghost use Rattle.hum_engine.specs.Scene.{Scene, plan_of, Somewhere, IsAt, IsActor, MayTurn, MayAct};
 ghost use Rattle.hum_engine.specs.Scene.{IsKind, Keeps, Done, IsAbout};
 ghost use Rattle.hum_engine.specs.Scene.{IsAboutKind, IsDoing, HasActor};
 ghost use Rattle.hum_engine.specs.Scene.{IsBegun, Stands, HasStage, held_of, HasFullLink, HasRoom};
-ghost use Rattle.hum_engine.specs.Scene.{HasIdleLink, WantsFrom, IsOffered, HasAccepted, IsWaiting};
-ghost use Rattle.hum_engine.specs.Scene.{IsCrowded, IsHanding};
 
 use crate::link::{Link, Taken};
 use hum_nodes::{Node, Readiness};
@@ -110,72 +108,7 @@ impl<S: Stage + Drop, R: Source + Drop> Web<S, R> {
         gives && !self.links[k].has_room()
     }
 
-    /// The turn of a stage that may hand a record on, but that the record which it gives, if it gives one, doesn't
-    /// come to lie on its link.
-    ///
-    /// # Errors
-    /// A failed read, and running out of memory.
-    #[inline(always)]
-    pub fn fetch(&mut self, k: usize) -> Result<Option<Record>, ReadError>
-        requires at { Somewhere (IsAt S.Stage self.old) }
-        requires may { IsHanding S.Stage k self.old }
-        ensures { HasFetched S.Stage R.Source k self.old self.new result }
-    {
-        if self.nodes[k].gives_ahead() {
-            return Ok(Some(self.nodes[k].take_ahead()));
-        }
-        if self.is_source(k) {
-            return self.read_next(k);
-        }
-        self.make_next(k)
-    }
-
-    // The same of a source.
-    #[inline(always)]
-    fn read_next(&mut self, k: usize) -> Result<Option<Record>, ReadError>
-        requires turn { Somewhere (MayTurn S.Stage k self.old) }
-        requires source { IsKind true k self.old }
-        ensures { HasFetched S.Stage R.Source k self.old self.new result }
-    {
-        match self.nodes[k].next(&mut self.pool) {
-            Some(row) => Ok(Some(row)),
-            None => match self.nodes[k].stopped() {
-                Some(Ok(end)) => {
-                    self.links[k].end(end);
-                    Ok(None)
-                }
-                Some(Err(error)) => Err(error),
-                None => Ok(None),
-            },
-        }
-    }
-
-    // The same of another stage.
-    #[inline(always)]
-    fn make_next(&mut self, k: usize) -> Result<Option<Record>, ReadError>
-        requires at { Somewhere (IsAt S.Stage self.old) }
-        requires may { IsHanding S.Stage k self.old }
-        requires stage { IsKind false k self.old }
-        ensures { HasFetched S.Stage R.Source k self.old self.new result }
-    {
-        match self.nodes[k].take(&mut self.pool) {
-            Ok(given) => Ok(given),
-            Err(_) => Err(ReadError::Memory),
-        }
-    }
-
-    // Whether a stage is a source.
-    #[inline(always)]
-    fn is_source(&self, k: usize) -> bool
-        requires { k < length self.now.nodes.items }
-        ensures { IsKind result k self.now }
-    {
-        self.nodes[k].is_source()
-    }
-
     // A turn of a source, which changes its own link.
-    // It is `read_next` and a push; with a call of that here, a stage's turn and a source's meet again behind it, and
-    // each record takes 3 % more.
     #[inline(always)]
     fn poll(&mut self, k: usize) -> Result<Moved, ReadError>
         requires turn { Somewhere (MayTurn S.Stage k self.old) }
@@ -392,85 +325,6 @@ impl<S: Stage + Drop, R: Source + Drop> Web<S, R> {
         None
     }
 
-    /// Whether a stage waits: it takes from another stage next, and nothing lies on the link of that.
-    pub fn waits(&self, k: usize) -> bool
-        requires { Somewhere (HasActor S.Stage k self.now) }
-        ensures { result ≡ true → IsWaiting k self.now }
-    {
-        match self.nodes[k].readiness() {
-            Readiness::Wants(_) => {
-                let source = self.nodes[k].source();
-                self.links[source].is_idle()
-            }
-            Readiness::Gives | Readiness::Reads | Readiness::Done => false,
-        }
-    }
-
-    /// Whether a stage may hand a record on: nothing lies on its link, and it reads bytes or gives next.
-    #[inline(always)]
-    pub fn may_hand(&self, k: usize) -> bool
-        requires { Somewhere (IsAt S.Stage self.now) }
-        ensures { result ≡ true → IsHanding S.Stage k self.now }
-    {
-        if k >= self.nodes.len() || !self.is_idle(k) {
-            return false;
-        }
-        if self.is_source(k) {
-            return true;
-        }
-        match self.nodes[k].readiness() {
-            Readiness::Gives => true,
-            Readiness::Wants(_) | Readiness::Reads | Readiness::Done => false,
-        }
-    }
-
-    /// Whether several records lie on the link of a stage.
-    #[inline(always)]
-    pub fn is_crowded(&self, k: usize) -> bool
-        requires { k < length self.now.links.items }
-        ensures { result ≡ true → IsCrowded k self.now }
-    {
-        self.links[k].is_crowded()
-    }
-
-    /// Whether nothing lies there.
-    #[inline(always)]
-    pub fn is_idle(&self, k: usize) -> bool
-        requires { k < length self.now.links.items }
-        ensures { result ≡ true → HasIdleLink k self.now }
-    {
-        self.links[k].is_idle()
-    }
-
-    /// Whether a stage takes from this other one next.
-    #[inline(always)]
-    pub fn wants_from(&self, k: usize, source: usize) -> bool
-        requires { Somewhere (IsAt S.Stage self.now) }
-        ensures { result ≡ true → (place : ℕ) × WantsFrom S.Stage k place source self.now }
-    {
-        if k >= self.nodes.len() {
-            return false;
-        }
-        match self.nodes[k].readiness() {
-            Readiness::Wants(_) => self.nodes[k].source() == source,
-            Readiness::Gives | Readiness::Reads | Readiness::Done => false,
-        }
-    }
-
-    /// The turn of a stage that takes this record, which is alone on a link, though it never came to lie there.
-    ///
-    /// # Errors
-    /// Out of memory.
-    #[inline(always)]
-    pub fn accept(&mut self, k: usize, row: Record) -> Result<(), AllocError>
-        requires { IsOffered S.Stage k row self.old }
-        ensures accepted { OnOk result (HasAccepted S.Stage R.Source k row self.old self.new) }
-        ensures asked { AsksNone R.Source k self.old self.new }
-    {
-        self.nodes[k].put(row, &mut self.pool)?;
-        Ok(())
-    }
-
     /// Whether an actor is ready.
     #[inline(always)]
     pub fn ready(&self, k: usize) -> bool
@@ -499,8 +353,9 @@ impl<S: Stage + Drop, R: Source + Drop> Web<S, R> {
 
     /// How many records lie on the link of a stage; none where there is no such stage.
     pub fn linked(&self, k: usize) -> usize
-        ensures { (s : Scene) → HasStage S.Stage k self.now s
+        ensures stage { (s : Scene) → HasStage S.Stage k self.now s
             → (result ≡ linked (s.links k)) × (result ≤ s.size) }
+        ensures none { length self.now.links.items ≤ k → result ≡ 0 }
     {
         if k >= self.links.len() {
             return 0;

@@ -115,8 +115,8 @@ all_begun {commands = commands} stages nodes size tree some fits = record {
 
 -- How its run has ended.
 pub ended_so : {S R W O : Type 0} {commands : Commands S} {writer : Sink W} {order : Order O} {o p : O}
-    {start : Option (List ℕ)} {bytes rests : ℕ → List ℕ} {stages : List plan.Stage} {link : ℕ} {made : Net S R W}
-    {by : RunResult} → net.RunsTo commands writer order o p start (scene_of bytes rests stages link) first_now made by
+    {start : Option (List ℕ)} {bytes rests : ℕ → List ℕ} {stages : List plan.Stage} {link before : ℕ} {made : Net S R W}
+    {by : RunResult} → net.RunsTo commands writer order o p start (scene_of bytes rests stages link) first_now before made by
     → HasEnded order bytes stages link by o p start (writer.contents made.sink)
 ended_so run = record {
   picked = record {

@@ -1,5 +1,5 @@
 //! Runs of bundles: a plan and its scores in one stream.
-ghost use Rattle.std.specs.Prelude.{◌≡◌, ◌≤◌, ◌<◌, ◌||◌, length, nat_lt, true, false, ℕ};
+ghost use Rattle.std.specs.Prelude.{◌≡◌, ◌≤◌, ◌<◌, ◌+◌, ◌||◌, length, nat_lt, true, false, ℕ};
 ghost use Rattle.std.specs.Prelude.{IfOk, OnOk, IfErr, None, Some};
 ghost use Rattle.hum_plan.specs.Stages.{IsTree, Read};
 ghost use Rattle.hum_plan.specs.Seen.{stages_of, options_of};
@@ -170,6 +170,9 @@ pub fn run_bundle<O: Order, W: Sink + Drop>(
 
     // A failed write or flush is told exactly where one set the writer's mark.
     ensures marked { W.failed result.1 ≡ (W.failed writer || is_failed_write result.0) }
+
+    // It is flushed once at most, as the run ends.
+    ensures flushes { W.flushes result.1 ≤ W.flushes writer + 1 }
 
     // The scores are held, so that no read of one fails, and none is told to.
     ensures unread { (k : ℕ) → is_read_by k result.0 ≡ false }

@@ -10,7 +10,7 @@ ghost use Rattle.hum_plan.specs.Seen.{stages_of};
 ghost use Rattle.hum_engine.specs.Scene.{plan_of, held_of, HoldsFew};
 ghost use Rattle.hum_engine.specs.Readers.{failed_at, is_read_of, is_write};
 ghost use Rattle.hum_engine.specs.Nets.{NetAt, Tells, HasTurned, RunsBy, WroteFront};
-ghost use Rattle.hum_engine.specs.Nets.{CallsSink, AtEach, HadFewEach, IsLinked};
+ghost use Rattle.hum_engine.specs.Nets.{CallsSink, FlushesSink, AtEach, HadFewEach, IsLinked};
 ghost use Rattle.hum_turns.specs.Plan.{last};
 ghost use Rattle.hum_net.specs.Nodes.{AreTold, readers_of};
 ghost use Rattle.hum_net.specs.Parts.{AreSoundFrom};
@@ -115,6 +115,9 @@ impl<R: Source + Drop, W: Sink, S: Stage + Drop> Net<R, W, S> {
         // at the end.
         ensures asked { AtEach S.Stage W.Sink self.old
             (λ start s now. k ≡ s.count → CallsSink (W.calls self.old.sink) (W.calls self.new.sink)
+            (now.links (last (plan_of s))).waiting) }
+        ensures flushes { AtEach S.Stage W.Sink self.old
+            (λ start s now. k ≡ s.count → FlushesSink (W.flushes self.old.sink) (W.flushes self.new.sink)
             (now.links (last (plan_of s))).waiting) }
     {
         self.engine.turn(k).is_over

@@ -1,5 +1,5 @@
 //! Runs of plans.
-ghost use Rattle.std.specs.Prelude.{◌≡◌, ◌≤◌, ◌||◌, ◌⊎◌, ℕ, false, List, Some, length};
+ghost use Rattle.std.specs.Prelude.{◌≡◌, ◌≤◌, ◌+◌, ◌||◌, ◌⊎◌, ℕ, false, List, Some, length};
 ghost use Rattle.hum_plan.specs.Stages.{IsTree};
 ghost use Rattle.hum_plan.specs.Seen.{stages_of};
 ghost use Rattle.hum_turns.specs.Ordering.{order_of};
@@ -52,6 +52,9 @@ pub fn run_stages<R: Source + Drop, O: Order, W: Sink + Drop>(
 
     // A failed write or flush is told exactly where one set the sink's mark.
     ensures marked { W.failed result.1 ≡ (W.failed sink || is_write (Some result.0)) }
+
+    // It is flushed once at most, as the run ends.
+    ensures flushes { W.flushes result.1 ≤ W.flushes sink + 1 }
 
     // Where no reader can fail, no failed read is told.
     ensures unread { ((reader : R) → R.failed reader ≡ false)

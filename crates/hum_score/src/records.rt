@@ -44,25 +44,34 @@ impl From<SpinedKind> for Kind {
 
 /// Why a text is no record, or a token has no place in one.
 #[derive(Clone, Copy, Debug, PartialEq, Eq, Error)]
+#[error("{}", self.text())]
 pub enum RecordFault {
     /// Two tabs in a row, or a tab at an end of the line.
-    #[error("S4: an empty token")]
     S4,
     /// Comments, interpretations and data side by side.
-    #[error("S5: tokens of different kinds in one record")]
     S5,
     /// A local comment with a token that begins with `!!`.
-    #[error("S6: a local comment with a token that begins with !!")]
     S6,
     /// A carriage return within the line.
-    #[error("S8: a carriage return within the line")]
     S8,
     /// A record of over 1,048,576 bytes.
-    #[error("L1: a record of over 1,048,576 bytes")]
     L1,
     /// Memory ran out.
-    #[error("out of memory")]
     Memory,
+}
+
+impl RecordFault {
+    // What is told of it.
+    fn text(self) -> &'static str {
+        match self {
+            RecordFault::S4 => "S4: an empty token",
+            RecordFault::S5 => "S5: tokens of different kinds in one record",
+            RecordFault::S6 => "S6: a local comment with a token that begins with !!",
+            RecordFault::S8 => "S8: a carriage return within the line",
+            RecordFault::L1 => "L1: a record of over 1,048,576 bytes",
+            RecordFault::Memory => "out of memory",
+        }
+    }
 }
 
 impl From<AllocError> for RecordFault {

@@ -79,7 +79,7 @@ pub fn token_sign(token: &[u8]) -> Sign
 }
 
 /// Where a spine after a record comes from. Spines are counted from 0, from the left.
-#[derive(Clone, Copy, Debug, PartialEq, Eq)]
+#[derive(Clone, Copy, PartialEq, Eq)]
 pub enum Move {
     /// It is that spine.
     Same(u16),
@@ -95,43 +95,56 @@ pub enum Move {
 
 /// Which path rule a record breaks, or that memory ran out.
 #[derive(Clone, Copy, Debug, PartialEq, Eq, Error)]
+#[error("{}", self.text())]
 pub enum PathFault {
     /// The opening record has a token that is no exclusive interpretation.
-    #[error("P1: an opening record with a token that is no exclusive interpretation")]
     P1,
     /// There are more or fewer tokens than spines.
-    #[error("P2: more or fewer tokens than spines")]
     P2,
     /// A `*v` stands without a `*v` beside it.
-    #[error("P3: a *v without a *v beside it")]
     P3,
     /// One `*x` stands alone, or there are more than two.
-    #[error("P4: a number of *x other than none and two")]
     P4,
     /// Neighbouring `*v` stand under different exclusive interpretations.
-    #[error("P5: neighbouring *v under different exclusive interpretations")]
     P5,
     /// An added spine has no exclusive interpretation in the record behind it.
-    #[error("P6: an added spine without an exclusive interpretation in the next record")]
     P6,
     /// A record stands behind the end of the last spine.
-    #[error("P7: a record after the end of the last spine")]
     P7,
     /// The input ends while a spine is open.
-    #[error("P8: an open spine at the end of the input")]
     P8,
     /// More than 4,096 spines would be open.
-    #[error("P9: more than 4,096 spines")]
     P9,
     /// The token `**` stands alone.
-    #[error("P10: an exclusive interpretation without a name")]
     P10,
     /// An exclusive interpretation and a path indicator stand in one record.
-    #[error("P11: an exclusive interpretation and a path indicator in one record")]
     P11,
     /// There was no memory.
-    #[error("out of memory")]
     Memory,
+}
+
+impl PathFault {
+    // What is told of it.
+    fn text(self) -> &'static str {
+        match self {
+            PathFault::P1 => {
+                "P1: an opening record with a token that is no exclusive interpretation"
+            }
+            PathFault::P2 => "P2: more or fewer tokens than spines",
+            PathFault::P3 => "P3: a *v without a *v beside it",
+            PathFault::P4 => "P4: a number of *x other than none and two",
+            PathFault::P5 => "P5: neighbouring *v under different exclusive interpretations",
+            PathFault::P6 => {
+                "P6: an added spine without an exclusive interpretation in the next record"
+            }
+            PathFault::P7 => "P7: a record after the end of the last spine",
+            PathFault::P8 => "P8: an open spine at the end of the input",
+            PathFault::P9 => "P9: more than 4,096 spines",
+            PathFault::P10 => "P10: an exclusive interpretation without a name",
+            PathFault::P11 => "P11: an exclusive interpretation and a path indicator in one record",
+            PathFault::Memory => "out of memory",
+        }
+    }
 }
 
 impl From<AllocError> for PathFault {

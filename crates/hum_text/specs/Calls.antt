@@ -2,11 +2,12 @@
 use Rattle.std.specs.Prelude.{◌≡◌, ℕ, ◌+◌, ◌-◌, ◌^◌, min, Bool, true, ◌||◌, ◌==◌, Result}
 use Rattle.std.specs.Prelude.{Ok, Err}
 
--- A source or a sink, as contracts see it: what it is made of, how many calls were made, whether
--- one failed, and whether the last one was a flush that didn't.
+-- A source or a sink, as contracts see it: what it is made of, how many calls were made, how many of
+-- them were flushes, whether one failed, and whether the last one was a flush that didn't.
 pub record Calls (T : Type 0) : Type 0 where
   pub inner : T
   pub calls : ℕ
+  pub flushes : ℕ
   pub failed : Bool
   pub flushed : Bool
 

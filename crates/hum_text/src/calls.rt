@@ -37,6 +37,8 @@ pub trait Sink {
     ghost contents: { Self → Option (List ℕ) };
     // how many calls were made
     ghost calls: { Self → ℕ };
+    // how many of them were flushes
+    ghost flushes: { Self → ℕ };
     // whether a call failed
     ghost failed: { Self → Bool };
     // whether the last call was a flush that didn't fail
@@ -47,6 +49,7 @@ pub trait Sink {
         ensures bound { WritesAtMost result buf.now }
         ensures bytes { WriteAppends (contents self.old) (contents self.new) result buf.now }
         ensures calls { calls self.new ≡ counted (calls self.old) }
+        ensures flushes { flushes self.new ≡ flushes self.old }
         ensures failed { failed self.new ≡ (failed self.old || write_fails result) }
         ensures flushed { flushed self.new ≡ false };
 
@@ -54,6 +57,7 @@ pub trait Sink {
     fn flush(&mut self) -> io::Result<()>
         ensures bytes { Keeps (contents self.old) (contents self.new) }
         ensures calls { calls self.new ≡ counted (calls self.old) }
+        ensures flushes { flushes self.new ≡ counted (flushes self.old) }
         ensures failed { failed self.new ≡ (failed self.old || is_err result) }
         ensures flushed { flushed self.new ≡ is_ok result };
 }
@@ -63,6 +67,7 @@ pub trait Sink {
 pub struct Marked<T> {
     inner: T,
     calls: u64,
+    flushes: u64,
     failed: bool,
     flushed: bool,
 }
@@ -75,6 +80,7 @@ impl<T> Model for Marked<T> {
     ghost view = { λ m. record {
       inner = m.inner;
       calls = m.calls;
+      flushes = m.flushes;
       failed = m.failed;
       flushed = m.flushed;
     } };
@@ -83,11 +89,12 @@ impl<T> Model for Marked<T> {
 impl<T> Marked<T> {
     /// A reader or a writer on which no call was made yet.
     pub fn new(inner: T) -> Marked<T>
-        ensures { result ≡ record { inner = inner; calls = 0; failed = false; flushed = false } }
+        ensures { result ≡ record { inner = inner; calls = 0; flushes = 0; failed = false; flushed = false } }
     {
         Marked {
             inner,
             calls: 0,
+            flushes: 0,
             failed: false,
             flushed: false,
         }
@@ -151,6 +158,8 @@ impl<T: Write> Sink for Marked<T> {
 
     ghost calls = { λ m. m.calls };
 
+    ghost flushes = { λ m. m.flushes };
+
     ghost failed = { λ m. m.failed };
 
     ghost flushed = { λ m. m.flushed };
@@ -167,6 +176,7 @@ impl<T: Write> Sink for Marked<T> {
     fn flush(&mut self) -> io::Result<()> {
         let result = self.inner.flush();
         self.note(result.is_err(), result.is_ok());
+        self.flushes = self.flushes.saturating_add(1);
         result
     }
 }

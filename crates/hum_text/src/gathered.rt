@@ -24,6 +24,7 @@ pub struct Gathered<T: Write + Drop> {
     room: Vec<u8>,
     len: usize,
     calls: u64,
+    flushes: u64,
     failed: bool,
     flushed: bool,
 }
@@ -39,6 +40,7 @@ impl<T: Write + Drop> Model for Gathered<T> {
       inner = g.inner;
       held = take g.len g.room.items;
       calls = g.calls;
+      flushes = g.flushes;
       failed = g.failed;
       flushed = g.flushed;
     } };
@@ -120,6 +122,7 @@ impl<T: Write + Drop> Gathered<T> {
           inner = inner;
           held = [];
           calls = 0;
+          flushes = 0;
           failed = false;
           flushed = false;
         }) }
@@ -130,6 +133,7 @@ impl<T: Write + Drop> Gathered<T> {
             room,
             len: 0,
             calls: 0,
+            flushes: 0,
             failed: false,
             flushed: false,
         })
@@ -154,6 +158,7 @@ impl<T: Write + Drop> Gathered<T> {
         ensures bytes { Keeps (append_known (T.contents self.old.inner) self.old.held)
             (append_known (T.contents self.new.inner) self.new.held) }
         ensures calls { self.new.calls ≡ self.old.calls }
+        ensures flushes { self.new.flushes ≡ self.old.flushes }
         ensures failed { self.new.failed ≡ self.old.failed }
         ensures flushed { self.new.flushed ≡ self.old.flushed }
     {
@@ -171,6 +176,7 @@ impl<T: Write + Drop> Gathered<T> {
         ensures bytes { WriteAppends (append_known (T.contents self.old.inner) self.old.held)
             (append_known (T.contents self.new.inner) self.new.held) result buf.now }
         ensures calls { self.new.calls ≡ counted self.old.calls }
+        ensures flushes { self.new.flushes ≡ self.old.flushes }
         ensures failed { self.new.failed ≡ (self.old.failed || write_fails result) }
         ensures flushed { self.new.flushed ≡ false }
     {
@@ -187,6 +193,8 @@ impl<T: Write + Drop> Sink for Gathered<T> {
     ghost contents = { λ g. append_known (T.contents g.inner) g.held };
 
     ghost calls = { λ g. g.calls };
+
+    ghost flushes = { λ g. g.flushes };
 
     ghost failed = { λ g. g.failed };
 
@@ -209,6 +217,7 @@ impl<T: Write + Drop> Sink for Gathered<T> {
         ensures bytes { Keeps (append_known (T.contents self.old.inner) self.old.held)
             (append_known (T.contents self.new.inner) self.new.held) }
         ensures calls { self.new.calls ≡ counted self.old.calls }
+        ensures flushes { self.new.flushes ≡ counted self.old.flushes }
         ensures failed { self.new.failed ≡ (self.old.failed || is_err result) }
         ensures flushed { self.new.flushed ≡ is_ok result }
         ensures held { OnOk result (self.new.held ≡ []) }
@@ -218,6 +227,7 @@ impl<T: Write + Drop> Sink for Gathered<T> {
             Err(error) => Err(error),
         };
         self.note(result.is_err(), result.is_ok());
+        self.flushes = self.flushes.saturating_add(1);
         result
     }
 }
@@ -231,6 +241,7 @@ impl<T: Write + Drop> Drop for Gathered<T> {
             room: _room,
             len: _,
             calls: _,
+            flushes: _,
             failed: _,
             flushed: _,
         } = self;

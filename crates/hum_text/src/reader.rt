@@ -310,6 +310,26 @@ impl<R: Source> LineReader<R> {
         self.near = self.free.saturating_sub(NEAR - 1);
     }
 
+    // The same behind a read, in front of which so many bytes were searched in vain: where there are any, none are
+    // shown ahead, and polls find the end of that line, each going on where the last one stopped.
+    fn count_ahead(&mut self, searched: usize)
+        ensures { self.new ≡ self.old }
+    {
+        self.count_free();
+        if searched > 0 {
+            self.near = 0;
+        }
+    }
+
+    // Counts it anew behind such a line.
+    fn show_ahead(&mut self)
+        ensures { self.new ≡ self.old }
+    {
+        if self.near == 0 {
+            self.count_free();
+        }
+    }
+
     // What a poll gives where no LF was read: a fault of the line so far, or what a read gives.
     fn read_on(&mut self) -> Result<Step, TextFault>
         requires no_fault { self.old.fault ≡ None }
@@ -317,7 +337,8 @@ impl<R: Source> LineReader<R> {
         requires going { self.old.ended ≡ false }
         ensures { GoesReading R.remaining R.calls R.failed self.old result self.new }
     {
-        match self.fault_in(self.block.pending().len()) {
+        let size = self.block.pending().len();
+        match self.fault_in(size) {
             Some(fault) => self.fail(fault),
             None => match self.block.fill(&mut self.source) {
                 Err(fault) => self.fail(fault),
@@ -326,7 +347,7 @@ impl<R: Source> LineReader<R> {
                     self.last_line()
                 }
                 Ok(_) => {
-                    self.count_free();
+                    self.count_ahead(size);
                     Ok(Step::More)
                 }
             },
@@ -403,6 +424,7 @@ impl<R: Source> LineReader<R> {
             return Err(fault);
         }
         if self.next_line() {
+            self.show_ahead();
             return Ok(Step::Line);
         }
         match self.block.find_line_end() {

@@ -1,4 +1,4 @@
-use Rattle.std.proofs.Common.{◌≡◌, ◌||◌, ◌++◌, ℕ, List, true, false, refl, inl, inr}
+use Rattle.std.proofs.Common.{◌≡◌, ◌||◌, ◌++◌, ℕ, List, true, false, refl, inl, inr, arith}
 use Rattle.hum_engine.specs.Readers.{ended_at}
 use Rattle.hum_net.specs.Scenes.{scene_of, first_now}
 use Rattle.hum_net.proofs.Going.{ended_so, has_written, means_valid, nothing_written, no_read_failed}
@@ -30,6 +30,13 @@ pub returns-in-Ok-clause-marked : goal.returns-in-Ok-clause-marked
 returns-in-Ok-clause-marked g c =
     let writes = c.run-result.ensures.writes c.in-Ok.ensures.failure in
     rw c.into_writer.ensures.sink (rw c.in-Ok.ensures.sink at writes)
+
+pub returns-in-Ok-clause-flushes : goal.returns-in-Ok-clause-flushes
+returns-in-Ok-clause-flushes g c =
+    rw c.into_writer.ensures.sink (rw c.in-Ok.ensures.sink at c.run-result.ensures.flushes)
+
+pub returns-in-Err-clause-flushes : goal.returns-in-Err-clause-flushes
+returns-in-Err-clause-flushes g c = rw c.in-Err.ensures.err (omega arith)
 
 pub returns-in-Ok-clause-unread : goal.returns-in-Ok-clause-unread
 returns-in-Ok-clause-unread g c = λ never k.

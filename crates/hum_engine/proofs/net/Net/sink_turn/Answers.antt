@@ -14,6 +14,8 @@ returns-in-Record g c = record {
       c.send.ensures (c.in-Record.ensures.done refl s h.at) (ap row_of (c.in-Record.ensures.taken s h.at) ∙ row_next _ _)
       (not_heard (s.links (last (plan_of s))) h.some));
   asked = search rules;
+  flushes = search rules;
+  flushed_last = search rules;
   marked = search rules;
   unread = search rules;
   room = search rules;
@@ -29,6 +31,8 @@ returns-in-Ok g c = record {
       (ap row_of (c.in-End.ensures.taken s h.at) ∙ row_next _ _) h.some (keeps_appends _ _ c.in-Ok.ensures.bytes)
       c.in-Ok.ensures.flushed);
   asked = search rules;
+  flushes = search rules;
+  flushed_last = search rules;
   marked = search rules;
   unread = search rules;
   room = search rules;

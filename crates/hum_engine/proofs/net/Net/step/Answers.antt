@@ -1,9 +1,8 @@
 use Rattle.std.proofs.Common.{◌∙◌, refl, sym, ap, arith, slice_get}
 use Rattle.hum_engine.proofs.Advancing.{pick_now}
 use Rattle.hum_engine.proofs.Choosing.{asked, may_ask, never_picked, past_advanced, past_closer, search_few}
-use Rattle.hum_engine.proofs.Choosing.{out_advanced, link_by, port_by, ends_by, on_advanced, over_advanced}
-use Rattle.hum_engine.proofs.Choosing.{reached_advanced, else_advanced, stayed_advanced, rested_advanced}
-use Rattle.hum_engine.proofs.Searching.{right_side}
+use Rattle.hum_engine.proofs.Choosing.{out_advanced, link_by, ends_by, on_advanced, over_advanced}
+use Rattle.hum_engine.proofs.Choosing.{reached_advanced, else_advanced}
 use Rattle.hum_engine.proofs.net.Net.step.Goals as goal
 
 pub next-actor-requires : goal.next-actor-requires
@@ -50,7 +49,8 @@ skip-requires g c = omega (arith, (search_few c.requires.may c.in-Some-search-2.
 
 pub returns-then-turned-3-clause-advanced : goal.returns-then-turned-3-clause-advanced
 returns-then-turned-3-clause-advanced g c = over_advanced (asked c.requires.may c.next-actor.ensures) c.in-Some.ensures
-    c.if-turned.false c.if-turned-3.true c.in-Some-search-2.is (sym c.is_left.ensures ∙ c.if-is_left.true) c.skip.ensures
+    c.if-turned.false c.if-turned-3.true c.in-Some-search-2.is (sym c.is_left-in-Some-search-2.ensures ∙ c.if-is_left-2.true)
+    c.skip.ensures
 
 pub change-requires-clause-from : goal.change-requires-clause-from
 change-requires-clause-from g c = omega (arith, (search_few c.requires.may c.in-Some-search-2.is).0)
@@ -59,43 +59,10 @@ pub change-requires-clause-link : goal.change-requires-clause-link
 change-requires-clause-link g c = rw c.deref.ensures.value
     (link_by (asked c.requires.may c.next-actor.ensures) c.in-Some.ensures c.if-turned.false)
 
-pub returns-else-turned-3-clause-advanced : goal.returns-else-turned-3-clause-advanced
-returns-else-turned-3-clause-advanced g c = on_advanced (asked c.requires.may c.next-actor.ensures) c.in-Some.ensures
+pub returns-else-is_left-2-clause-advanced : goal.returns-else-is_left-2-clause-advanced
+returns-else-is_left-2-clause-advanced g c = on_advanced (asked c.requires.may c.next-actor.ensures) c.in-Some.ensures
     c.if-turned.false c.in-Some-search-2.is c.change.ensures.side
     (λ taker at. c.change.ensures.changed taker (ap (λ l. slice_get l c.in-Some.turned.link) c.deref.ensures.value ∙ at))
-
--- From the right.
-
-pub wakes-requires : goal.wakes-requires
-wakes-requires g c = port_by (asked c.requires.may c.next-actor.ensures) c.in-Some.ensures c.if-turned.false
-
-pub change-requires-then-wakes-clause-from : goal.change-requires-then-wakes-clause-from
-change-requires-then-wakes-clause-from g c = omega (arith, (search_few c.requires.may c.in-Some-search-2.is).0)
-
-pub change-requires-then-wakes-clause-link : goal.change-requires-then-wakes-clause-link
-change-requires-then-wakes-clause-link g c = rw c.deref-then-wakes.ensures.value
-    (link_by (asked c.requires.may c.next-actor.ensures) c.in-Some.ensures c.if-turned.false)
-
-pub returns-then-wakes-clause-advanced : goal.returns-then-wakes-clause-advanced
-returns-then-wakes-clause-advanced g c = on_advanced (asked c.requires.may c.next-actor.ensures) c.in-Some.ensures
-    c.if-turned.false c.in-Some-search-2.is c.change-then-wakes.ensures.side
-    (λ taker at. c.change-then-wakes.ensures.changed taker
-    (ap (λ l. slice_get l c.in-Some.turned.link) c.deref-then-wakes.ensures.value ∙ at))
-
-pub stay-requires : goal.stay-requires
-stay-requires g c = omega (arith, (search_few c.requires.may c.in-Some-search-2.is).0)
-
-pub rests-requires : goal.rests-requires
-rests-requires g c = port_by (asked c.requires.may c.next-actor.ensures) c.in-Some.ensures c.if-turned.false
-
-pub returns-else-rests-clause-advanced : goal.returns-else-rests-clause-advanced
-returns-else-rests-clause-advanced g c = stayed_advanced (asked c.requires.may c.next-actor.ensures) c.in-Some.ensures
-    c.if-turned.false c.in-Some-search-2.is (right_side c.is_left.ensures c.if-is_left.false) (c.if-wakes.ensures refl) c.stay.ensures
-
-pub returns-then-rests-clause-advanced : goal.returns-then-rests-clause-advanced
-returns-then-rests-clause-advanced g c = rested_advanced (asked c.requires.may c.next-actor.ensures) c.in-Some.ensures
-    c.if-turned.false c.in-Some-search-2.is (right_side c.is_left.ensures c.if-is_left.false) (c.if-wakes.ensures refl)
-    (c.if-rests.ensures refl) c.stay.ensures c.pass-then-rests.ensures
 
 -- Without a search.
 

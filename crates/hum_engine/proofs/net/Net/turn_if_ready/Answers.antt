@@ -39,6 +39,7 @@ returns-then-k-count g c =
         turned = rw (turns, actors, takers) (sink_turned c.sink_turn.new.self.failure here o.went o.shows);
         link = λ s h. inl (sink_touches s c.args.k c.last-link.result (here ∙ h.at.stand.count) (c.last-link.ensures.last s h.at));
         marks = record { reads = λ i. rw (o.unread i, or-false) (o.shows i).mark; writes = o.marked; takers = takers };
+        flushes = o.flushed_last;
         turns = ap (λ n. n + 1) turns;
         actors = actors;
         full = λ full. absurd (false≢true full);
@@ -50,7 +51,9 @@ returns-then-k-count g c =
       little = record {
         once = inl ((o.shows c.args.k).calls_made, (o.shows c.args.k).mark);
         others = λ i other. o.shows i;
-        sink = λ start s now h ready is. o.asked (moved s now.links) (may_write h c.args.k ready (omega (arith, is)));
+        sink = λ start s now h ready is.
+            let may = may_write h c.args.k ready (omega (arith, is)) in
+            (o.asked (moved s now.links) may, o.flushes (moved s now.links) may);
         unasked = λ other. absurd (other here);
       };
     }

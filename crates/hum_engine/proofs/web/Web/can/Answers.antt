@@ -1,6 +1,6 @@
 use Rattle.std.proofs.Common.{arith}
 use Rattle.hum_engine.proofs.Doings.{gives_about, reads_about, wants_about, done_about}
-use Rattle.hum_engine.proofs.Handing.{next_source, next_within, wanting}
+use Rattle.hum_engine.proofs.Nexts.{next_source, next_within, wanting}
 use Rattle.hum_engine.proofs.Readying.{room_gives, unset_ends, some_takes, never}
 use Rattle.hum_engine.proofs.web.Web.can.Goals as goal
 

@@ -2,11 +2,11 @@ use Rattle.std.proofs.Common.{arith}
 use Rattle.hum_engine.proofs.Feeding.{link_at}
 use Rattle.hum_engine.proofs.web.Web.linked.Goals as goal
 
-pub returns : goal.returns
-returns g c s h =
+pub returns-clause-stage : goal.returns-clause-stage
+returns-clause-stage g c s h =
     let p = h.stand.links c.args.k _ (link_at h.less h.stand c.index.ensures) in
     (c.len-2.ensures.waiting s.size (s.links c.args.k) p, c.len-2.ensures.within s.size (s.links c.args.k) p)
 
-pub returns-then-k-len : goal.returns-then-k-len
-returns-then-k-len g c s h =
+pub returns-then-k-len-clause-stage : goal.returns-then-k-len-clause-stage
+returns-then-k-len-clause-stage g c s h =
     absurd (omega (arith, h.less, h.stand.as_many, c.if-k-len.true, c.len.ensures, c.args.self.now.links.ok.0))

@@ -5,7 +5,7 @@ use Rattle.hum_nodes.specs.At.{with_record, with_end}
 use Rattle.hum_engine.specs.Links.{is_some_of}
 use Rattle.hum_engine.proofs.Acting.{keeps}
 use Rattle.hum_engine.proofs.Answered.{told_out, told_taken}
-use Rattle.hum_engine.proofs.Handing.{next_within, trying_able, trying_may, wanting}
+use Rattle.hum_engine.proofs.Nexts.{next_within, trying_able, trying_may, wanting}
 use Rattle.hum_engine.proofs.Tried.{record_left, end_left, with_back, web_back}
 use Rattle.hum_engine.proofs.web.Web.pass.Goals as goal
 

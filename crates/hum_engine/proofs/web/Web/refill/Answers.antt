@@ -2,7 +2,7 @@ use Rattle.std.proofs.Common.{◌∙◌, refl, sym}
 use Rattle.hum_engine.proofs.Acting.{keeps}
 use Rattle.hum_engine.proofs.Answered.{told_own}
 use Rattle.hum_engine.proofs.Feeding.{link_at}
-use Rattle.hum_engine.proofs.Handing.{ahead, ahead_done, ahead_kind, ahead_touches, ahead_turn}
+use Rattle.hum_engine.proofs.Nexts.{ahead, ahead_done, ahead_kind, ahead_touches, ahead_turn}
 use Rattle.hum_engine.proofs.Readying.{room_stage, source_turn}
 use Rattle.hum_engine.proofs.Turning.{kind_at}
 use Rattle.hum_engine.proofs.web.Web.refill.Goals as goal

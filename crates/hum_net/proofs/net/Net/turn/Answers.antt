@@ -12,4 +12,9 @@ invariant_of-self g c = turned_lasts _ _ _ _ c.self.invariant (rw (← c.self.vi
 pub returns-clause-asked : goal.returns-clause-asked
 returns-clause-asked g c start s now h here =
     rw (← c.self.view_is) (c.turn.ensures.little.sink start s now (rw (← c.self.view_is) at h)
-    (c.requires.ready start s now h) here)
+    (c.requires.ready start s now h) here).0
+
+pub returns-clause-flushes : goal.returns-clause-flushes
+returns-clause-flushes g c start s now h here =
+    rw (← c.self.view_is) (c.turn.ensures.little.sink start s now (rw (← c.self.view_is) at h)
+    (c.requires.ready start s now h) here).1

@@ -14,7 +14,8 @@ returns-in-Some g c =
 pub returns-then-next_line : goal.returns-then-next_line
 returns-then-next_line g c =
     let no_fault = subst (λ u. u.fault ≡ None) c.self.view_is c.in_default.is in
-    line-polls g.R.Source.remaining g.R.Source.calls g.R.Source.failed _ _ no_fault (c.next_line.ensures.line c.if-next_line.true)
+    rw c.show_ahead.ensures
+    (line-polls g.R.Source.remaining g.R.Source.calls g.R.Source.failed _ _ no_fault (c.next_line.ensures.line c.if-next_line.true))
 
 pub returns-in-Some-find_line_end : goal.returns-in-Some-find_line_end
 returns-in-Some-find_line_end g c =

@@ -9,7 +9,7 @@ use Rattle.hum_text.proofs.reader.LineReader.read_on.Goals as goal
 pub returns-in-Some : goal.returns-in-Some
 returns-in-Some g c =
     let v = c.args.self.now in
-    let is = ap length (c.pending.ensures ∙ ap (λ w. w.pending) c.self.view_is) in
+    let is = ap length (c.pending-size.ensures ∙ ap (λ w. w.pending) c.self.view_is) in
     let bytes : v.taken ≤ v.limits.bytes = subst (λ w. w.taken ≤ w.limits.bytes) c.self.view_is (omega (arith, c.self.invariant.0.bytes)) in
     let found = c.in-Some.ensures.found in
     unread-reading _ _ _ v _ _ c.requires.going (λ needs. no-fault v _ c.in-Some.fault needs is found)
@@ -20,7 +20,7 @@ returns-in-Some g c =
 pub returns-in-Err : goal.returns-in-Err
 returns-in-Err g c =
     let v = c.args.self.now in
-    let is = ap length (c.pending.ensures ∙ ap (λ w. w.pending) c.self.view_is) in
+    let is = ap length (c.pending-size.ensures ∙ ap (λ w. w.pending) c.self.view_is) in
     let here = needs-read v _ c.requires.no_fault c.requires.going c.requires.unended is c.in-None.ensures.none in
     let needs = subst (λ w. NeedsRead w) (sym c.self.view_is) here in
     same-reading _ _ _ _ _ _ _ c.self.view_is
@@ -30,7 +30,7 @@ returns-in-Err g c =
 pub returns-in-Ok-eq0 : goal.returns-in-Ok-eq0
 returns-in-Ok-eq0 g c =
     let v = c.args.self.now in
-    let is = ap length (c.pending.ensures ∙ ap (λ w. w.pending) c.self.view_is) in
+    let is = ap length (c.pending-size.ensures ∙ ap (λ w. w.pending) c.self.view_is) in
     let here = needs-read v _ c.requires.no_fault c.requires.going c.requires.unended is c.in-None.ensures.none in
     let needs = subst (λ w. NeedsRead w) (sym c.self.view_is) here in
     let read = c.in-Ok-eq0.ensures.ok in
@@ -41,13 +41,13 @@ returns-in-Ok-eq0 g c =
 pub returns-in-Ok : goal.returns-in-Ok
 returns-in-Ok g c =
     let v = c.args.self.now in
-    let is = ap length (c.pending.ensures ∙ ap (λ w. w.pending) c.self.view_is) in
+    let is = ap length (c.pending-size.ensures ∙ ap (λ w. w.pending) c.self.view_is) in
     let here = needs-read v _ c.requires.no_fault c.requires.going c.requires.unended is c.in-None.ensures.none in
     let needs = subst (λ w. NeedsRead w) (sym c.self.view_is) here in
     let read = c.in-Ok.ensures.ok in
     let low = rw is at c.in-None.ensures.bytes in
     let room = subst (λ w. 0 < length w.pending → w.taken + length w.pending ≤ w.limits.bytes) (sym c.self.view_is) low in
-    rw c.count_free.ensures (same-reading _ _ _ _ _ _ _ c.self.view_is
+    rw c.count_ahead.ensures (same-reading _ _ _ _ _ _ _ c.self.view_is
     (more-reading _ _ _ _ _ _ _ read.0 _ read.1 needs room (omega (arith, c.self.invariant.0.bytes))
     c.in-Ok.ensures.line read.2 c.in-Ok.field-0-test.1 c.in-Ok.ensures.asked read.3 c.in-Ok.ensures.read))
 

@@ -1,0 +1,176 @@
+-- What a stage that isn't a source gives or takes next.
+use Rattle.std.proofs.Common.{◌≡◌, ◌∙◌, ◌<◌, ℕ, zero, suc, length, true, false, List, [], ◌∷◌, ◌++◌, Option, Some}
+use Rattle.std.proofs.Common.{slice_get, slice_set, slice_index, get_or, refl, sym, ap, subst, lt-ltb, arith, ⊎_elim}
+use Rattle.std.proofs.Common.{inl, inr}
+use Rattle.std.specs.Prelude.{nat_lt, is_some, is_none, ◌||◌, ◌&&◌, MatchOption, None}
+use Rattle.hum_text.specs.declared.calls.Source.{Ghosts as Source}
+use Rattle.hum_stage.specs.declared.contract.Stage.{Ghosts as Stage}
+use Rattle.hum_turns.specs.Links.{has_room, view}
+use Rattle.hum_turns.proofs.Near.{source_touches}
+use Rattle.hum_engine.specs.Scene.{Scene, plan_of, at_of, IsAt, IsKind, IsAbout}
+use Rattle.hum_engine.specs.Scene.{IsActor, HasActor, MayAct, MayTurn, Done, Fed, KeepsOthers, HasRoom}
+use Rattle.std.proofs.lemmas.Bool.{false≢true}
+use Rattle.std.specs.Vec.{with_item}
+use Rattle.hum_engine.proofs.Acting.{gives_some, keeps, gave, passing, Passing, link_here, may_take, passed}
+use Rattle.hum_engine.proofs.Netting.{source_here}
+use Rattle.hum_engine.proofs.Readying.{source_ready, room_in, room_stage, some_takes, within_links, touched_gives}
+use Rattle.hum_engine.proofs.Readying.{touched_takes}
+use Rattle.std.proofs.lemmas.Option.{none-some, same_Some, slice_get_within, get_or_from_slice_get}
+use Rattle.hum_score.specs.Row.{Row}
+use Rattle.hum_turns.specs.Flow.{Flow}
+use Rattle.hum_turns.specs.Turns.{can, ready, state, pushed, popped}
+use Rattle.hum_turns.specs.Near.{touched}
+use Rattle.hum_nodes.specs.At.{sources_of, At, doing_of, HasPut, HasTaken, MayPut, MayDo, MayChange}
+use Rattle.hum_nodes.specs.Doing as does
+use Rattle.hum_nodes.specs.Nodes.{StandsAs, is_source, readiness_at}
+use Rattle.hum_nodes.specs.declared.node.Node.{Node}
+use Rattle.hum_nodes.specs.declared.node.Readiness.TheVariants as kinds
+use Rattle.hum_nodes.proofs.Standing.{any_rest, stage_bytes, wants_place}
+use Rattle.hum_engine.specs.declared.link.Link as port
+use Rattle.hum_engine.specs.declared.web.Web.{Web}
+use Rattle.hum_engine.specs.Links.{IsLink, Goes, Tells, is_some_of, taken_of}
+use Rattle.hum_engine.specs.declared.link.Taken.{Taken}
+use Rattle.hum_engine.specs.declared.link.Taken.TheVariants as taken
+use Rattle.hum_engine.specs.Traffic.{Traffic}
+use Rattle.hum_engine.proofs.Doings.{wants_of, gives_of}
+use Rattle.hum_engine.proofs.Feeding.{node_of, node_at}
+use Rattle.hum_engine.proofs.Moving.{nth, set_here}
+use Rattle.hum_engine.proofs.Polling.{state_gives}
+use Rattle.hum_engine.proofs.Stepping.{has_done}
+use Rattle.hum_engine.proofs.Taking.{left, wants_at}
+use Rattle.hum_engine.proofs.Tried.{record_left, tells_some}
+use Rattle.hum_engine.proofs.Turning.{stage_fed, stage_ready, one_kind, acting, turn_of}
+
+-- A stage that has taken a record ahead, and whose link has room: it gives next, and can.
+pub record IsAhead {S R : Type 0} (stage : Stage S) (k : ℕ) (web : Web S R) (node : Node S R) : Type 0 where
+  pub there : slice_get web.nodes.items k ≡ Some node
+  pub kind : is_source node ≡ false
+  pub may : (s : Scene) → IsAt stage web s → MayAct stage k does.Gives web s
+
+module _ {S R : Type 0} {stage : Stage S} {k : ℕ} {web : Web S R} {node : Node S R} {s : Scene} where
+  pub ahead : IsAt stage web s → HasRoom k web → node ≡ get_or web.nodes.items k node
+      → ((rest : List ℕ) (t : At) → StandsAs stage.stands node rest t → (is_source node ≡ false) × (doing_of t ≡ does.Gives))
+      → IsAhead stage k web node
+  ahead at room value gives =
+      let there = node_at (room_stage at room).less at.stand value in
+      let kind = (gives _ _ (at.stand.nodes k node there)).0 in
+      record {
+        there = there;
+        kind = kind;
+        may = λ u here.
+            let less = (room_stage here room).less in
+            let stand = here.stand.nodes k node there in
+            let h = gives _ _ stand in
+            record {
+              about = record {
+                actor = record { at = here; less = less };
+                bytes = stage_bytes stage.stands node (u.rests k) _ kind stand;
+                does = h.1;
+              };
+              can = ap (can u.size u.links k) (state_gives u u.links k less h.1) ∙ room_in here.stand room;
+            };
+      }
+
+  pub ahead_turn : IsAhead stage k web node → IsAt stage web s → MayTurn stage k web s
+  ahead_turn a at = let may = a.may s at in turn_of may.about may.can
+
+  pub ahead_touches : IsAhead stage k web node → IsActor stage k web s
+      → k ≡ touched k (state (plan_of s) s.links k)
+  ahead_touches a actor = touched_gives (a.may s actor.at).about
+
+  -- the record lies on its link then
+  pub ahead_done : {new : Web S R} {row : Row} {link : port.Link} (after : Node S R) (put : port.Link)
+      → IsAhead stage k web node → slice_get web.links.items k ≡ Some link
+      → ((rest : List ℕ) → HasTaken (StandsAs stage.stands node rest) (StandsAs stage.stands after rest) (Some row))
+      → Goes link put (λ l. pushed l row) → new.nodes.items ≡ slice_set web.nodes.items k after
+      → new.links.items ≡ slice_set web.links.items k put
+      → MayTurn stage k web s → Done stage k (state (plan_of s) s.links k) new s
+  ahead_done after put a its taken goes en el turn =
+      let may = a.may s turn.actor.at in
+      has_done (state_gives s s.links k may.about.actor.less may.about.does) (gave may after a.there taken put its refl goes en el)
+
+pub ahead_kind : {S R : Type 0} {stage : Stage S} {k : ℕ} {web : Web S R} {node : Node S R}
+    → IsAhead stage k web node → IsKind false k web
+ahead_kind {k = k} {web = web} a = one_kind k web a.there a.kind
+
+-- Stage k takes from the link of this stage next, at this place.
+pub record WantsFrom {S R : Type 0} (stage : Stage S) (k place source : ℕ) (web : Web S R) : Type 0 where
+  pub node : Node S R
+  pub is : slice_get web.nodes.items k ≡ Some node
+  pub kind : is_source node ≡ false
+  pub wants : (rest : List ℕ) (t : At) → StandsAs stage.stands node rest t → doing_of t ≡ does.Wants place
+  pub from : (rest : List ℕ) (t : At) → StandsAs stage.stands node rest t → slice_index (sources_of t) place ≡ source
+
+wants_by : {S R : Type 0} {stage : Stage S} (k : ℕ) {place source : ℕ} (web : Web S R) {node : Node S R}
+    → slice_get web.nodes.items k ≡ Some node → is_source node ≡ false → node.readiness ≡ kinds.Wants place
+    → ((rest : List ℕ) (t : At) → StandsAs stage.stands node rest t → doing_of t ≡ does.Wants place
+    → source ≡ slice_index (sources_of t) place)
+    → WantsFrom stage k place source web
+wants_by {stage = stage} k {place} web {node} there kind knows from =
+    let wants : (rest : List ℕ) (t : At) → StandsAs stage.stands node rest t → doing_of t ≡ does.Wants place = λ rest t h.
+    wants_of _ place (ap (λ b. readiness_at b (doing_of t)) (sym kind) ∙ sym h.knows ∙ knows) in
+    record { node = node; is = there; kind = kind; wants = wants; from = λ rest t h. sym (from rest t h (wants rest t h)) }
+
+-- At one moment it does, so it does whatever else the web stands for.
+pub wanting : {S R : Type 0} {stage : Stage S} {k place source : ℕ} {web : Web S R} {s : Scene}
+    {node : Node S R} → IsAbout stage k (does.Wants place) web s → IsKind false k web
+    → node ≡ get_or web.nodes.items k node
+    → (is_source node ≡ false → (rest : List ℕ) (t : At) (place : ℕ) → StandsAs stage.stands node rest t
+    → doing_of t ≡ does.Wants place → source ≡ slice_index (sources_of t) place)
+    → WantsFrom stage k place source web
+wanting {stage = stage} {k = k} {place = place} {web = web} {s = s} {node = node} a stage_kind value from =
+    let there : slice_get web.nodes.items k ≡ Some node = node_at a.actor.less a.actor.at.stand value in
+    let kind = stage_kind node there in
+    wants_by k web there kind (wants_place stage.stands node (s.rests k) _ place kind (a.actor.at.stand.nodes k node there) a.does)
+    (λ rest t h wants. from kind rest t place h wants)
+
+-- What is taken from its source changes its input by this.
+abbrev pub Changes : port.Link → ℕ → (Flow Row → Flow Row) → Type 0
+Changes link source change =
+    (s : Scene) → IsLink s.size link (s.links source) → view (left s source) ≡ change (view (s.links source))
+
+module _ {S R : Type 0} {stage : Stage S} {k place source : ℕ} {web : Web S R} (w : WantsFrom stage k place source web) where
+  pub next_kind : IsKind false k web
+  next_kind = one_kind k web w.is w.kind
+
+  module _ {s : Scene} (h : HasActor stage k web s) where
+    standing : StandsAs stage.stands w.node (s.rests k) (at_of s.kinds s.links k)
+    standing = h.at.stand.nodes k w.node w.is
+
+    pub next_about : IsAbout stage k (does.Wants place) web s
+    next_about = record {
+      actor = h;
+      bytes = stage_bytes stage.stands w.node (s.rests k) _ w.kind standing;
+      does = w.wants (s.rests k) _ standing;
+    }
+
+    pub next_source : source ≡ slice_index (s.kinds k).stage.sources place
+    next_source = sym (w.from (s.rests k) _ standing)
+
+    pub next_within : source < length web.links.items
+    next_within = within_links next_about next_source
+
+  -- It tries to take what is there.
+  module _ {link : port.Link} {answer : Taken} (value : link ≡ get_or web.links.items source link)
+      (told : Tells link answer (λ size l. taken_of l.waiting l.mark)) where
+    pub trying_able : {s : Scene} → HasActor stage k web s
+        → is_some_of answer ≡ ready (plan_of s) s.size s.links k
+    trying_able h =
+        some_takes (next_about h) (next_source h) value (tells_some told) ∙ sym (stage_ready (next_about h))
+
+    pub takes : is_some_of answer ≡ true → {s : Scene} → HasActor stage k web s
+        → Passing stage k place web s source link
+    takes some h = passing (acting (next_about h) (sym (trying_able h) ∙ some)) (next_source h) value
+
+    pub trying_may : {s : Scene} {node : Node S R} {change : Flow Row → Flow Row} → HasActor stage k web s
+        → node ≡ get_or web.nodes.items k node → is_some_of answer ≡ true → Changes link source change
+        → (place : ℕ) × MayDo (StandsAs stage.stands node []) (λ t. MayChange t change place)
+    trying_may {s} {node} h e some changes =
+        let there : slice_get web.nodes.items k ≡ Some node = node_at h.less h.at.stand e in (
+          place,
+          record {
+            at = at_of s.kinds s.links k;
+            stand = any_rest stage.stands node (next_kind node there) (s.rests k) [] _ (h.at.stand.nodes k node there);
+            holds = may_take (takes some h) (changes s (link_here (takes some h)));
+          },
+        )
