@@ -214,6 +214,9 @@ class Full:
 class OutOfReach:
     """An output that nobody reads, plans that can't be opened or read, and an input that can't be read."""
 
+    # (a program that begins in another thread would hold the end of the pipe for a moment)
+    LIMITED = True
+
     def check(self, program):
         end, output = os.pipe()
         os.close(end)
@@ -343,10 +346,64 @@ class Large:
         return [] if found == want else [f'a bundle of {self.size} bytes: {shown(found)}']
 
 
+class PlanFile:
+    """A plan's file of so many bytes, of which 65,536 may be: its line stands at the end."""
+
+    LINE, SCORE = b'out: read a | rid -G\n', b'**kern\n4c\n*-\n'
+
+    def __init__(self, size):
+        self.size = size
+
+    def check(self, program):
+        with tempfile.TemporaryDirectory(prefix='humpipe-plan-') as folder:
+            write(f'{folder}/a', self.SCORE)
+            write(f'{folder}/plan', b'#' * (self.size - len(self.LINE) - 1) + b'\n' + self.LINE)
+            found = run([program, 'plan'], b'', cwd=folder)
+        want = (0, self.SCORE, b'') if self.size <= 65_536 else (2, b'', b'humpipe: plan line 1, word 0: N1\n')
+        return [] if found == want else [f"a plan's file of {self.size} bytes: {shown(found)}"]
+
+
+class Missing:
+    """Two scores, of which some aren't there: the first of these is told, by the number of its stage."""
+
+    PLAN = b'p: read a | rid -G\nq: read b\nout: assemble p q\n'
+
+    def __init__(self, there):
+        self.there = there
+
+    def check(self, program):
+        score, wrong = b'**x\n1\n*-\n', []
+        number = next((k for name, k in (('a', 1), ('b', 3)) if name not in self.there), None)
+        want = (3, b'', f'humpipe: stage {number} (read): cannot open\n'.encode())
+        bundle = self.PLAN + b''.join(b'--- %s\n%s' % (name.encode(), score) for name in self.there)
+        with tempfile.TemporaryDirectory(prefix='humpipe-missing-') as folder:
+            write(f'{folder}/plan', self.PLAN)
+            for name in self.there:
+                write(f'{folder}/{name}', score)
+            for way, words, given in ('as a bundle', [program], bundle), ('as files', [program, 'plan'], b''):
+                found = run(words, given, cwd=folder)
+                wrong += [] if found == want else [f'scores {self.there or "none"}, {way}: {shown(found)}']
+        return wrong
+
+
+def largest_runs():
+    """As many stages and branches as a plan may have, and a pattern of 1,024 bytes, run to their ends."""
+    score = b'**kern\n4c\n4d\n*-\n'
+    stages = b'out: read a' + b' | rid -G' * 63
+    yield '64 stages', stages + b'\n--- a\n!!x\n' + score, score, ''
+    branches = b''.join(b'b%d: read a\n' % k for k in range(15))
+    plan = branches + b'out: assemble ' + b' '.join(b'b%d' % k for k in range(15)) + b'\n--- a\n'
+    wide = b''.join(b'\t'.join([line] * 15) + b'\n' for line in score.split(b'\n')[:-1])
+    yield '16 branches', plan + score, wide, ''
+    pattern = b'^(?:' + b'x' * 1_015 + b'|4)d$'
+    yield 'a pattern of 1,024 bytes', b"out: read a | context -n 2 -o '" + pattern + b"'\n--- a\n" + score, b'**kern\n.\n4d\n*-\n', ''
+
+
 def cases(rows):
     """All that is made, of these rows too."""
     return [
-        *[Row(f'made.py: {name}', *row) for name, *row in [*long_scores(), *wide_scores(), *no_notes()]],
+        *[Row(f'made.py: {name}', *row) for name, *row in [*long_scores(), *wide_scores(), *no_notes(), *largest_runs()]],
         *[Plan(f'made.py: {plan[:40]!r}', plan.encode(), told) for plan, told in long_plans()],
-        *fronts(rows), *small_fronts(), *LINES, *FAILING, *[Full(room) for room in (0, 1, 7, 12, 13)], OutOfReach(), *PIPED, Room(), Large(67_108_864), Large(67_108_865),
+        *fronts(rows), *small_fronts(), *LINES, *FAILING, *[Full(room) for room in (0, 1, 7, 12, 13)], OutOfReach(), *PIPED, Room(),
+        *[Large(67_108_864 + k) for k in (-1, 0, 1)], *[PlanFile(65_536 + k) for k in (-1, 0, 1)], *[Missing(there) for there in ('', 'a', 'b')],
     ]

@@ -1,6 +1,6 @@
 -- What comes of a plan's text with scores by their names.
 use Rattle.std.specs.Prelude.{◌≡◌, ℕ, zero, suc, Bool, true, false, if◌then◌else◌, is_none}
-use Rattle.std.specs.Prelude.{List, [], ◌∷◌, ◌++◌, Option, None, Some, Err, ◌⊎◌}
+use Rattle.std.specs.Prelude.{List, [], ◌∷◌, ◌++◌, Option, None, Some, Err, ◌⊎◌, slice_get}
 use Rattle.hum_turns.specs.declared.result.RunResult.{RunResult}
 use Rattle.hum_turns.specs.declared.result.RunResult.TheVariants as ends
 use Rattle.hum_turns.specs.Orders.{Order}
@@ -10,7 +10,8 @@ use Rattle.hum_plan.specs.Grammar.{IsPlanOf}
 use Rattle.hum_plan.specs.Answers.{PlanAnswer}
 use Rattle.hum_net.specs.declared.outcome.Outcome.{Outcome}
 use Rattle.hum_net.specs.declared.outcome.Outcome.TheVariants as outcome
-use Rattle.hum_net.specs.Runs.{HasWritten, HasPicked, HasEnded, IsUnasked}
+use Rattle.hum_net.specs.Nodes.{readers_by}
+use Rattle.hum_net.specs.Runs.{HasWritten, HasPicked, HasEnded, HasDriven, IsUnasked}
 
 -- The score that a stage reads, by its name; a stage that reads none has none.
 abbrev pub score_by : (List ℕ → Option (List ℕ)) → Options → Option (List ℕ)
@@ -127,6 +128,64 @@ LacksHere score k options (outcome.Plan fault) = ⊥
 LacksHere score k options (outcome.NoScore number) =
     (number ≡ suc k) × (score_by score options ≡ None)
 LacksHere score k options outcome.TooLarge = ⊥
+
+-- Unless memory runs out, the score of stage k, from 0, isn't there, and it reads one.
+abbrev pub LacksAt : ℕ → Options → Outcome → Type 0
+LacksAt k options (outcome.Run end) = end ≡ ends.Memory
+LacksAt k options (outcome.Plan fault) = ⊥
+LacksAt k options (outcome.NoScore number) = (number ≡ suc k) × (readers_by options ≡ 1)
+LacksAt k options outcome.TooLarge = ⊥
+
+-- One of these stages has this number, and reads a score.
+pub record ReadsScore (stages : List Stage) (number : ℕ) : Type 0 where
+  pub place : ℕ
+  pub stage : Stage
+  pub is : slice_get stages place ≡ Some stage
+  pub numbered : number ≡ suc place
+  pub reads : readers_by stage.options ≡ 1
+
+-- The score of one of these stages isn't there, unless memory runs out.
+abbrev pub LacksOne : List Stage → Outcome → Type 0
+LacksOne stages (outcome.Run end) = end ≡ ends.Memory
+LacksOne stages (outcome.Plan fault) = ⊥
+LacksOne stages (outcome.NoScore number) = ReadsScore stages number
+LacksOne stages outcome.TooLarge = ⊥
+
+-- What may come of a text over scores of which nothing is known: it is no plan, by its first fault; or the score
+-- of a stage isn't there; or its stages were run.
+pub record LacksSome (text : List ℕ) (number : ℕ) : Type 0 where
+  pub stages : List Stage
+  pub plan : IsPlanOf text stages
+  pub reader : ReadsScore stages number
+
+abbrev pub MayCome : List ℕ → Outcome → Type 0
+MayCome text (outcome.Run end) = Unit {0}
+MayCome text (outcome.Plan fault) = PlanAnswer text (Err fault)
+MayCome text (outcome.NoScore number) = LacksSome text number
+MayCome text outcome.TooLarge = ⊥
+
+-- Its stages were run over bytes that their readers gave: however these go on, in turns that the order has picked,
+-- over links of this size; and what was written is what the run had written at its last moment.
+pub record HasDrivenPlan {O : Type 0} (order : Order O) (text : List ℕ) (link : ℕ) (end : RunResult) (old new : O)
+    (held kept : Option (List ℕ)) : Type 0 where
+  pub stages : List Stage
+  pub plan : IsPlanOf text stages
+  pub driven : HasDriven order stages link end old new held kept
+
+-- Where stages were run, that is how; else the order was not asked.
+abbrev pub Drives : {O : Type 0} → Order O → List ℕ → ℕ → O → O → Option (List ℕ) → Option (List ℕ) → Outcome → Type 0
+Drives order text link old new held kept (outcome.Run end) =
+    HasDrivenPlan order text link end old new held kept ⊎ IsUnasked end old new
+Drives order text link old new held kept (outcome.Plan fault) = new ≡ old
+Drives order text link old new held kept (outcome.NoScore number) = new ≡ old
+Drives order text link old new held kept outcome.TooLarge = new ≡ old
+
+-- A score is looked for by its name: there is a reader that tells it, or none where there is no score.
+abbrev pub IsFound : {R : Type 0} → (R → Option (List ℕ)) → Option (List ℕ) → Option R → Type 0
+IsFound remaining (Some bytes) (Some reader) = remaining reader ≡ Some bytes
+IsFound remaining None None = Unit {0}
+IsFound remaining (Some bytes) None = ⊥
+IsFound remaining None (Some reader) = ⊥
 
 -- A reader of these bytes was added to others.
 pub record AddsReader {R : Type 0} (remaining : R → Option (List ℕ)) (score : Option (List ℕ))
