@@ -151,8 +151,19 @@ def intervals(score, field):
     return counted(soprano(score, field))
 
 
-def seconds_up(score, field):
-    """How many major seconds up."""
+def melody(score, field):
+    """A part in intervals, without null records."""
+    found, lines = melodic(score), []
+    for record in score.records:
+        if record.kind == 'data':
+            tokens = [token for token, own in zip(found[record.line], record.fields) if own == field]
+            if any(token != '.' for token in tokens):
+                lines.append('\t'.join(tokens))
+    return lines
+
+
+def seconds(score, field):
+    """How many major seconds there are."""
     return [str(sum(step in ('+M2', '-M2') for step in soprano(score, field)))]
 
 
@@ -207,6 +218,39 @@ def with_chords(score, field):
     """What is told of those that are left out."""
     count = sum(three.count(' ') > 2 for three in triples(score, field))
     return f'{count} with chords are left out' if count else ''
+
+
+def struck(score, field):
+    """The semitones of what a part strikes, and `r` for its rests."""
+    return [one for record, k in score.kern_tokens(field) for one in semitones(record.notes(k), True).split(' ') if one != '.']
+
+
+def census(score, field):
+    found = struck(score, field)
+    return [f'{len(found) - found.count("r")} notes, {found.count("r")} rests']
+
+
+def pitch_classes(score, field):
+    return numbered(int(one) % 12 for one in struck(score, field) if one != 'r')
+
+
+def frequencies(score, field):
+    return [shown(440 * 2 ** ((int(one) - 9) / 12)) for one in struck(score, field) if one != 'r'][:3]
+
+
+def steps(score, field):
+    """The semitones from each note to the next in its column, over rests; from and to single notes alone."""
+    after, found = below(score), []
+    for record, k in score.kern_tokens(field):
+        now = semitones(record.notes(k), True)
+        at, place, then = record, k, None
+        while now not in ('.', 'r') and then in (None, '.', 'r') and place is not None:
+            at, places = after.get(at.line, (None, {}))
+            place = places.get(place)
+            then = semitones(at.notes(place), True) if place is not None and at.is_data and at.tokens[place] != '.' else None
+        if then is not None and ' ' not in now + then and now not in ('.', 'r'):
+            found.append(int(then) - int(now))
+    return numbered(found)
 
 
 # what sounds

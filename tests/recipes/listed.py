@@ -1,12 +1,12 @@
 """The recipes of the pages with their answers."""
 from math import gcd
 
-from . import answers
+from . import answers, dirt
 from .editions import second
 from .music import Score
 from .running import Recipe
 
-QUESTIONS = 'docs/QUESTIONS.md'
+QUESTIONS, CLEANING, FROM_HUMDRUM = 'docs/QUESTIONS.md', 'docs/CLEANING.md', 'docs/FROM_HUMDRUM.md'
 
 
 def part(old='-f 4', which=-1):
@@ -42,10 +42,14 @@ def of_part(answer, which=-1):
 
 
 def listed():
+    return questions() + cleaning() + from_humdrum()
+
+
+def questions():
     step = step_in_command()
     return [
         Recipe('intervals', QUESTIONS, 'soprano.hpl | grep -v', of_part(answers.intervals), part()),
-        Recipe('one interval', QUESTIONS, "soprano.hpl | humpipe /dev/stdin", of_part(answers.seconds_up), part()),
+        Recipe('one interval', QUESTIONS, "soprano.hpl | humpipe /dev/stdin", of_part(answers.seconds), part()),
         Recipe('grid', QUESTIONS, 'durations.hpl | awk', answers.grid),
         Recipe('leaps', QUESTIONS, 'humpipe examples/leaps.hpl', of_part(answers.leaps, 0), part('-f 1', 0), seen=data),
         Recipe('quarters', QUESTIONS, 'quarters.hpl | awk', answers.quarters, on_grid(step), seen=data),
@@ -73,6 +77,34 @@ def listed():
         Recipe('words of editions', QUESTIONS, "words.hpl | awk", of_words, lambda score: {'-t 8': f'-t {step_of(score)}', '-f 2': '-f {}'.format(score.parts('**text')[0])},
                scores=lambda text, score: {'examples/song_second.krn': other_words(text)}, words=True),
         Recipe('where', QUESTIONS, 'steps.hpl', lambda score: answers.where(score, ['examples/chorale.krn', 'examples/carol.krn']), kerns=(1, 4), without=['first is no part']),
+    ]
+
+
+def cleaning():
+    """Of an unclean score the script has to give back the clean one."""
+    def given(name, made):
+        return lambda text, score: {name: made(text)}
+
+    return [
+        Recipe('clean', CLEANING, 'awk -f examples/clean.awk', dirt.lines_of, scores=given('dirty.krn', dirt.untidy), output='clean.krn'),
+        Recipe('several scores', CLEANING, '("part" n ".krn")', dirt.lines_of, output='part2.krn', without=['CR and LF', 'comments'],
+               scores=lambda text, score: {'many.krn': score.source + text}),
+        Recipe('blanks', CLEANING, 'blanks.krn > tabs.krn', dirt.lines_of, scores=given('blanks.krn', dirt.blanks), output='tabs.krn', without=['chords']),
+        Recipe('joins', CLEANING, 'joined.krn > apart.krn', dirt.lines_of, scores=given('joined.krn', dirt.joined), output='apart.krn', kerns=(2, 4)),
+        Recipe('bar rests', CLEANING, 'rests.krn > mended.krn', dirt.lines_of, scores=given('rests.krn', dirt.bar_rests), output='mended.krn', resting=0.6),
+        Recipe('graces', CLEANING, 'grace.krn > graced.krn', dirt.lines_of, scores=given('grace.krn', dirt.graced), output='graced.krn', kerns=(2, 4)),
+        Recipe('proof', CLEANING, 'for file in folder', proofs,
+               scores=lambda text, score: {'folder/a.krn': dirt.faulty(text, '04c')[0], 'folder/b.krn': dirt.faulty(text, '4cd')[0], 'folder/c.krn': text}),
+    ]
+
+
+def from_humdrum():
+    return [
+        Recipe('first', FROM_HUMDRUM, 'as_a_plan.hpl | head', lambda score: answers.melody(score, score.parts()[-1])[:3], part()),
+        Recipe('census', FROM_HUMDRUM, 'notes++', of_part(answers.census), part()),
+        Recipe('pc', FROM_HUMDRUM, '% 12', of_part(answers.pitch_classes), part()),
+        Recipe('freq', FROM_HUMDRUM, '440', of_part(answers.frequencies), part()),
+        Recipe('xdelta', FROM_HUMDRUM, 'semitones.hpl |', of_part(answers.steps), part()),
     ]
 
 
@@ -120,3 +152,9 @@ def some_bars(score):
     """The first two numbers of bars, or the bar 0."""
     numbers = sorted({record.bar for record in score.records if record.is_barline and record.bar is not None}) or [0]
     return numbers[0], numbers[min(1, len(numbers) - 1)]
+
+
+def proofs(score):
+    """What is told of a wrong duration, a wrong pitch, and the score itself."""
+    duration, pitch = dirt.faulty(score.source, '04c')[1], dirt.faulty(score.source, '4cd')[1]
+    return [f'folder/a.krn\thumpipe: stage 4 (recip), line {duration}: K3', f'folder/b.krn\thumpipe: stage 2 (semits), line {pitch}: K1', 'folder/c.krn\tvalid']

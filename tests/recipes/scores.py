@@ -7,7 +7,7 @@ STEPS = 'cdefgab'
 METERS = ['2/4', '3/4', '4/4', '3/8', '6/8', '2/2', '5/4', '9/8']
 # durations and how they are written, the longest first
 WRITTEN = {Fraction(*value): text for text, value in {
-    '0': (2, 1), '1': (1, 1), '2.': (3, 4), '2': (1, 2), '4.': (3, 8), '3': (1, 3), '4': (1, 4), '8.': (3, 16), '6': (1, 6), '8': (1, 8),
+    '0': (2, 1), '4%5': (5, 4), '8%9': (9, 8), '1': (1, 1), '2.': (3, 4), '2': (1, 2), '4.': (3, 8), '3': (1, 3), '4': (1, 4), '8.': (3, 16), '6': (1, 6), '8': (1, 8),
     '12': (1, 12), '16': (1, 16), '24': (1, 24)}.items()}
 SYLLABLES = ['la', 'la', 'la,', 'Ky-', '(ri-', '-e)', 'Row', '-ver,', 'morn', 'r', "o'er", '"Ah!"', 'gl\xfcck-', '-lich', '(e-', 'le-', '-i-', 'son.']
 FIGURES = ['I', 'V7', 'ii6', 'IV', 'vi', 'V/V', 'I64']
@@ -44,11 +44,11 @@ class Bar:
 class Maker:
     """Makes one score. What a recipe can't have is left out by its name in `without`."""
 
-    def __init__(self, seed, kerns=(1, 4), without=(), words=None):
+    def __init__(self, seed, kerns=(1, 4), without=(), words=None, resting=0.05):
         self.dice = random.Random(seed)
         self.without = set(without)
         self.kerns = self.dice.randint(*kerns)
-        self.words = words
+        self.words, self.resting = words, resting
         self.levels = sorted(self.dice.randint(-14, 10) for _ in range(self.kerns))
 
     def may(self, what, chance):
@@ -129,7 +129,7 @@ class Maker:
     def rhythm(self, start, whole):
         """A voice that fills this time."""
         dice, at, voice = self.dice, Fraction(0), []
-        if self.may('bar rests', 0.05) and whole in WRITTEN:
+        if self.may('bar rests', self.resting) and whole in WRITTEN:
             return [Event(start, whole)]
         while at < whole:
             left = whole - at
