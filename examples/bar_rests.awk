@@ -23,8 +23,8 @@ BEGIN {
     n = split("2/4 2 3/4 2. 4/4 1 2/2 1 3/8 4. 6/8 2. 12/8 1. 3/2 1. 6/4 1. 4/2 0", known, " ")
     for (k = 1; k < n; k += 2) written[known[k]] = known[k + 1]
 }
-/^=/ { tell(); print; next }
+/^=[0-9]/ { tell(); print; next }
 /^[*]/ && /[*][\^v+x](\t|$)/ { steered = 1 }
-/^[^*!]/ { for (k = 1; k <= NF; k++) if ($k != ".") tokens[k]++ }
+/^[^*!=]/ { for (k = 1; k <= NF; k++) if ($k != "." && $k !~ /[qQ]/) tokens[k]++ }
 { held[++lines] = $0 }
 END { tell() }

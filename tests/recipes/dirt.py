@@ -38,28 +38,20 @@ def kind_is_seen(line):
 
 def joined(text):
     """Joins that follow each other in one record."""
-    lines, held = [], None
+    lines, held, joins = [], None, 0
     for record in Score(text).records:
         tokens = record.tokens
         is_join = record.kind == 'interpretation' and '*v' in tokens and set(tokens) <= {'*', '*v'}
-        if is_join and held is not None:
-            first, last = held.index('*v'), len(held) - 1 - held[::-1].index('*v')
-            begun = tokens.index('*v')
-            if begun > first:
-                gone = held.count('*v') - runs(held)
-                held = held[:last + 1] + tokens[last + 1 - gone:]
-                continue
+        if is_join and held is not None and tokens.index('*v') > held.index('*v'):
+            last, gone = len(held) - 1 - held[::-1].index('*v'), held.count('*v') - joins
+            held, joins = held[:last + 1] + tokens[last + 1 - gone:], joins + 1
+            continue
         if held is not None:
             lines.append('\t'.join(held))
-        held = tokens if is_join else None
+        held, joins = (tokens, 1) if is_join else (None, 0)
         if not is_join:
             lines.append(record.text)
     return written(lines)
-
-
-def runs(tokens):
-    """How many spines join in a record whose joins were put together in pairs, triples and so on."""
-    return sum(token == '*v' and (k == 0 or tokens[k - 1] != '*v') for k, token in enumerate(tokens))
 
 
 def blanks(text):
@@ -89,7 +81,7 @@ def graced(text):
 def bar_rests(text):
     """1r for each rest of a whole bar."""
     score, lines, meter = Score(text), [], None
-    barlines = [(number, record) for number, record in enumerate(score.records) if record.is_barline]
+    barlines = [(number, record) for number, record in enumerate(score.records) if record.bar is not None]
     for number, record in enumerate(score.records):
         tokens = list(record.tokens)
         if record.kind == 'interpretation':

@@ -22,6 +22,7 @@ class Recipe:
         self.told = told or (lambda score: '')
         self.scores = scores or (lambda text, score: {})
         self.output, self.wishes = output, wishes
+        self.replaced = {}
 
     def read(self):
         """Takes the text of the recipe from its page."""
@@ -31,63 +32,85 @@ class Recipe:
         self.files = {}
         for command, files in found:
             self.files.update(pages.files_of(command, files))
+        for old, new in self.replaced.items():
+            self.needs(old)
+            self.command = self.command.replace(old, new)
+            self.files = {name: text.replace(old, new) for name, text in self.files.items()}
+
+    def needs(self, old):
+        if old not in self.command and not any(old in text for text in self.files.values()):
+            raise LookupError(f'{self.page}: {self.name} has no `{old}`')
 
     def at(self, score):
         """The command and the files for a score."""
-        command, files = self.command, dict(self.files)
         sets = self.sets(score)
-        for old in sets:
-            if old not in command and not any(old in text for text in files.values()):
-                raise LookupError(f'{self.page}: {self.name} has no `{old}`')
-        if sets:
-            olds = re.compile('|'.join(re.escape(old) + r'\b' for old in sets))
-            command, *texts = [olds.sub(lambda found: sets[found[0]], text) for text in (command, *files.values())]
-            files = dict(zip(files, texts))
-        return command, files
+        for old in sets if not self.replaced else []:
+            self.needs(old)
+        if not sets:
+            return self.command, self.files
+        olds = re.compile('|'.join(re.escape(old) + r'\b' for old in sets))
+        return olds.sub(lambda found: sets[found[0]], self.command), \
+            {name: olds.sub(lambda found: sets[found[0]], text) for name, text in self.files.items()}
 
 
 class Runs:
-    """The folders of some scores."""
+    """The folders of scores, one for each, in which recipes are run."""
 
     def __init__(self, program):
         self.room = tempfile.mkdtemp(prefix='humpipe-recipes-')
         os.mkdir(os.path.join(self.room, 'bin'))
         os.symlink(os.path.abspath(program), os.path.join(self.room, 'bin', 'humpipe'))
-        self.surroundings = dict(os.environ, LC_ALL='C.UTF-8', HOME=self.room, PATH=os.path.join(self.room, 'bin') + os.pathsep + os.environ['PATH'])
-        self.surroundings.pop('HUMPIPE', None)
+        self.surroundings = dict(os.environ, LC_ALL='C.UTF-8', HOME=self.room, PATH=os.path.join(self.room, 'bin') + os.pathsep + os.environ['PATH'],
+                                 HUMPIPE=os.path.join(self.room, 'bin', 'humpipe'), PYTHONPATH=os.path.join(pages.TOP, 'python'), PYTHONDONTWRITEBYTECODE='1')
+        self.folders = {}
 
     def close(self):
         shutil.rmtree(self.room)
 
+    def folder(self, text):
+        """The folder of a score, in which it has the name of each score of the examples; made once."""
+        if text not in self.folders:
+            own = os.path.join(self.room, str(len(self.folders)))
+            os.makedirs(os.path.join(own, 'examples'))
+            os.symlink(os.path.join(self.room, 'bin', 'humpipe'), os.path.join(own, 'humpipe'))
+            self.folders[text] = own, {}
+            for name in sorted(pages.SCORES):
+                self.write(text, name, text)
+        return self.folders[text][0]
+
+    def write(self, text, name, content):
+        """Writes a file into the folder of a score, if it isn't there."""
+        own, has = self.folders[text]
+        if has.get(name) != content:
+            has[name] = content
+            place = os.path.join(own, name)
+            os.makedirs(os.path.dirname(place), exist_ok=True)
+            with open(place, 'wb') as file:
+                file.write(content if isinstance(content, bytes) else content.encode('latin-1'))
+
     def run(self, recipe, scores):
         """What the recipe prints and tells of each of some scores: a text and its reading each."""
-        folder = tempfile.mkdtemp(dir=self.room)
         script = []
-        for number, (text, score) in enumerate(scores):
+        for text, score in scores:
             command, files = recipe.at(score)
-            own = os.path.join(folder, str(number))
-            os.mkdir(own)
-            os.symlink(os.path.join(self.room, 'bin', 'humpipe'), os.path.join(own, 'humpipe'))
-            given = dict.fromkeys(pages.scores_of([command, *files.values()]) | pages.SCORES, text)
-            given.update(recipe.scores(text, score))
-            for name, content in [*files.items(), *given.items()]:
-                place = os.path.join(own, name)
-                os.makedirs(os.path.dirname(place), exist_ok=True)
-                with open(place, 'wb') as file:
-                    file.write(content if isinstance(content, bytes) else content.encode('latin-1'))
+            own = self.folder(text)
+            others = {name: text for name in pages.scores_of([command, *files.values()])}
+            for name, content in {**others, **files, **recipe.scores(text, score)}.items():
+                self.write(text, name, content)
             script.append(f'cd {own} && {{ {{\n{command}\n}} >out 2>told; }}\n')
         subprocess.run(['bash'], input=''.join(script).encode(), env=self.surroundings, stdout=subprocess.DEVNULL, check=False)
-        found = []
-        for number in range(len(scores)):
-            found.append(tuple(self.lines(folder, number, name) for name in (recipe.output, 'told')))
-        shutil.rmtree(folder)
-        return found
+        return [tuple(self.lines(text, name) for name in (recipe.output, 'told')) for text, _ in scores]
 
-    @staticmethod
-    def lines(folder, number, name):
-        with open(os.path.join(folder, str(number), name), 'rb') as file:
-            text = file.read().decode('latin-1')
-        return text.split('\n')[:-1] if text.endswith('\n') else text.split('\n') if text else []
+    def lines(self, text, name):
+        own, has = self.folders[text]
+        place = os.path.join(own, name)
+        has.pop(name, None)
+        if not os.path.exists(place):
+            return []
+        with open(place, 'rb') as file:
+            found = file.read().decode('latin-1')
+        os.remove(place)
+        return found.split('\n')[:-1] if found.endswith('\n') else found.split('\n') if found else []
 
 
 def differs(recipe, text, score, found):

@@ -160,7 +160,7 @@ class Maker:
                 for number, voice in enumerate(stretch.voices):
                     for k, event in enumerate(voice):
                         if number == 0 and k == 0 and len(stretch.voices) > 1 and before is not None and before.at + before.duration == event.at \
-                                and self.may('held over splits', 0.2) and before.duration + event.duration in WRITTEN and stretch.start > bar.start:
+                                and self.may('held over splits', 0.6) and before.duration + event.duration in WRITTEN and stretch.start > bar.start:
                             before.duration += event.duration
                             event.is_held, event.pitches = True, before.pitches
                             continue

@@ -24,7 +24,7 @@ class Writer:
         self.maker, self.dice = maker, maker.dice
         self.lines = []
         self.columns = [(k, 0) for k in range(len(maker.kinds))]
-        self.is_slurred = {}
+        self.is_slurred, self.late = {}, []
 
     def text(self):
         self.head()
@@ -79,6 +79,7 @@ class Writer:
             self.same(bar.line)
             if self.maker.may('odd barlines', 0.03):
                 self.same('=:|!')
+        self.join_late()
         if number == self.label_at:
             self.same('*>B')
         if bar.meter:
@@ -113,7 +114,15 @@ class Writer:
                         self.split(part, len(stretch.voices))
             self.moment(bar, time)
         for part in parts:
-            self.join(part, len(bar.stretches[part][-1].voices))
+            self.late.append((part, len(bar.stretches[part][-1].voices)))
+        if not self.maker.may('late joins', 0.2) or bar.swap is not None or bar is self.maker.bars[-1]:
+            self.join_late()
+
+    def join_late(self):
+        """Joins of the bar before, in front of the barline or behind it."""
+        for part, count in self.late:
+            self.join(part, count)
+        self.late = []
 
     def place(self, part):
         return next(k for k, kind in enumerate(self.maker.kinds) if kind == ('**kern', part))
