@@ -42,7 +42,14 @@ def of_part(answer, which=-1):
 
 
 def listed():
-    return questions() + cleaning() + from_humdrum()
+    return readme() + questions() + cleaning() + from_humdrum()
+
+
+def readme():
+    return [
+        Recipe('first run', 'README.md', './humpipe examples/first.hpl', of_part(answers.melody), part('-f 1')),
+        Recipe('first count', 'README.md', 'examples/first.hpl | tr', of_part(answers.seconds), part('-f 1')),
+    ]
 
 
 def questions():
