@@ -83,6 +83,10 @@ class Run:
 
     def recipe(self, recipe):
         try:
+            recipe.read()
+            if recipe.lacks:
+                print(f'left out: {recipe.page}: {recipe.name} (no {recipe.lacks})')
+                return
             wrong = Trial(recipe, self.runs).check(self.scores(recipe, self.asked.scores))
         except LookupError as lacking:
             wrong = f'    {lacking.args[0]}'

@@ -550,3 +550,30 @@ def where(score, names):
         if any(token[0] in '+-' and int(''.join(filter(str.isdigit, token))) >= 6 for token in own if token != '.'):
             rows.append('\t'.join([title, str(bar)] + own))
     return [name + '\t' + row for name in names for row in rows]
+
+
+# Python
+
+
+def divided(score, field):
+    """The line and the notes of each record in which a part has two columns."""
+    found = [(record, [token for token, own in zip(record.tokens, record.fields) if own == field]) for record in score.records if record.kind == 'data']
+    return [' '.join([str(record.line), *tokens]) for record, tokens in found if len(tokens) == 2]
+
+
+def sorted_intervals(score, field):
+    """How often each token of a part in intervals comes, in the order of the tokens."""
+    found = Counter(token for record in score.records if record.is_data for token, own in zip(melodic(score)[record.line], record.fields) if own == field and token != '.')
+    return [f'{count} {token}' for token, count in sorted(found.items())]
+
+
+def octaves_of_bass(score, field):
+    """Each leap of more than a fifth of a part, with its bar and its note."""
+    steps, lines = melodic(score), []
+    for record, bar in bars(score):
+        if record.is_data:
+            k = record.fields.index(field)
+            step = steps[record.line][k]
+            if step[0] in '+-' and int(''.join(filter(str.isdigit, step))) > 5:
+                lines.append(f'bar {bar} {record.tokens[k]} {step}')
+    return lines

@@ -6,7 +6,7 @@ from .editions import second
 from .music import Score
 from .running import Recipe
 
-QUESTIONS, CLEANING, FROM_HUMDRUM = 'docs/QUESTIONS.md', 'docs/CLEANING.md', 'docs/FROM_HUMDRUM.md'
+QUESTIONS, CLEANING, FROM_HUMDRUM, PYTHON = 'docs/QUESTIONS.md', 'docs/CLEANING.md', 'docs/FROM_HUMDRUM.md', 'docs/PYTHON.md'
 
 
 def part(old='-f 4', which=-1):
@@ -42,7 +42,7 @@ def of_part(answer, which=-1):
 
 
 def listed():
-    return readme() + questions() + cleaning() + from_humdrum()
+    return readme() + questions() + cleaning() + from_humdrum() + python()
 
 
 def readme():
@@ -112,6 +112,16 @@ def from_humdrum():
         Recipe('pc', FROM_HUMDRUM, '% 12', of_part(answers.pitch_classes), part()),
         Recipe('freq', FROM_HUMDRUM, '440', of_part(answers.frequencies), part()),
         Recipe('xdelta', FROM_HUMDRUM, 'semitones.hpl |', of_part(answers.steps), part()),
+    ]
+
+
+def python():
+    """Texts are UTF-8 there, unless an encoding is said."""
+    return [
+        Recipe('two voices of a part', PYTHON, 'python3 tenors.py', lambda score: answers.divided(score, score.parts()[0]),
+               lambda score: {'spine == 2': f'spine == {score.parts()[0]}'}, without=['Latin-1']),
+        Recipe('intervals in pandas', PYTHON, 'python3 intervals.py', of_part(answers.sorted_intervals), part(), without=['Latin-1', 'splits']),
+        Recipe('leaps in pandas', PYTHON, 'python3 bass_leaps.py', of_part(answers.octaves_of_bass, 0), part('-f 1', 0), without=['Latin-1']),
     ]
 
 

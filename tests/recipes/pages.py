@@ -44,12 +44,14 @@ def text_of(name, files):
 
 
 def files_of(command, files):
-    """The plans and scripts that a command names, with their texts."""
+    """The plans and scripts that a command names, and those that a script names, with their texts."""
     found = {}
-    for word in re.findall(r'[A-Za-z0-9_./]+\.(?:hpl|awk|py)', command):
-        text = text_of(word, files)
+    for name in re.findall(r'[A-Za-z0-9_./]+\.(?:hpl|awk|py)\b', command):
+        text = text_of(name, files)
         if text is not None:
-            found[word] = text
+            found[name] = text
+            if name.endswith('.py'):
+                found.update(files_of(text, files))
     return found
 
 

@@ -1,8 +1,10 @@
 """Runs recipes on scores: each in a folder that has the score under the name that the recipe reads, all of one recipe by one shell."""
+import importlib.util
 import os
 import re
 import shutil
 import subprocess
+import sys
 import tempfile
 
 from . import pages
@@ -36,6 +38,11 @@ class Recipe:
             self.needs(old)
             self.command = self.command.replace(old, new)
             self.files = {name: text.replace(old, new) for name, text in self.files.items()}
+
+    @property
+    def lacks(self):
+        """A module that this Python doesn't have."""
+        return next((name for name in ['pandas'] if any(name in text for text in self.files.values()) and importlib.util.find_spec(name) is None), None)
 
     def needs(self, old):
         if old not in self.command and not any(old in text for text in self.files.values()):
@@ -98,7 +105,11 @@ class Runs:
             for name, content in {**others, **files, **recipe.scores(text, score)}.items():
                 self.write(text, name, content)
             script.append(f'cd {own} && {{ {{\n{command}\n}} >out 2>told; }}\n')
-        subprocess.run(['bash'], input=''.join(script).encode(), env=self.surroundings, stdout=subprocess.DEVNULL, check=False)
+        if recipe.command.startswith('python3 '):
+            in_turn = [sys.executable, os.path.join(pages.TOP, 'tests', 'recipes', 'in_turn.py'), recipe.command.split()[1]]
+            subprocess.run(in_turn + [self.folder(text) for text, _ in scores], env=self.surroundings, check=False)
+        else:
+            subprocess.run(['bash'], input=''.join(script).encode(), env=self.surroundings, stdout=subprocess.DEVNULL, check=False)
         return [tuple(self.lines(text, name) for name in (recipe.output, 'told')) for text, _ in scores]
 
     def lines(self, text, name):

@@ -51,6 +51,10 @@ class Maker:
         self.words, self.resting = words, resting
         self.levels = sorted(self.dice.randint(-14, 10) for _ in range(self.kerns))
 
+    def choice(self, texts):
+        """One of some texts; those in Latin-1 if that isn't left out."""
+        return self.dice.choice([text for text in texts if text.isascii() or 'Latin-1' not in self.without])
+
     def may(self, what, chance):
         return what not in self.without and self.dice.random() < chance
 

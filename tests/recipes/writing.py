@@ -55,7 +55,7 @@ class Writer:
         return self.maker.kinds[column[0]]
 
     def remarks(self, chance):
-        return [self.dice.choice(scores.TITLES) for _ in range(3) if self.maker.may('comments', chance)]
+        return [self.maker.choice(scores.TITLES) for _ in range(3) if self.maker.may('comments', chance)]
 
     def head(self):
         dice = self.dice
@@ -160,7 +160,7 @@ class Writer:
         own = begun.get((self.place(part), 0))
         if name == '**text':
             is_new = own is not None and own.pitches and own.tie in ('', '[') and self.dice.random() < 0.8
-            return self.dice.choice(scores.SYLLABLES) if is_new else '.'
+            return self.maker.choice(scores.SYLLABLES) if is_new else '.'
         if self.dice.random() < 0.3:
             return self.dice.choice(scores.FIGURES if name == '**harm' else scores.LOUD)
         return '.'
