@@ -4,7 +4,7 @@
 #   make demo       shows the main job on a score of examples/
 #   make test       the merge gate: make lint, the rows of tests/ and the examples of the docs by a program that isn't proved, every proof
 #                   from nothing, the edits that must be refused, tests, runs, and by the proved program the rows, make faults, the Python
-#                   package, a release, the examples; what needs a program that isn't there is left out, and told
+#                   package, a release, the recipes and the examples of the docs; what needs a program that isn't there is left out, and told
 #   make edits      tries the edits alone, over what rt check has proved
 #   make bench      times and peak memory beside other programs on the same score
 #   make install    the program, its man page, the manual (docs/) and completions, into PREFIX=/usr/local
@@ -14,7 +14,8 @@
 #   make faults     runs small pipelines with it, while one call for memory, read, write or opened file after the other fails
 #   make docs       runs what the README and docs/ print, with it
 #   make python     runs the tests of the Python package, with it
-#   make plots      draws docs/plots/ anew, by gnuplot
+#   make recipes    tries the recipes of the pages on made-up scores, with it
+#   make plots      draws docs/plots/ anew, by gnuplot and abcm2ps
 #   make lint       the man page, the scripts and the grammar, as far as there are programs that read them
 #
 # The first build proves every crate that the program is made of, and tells each one that is proved. Later ones prove what
@@ -49,7 +50,7 @@ there = $${PROGRAM:-$$(ls humpipe crates/humpipe/out/humpipe 2>/dev/null | head 
 export PROGRAM
 needed = $(if $(PROGRAM)$(wildcard humpipe crates/humpipe/out/humpipe),,humpipe)
 
-.PHONY: all demo test early edits bench rows faults docs python plots lint install dist dist-test clean
+.PHONY: all demo test early edits bench rows faults docs recipes python plots lint install dist dist-test clean
 
 all: humpipe
 
@@ -117,6 +118,7 @@ test: lint early
 		python3 tests/faults.py "$$program" && \
 		HUMPIPE=$$(realpath "$$program") && export HUMPIPE && (cd python && python3 -m tests) && \
 		python3 packaging/check.py "$$program" && \
+		python3 tests/recipes.py "$$program" && \
 		python3 docs/check.py "$$program"; \
 	else echo 'no program at humpipe or crates/humpipe/out/humpipe: make it, or say DOCS=no'; echo '0 passed, 1 failed'; exit 1; fi
 
@@ -132,14 +134,14 @@ faults: humpipe
 docs: humpipe
 	@python3 docs/check.py humpipe
 
+recipes: humpipe
+	@python3 tests/recipes.py humpipe
+
 python: humpipe
 	@cd python && HUMPIPE=../humpipe python3 -m tests
 
-# in a folder that has what the plots read
 plots: $(needed)
-	@room=$$(mktemp -d) && trap 'rm -rf "$$room"' EXIT && ln -s "$$PWD/examples" "$$room" && ln -s "$$(realpath $(there))" "$$room/humpipe" && \
-	for plot in intervals contour rhythms reach; do \
-		(cd "$$room" && gnuplot examples/plots/$$plot.gp) >docs/plots/$$plot.svg || exit 1; echo docs/plots/$$plot.svg; done
+	@python3 docs/plots.py $(there)
 
 # What needs a program that isn't there is left out, and told.
 has = command -v $(1) >/dev/null || { echo 'left out: what $(1) would read (no $(1))'; exit 0; };

@@ -1,0 +1,12 @@
+# of a grid of STEP, the records that fall on a BEAT: counted from each numbered barline, and in an upbeat back from the first
+function tell(line, place) { if (place % every == 0) print line }
+function upbeat(   k) {
+    for (k = 1; k <= held; k++) if (k in place) tell(line[k], place[k] + every * count - count); else print line[k]
+    held = 0
+}
+BEGIN { every = step / beat }
+/^=[0-9]/ { if (!begun) upbeat(); begun = 1; count = 0 }
+/^[*!=]/ { if (begun) print; else line[++held] = $0; next }
+begun { tell($0, count++); next }
+{ line[++held] = $0; place[held] = count++ }
+END { if (!begun) { count = 0; upbeat() } }
