@@ -50,6 +50,7 @@ impl<'a> Source for HeldScore<'a> {
 }
 
 /// The scores of a bundle.
+#[derive(Drop)]
 struct BundleScores<'a> {
     bundle: &'a [u8],
 }

@@ -23,6 +23,7 @@ pub trait FileSystem {
 }
 
 /// The files of the machine, of which nothing is known.
+#[derive(Drop)]
 pub struct HostFiles<'a> {
     pub rt: &'a HostRuntime,
 }
@@ -42,6 +43,7 @@ impl<'a> FileSystem for HostFiles<'a> {
 }
 
 /// The scores that files are.
+#[derive(Drop)]
 pub struct FileScores<'a, F> {
     pub files: &'a F,
 }
