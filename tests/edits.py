@@ -68,8 +68,12 @@ def function_at(path, text, at):
     if not end or end.end() < at:
         return None
     owner = [it for it in OWNER.finditer(text) if it.start() < head.start()] if head[1] else []
-    line = lambda place: text.count('\n', 0, place) + 1
-    return Function(path, head[2], owner and type_of(owner[-1][0]) or '', (line(head.start()), line(end.end())))
+    first = text.count('\n', 0, head.start())
+    above = text.split('\n')[:first]
+    # (an error may be told at the attributes above it)
+    while above and above[-1].lstrip().startswith(('#[', '//')):
+        above.pop()
+    return Function(path, head[2], owner and type_of(owner[-1][0]) or '', (len(above) + 1, text.count('\n', 0, end.end()) + 1))
 
 
 def type_of(head):

@@ -48,7 +48,7 @@ stage_there (x ∷ xs) (suc k) h = stage_there xs k h
 pub record Counted {R : Type 0} (stages : List PlanStage) (k : ℕ) (readers : List R) : Type 0 where
   pub count : readers_of (stages_of stages) ≡ length readers + readers_of (stages_of (drop k stages))
 
-pub counted_none : {R : Type 0} {stages : List PlanStage} → Counted {R} stages 0 []
+pub counted_none : {R : Type 0} {stages : List PlanStage} → Counted {R = R} stages 0 []
 counted_none = record { count = omega arith }
 
 pub counted_next : {R : Type 0} {stages : List PlanStage} {k : ℕ} {stage : PlanStage} {old new : List R}

@@ -29,7 +29,7 @@ pub trait Scores {
 
     /// A reader of the score of this name, if there is one.
     fn reader(&self, name: &str) -> Option<Self::Reader>
-        ensures { is_known self.now ≡ true → IsFound Reader.remaining (score self.now name.now) result };
+        ensures { is_known self.now ≡ true → IsFound Self.Reader.remaining (score self.now name.now) result };
 }
 
 /// The stages of a plan's text.

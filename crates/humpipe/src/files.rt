@@ -19,7 +19,7 @@ pub trait FileSystem {
 
     /// Opens a file to be read.
     fn open(&self, name: &str) -> io::Result<Self::File>
-        ensures { is_known self.now ≡ true → IsOpened File.remaining (file self.now name.now) result };
+        ensures { is_known self.now ≡ true → IsOpened Self.File.remaining (file self.now name.now) result };
 }
 
 /// The files of the machine, of which nothing is known.
