@@ -14,8 +14,11 @@ ghost use Rattle.hum_context.specs.Walking.{AllStand, AreKnown, Becomes, Counts,
 ghost use Rattle.hum_context.specs.Walking.{Stands, Takes, Weighs, Writes, bytes_of, collected};
 
 use crate::heard::Heard;
+use crate::linking::FEW_RECORDS;
+use crate::links::Sought;
 use crate::measuring::measure;
 use crate::queued::Queued;
+use crate::skipping::Place;
 use crate::stepping::is_enough;
 use crate::text::Text;
 use crate::walk::Walk;
@@ -249,19 +252,20 @@ fn gather(
     j: usize,
     wanted: Option<u16>,
 ) -> Result<(), AllocError>
+    requires few { length held.now.items ≤ MOST_RECORDS }
     ensures { OnOk result ((o : Choice) (path : Path) (rows : List Row)
         → wanted ≡ wanted_of o.extent → taken o.extent [] ≡ None → Knows o path held.now.items rows
         → (tokens : List (List ℕ)) → taken o.extent (collected o path rows j) ≡ Some tokens
         → IsJoined text.new tokens) }
 {
     text.clear();
-    let mut column = j;
+    let mut here = Place { n: 0, c: j };
     let mut count: u64 = 0;
-    for n in 0..held.len() {
-        let next = &held[n];
-        match next.heard(column) {
+    while here.n < held.len() {
+        let next = &held[here.n];
+        match next.heard(here.c) {
             Heard::Taken { begins: _, ends } => {
-                text.add(next.token(column))?;
+                text.add(next.token(here.c))?;
                 count += 1;
                 if is_enough(wanted, count, ends) {
                     return Ok(());
@@ -269,12 +273,16 @@ fn gather(
                 if text.is_long() {
                     return Ok(());
                 }
+                here.n += 1;
             }
             Heard::Passed => {
-                let Some(below) = next.column_below(column) else {
+                let Some(to) = next.step(Sought::Any, here.c, held.len() - here.n) else {
                     return Ok(());
                 };
-                column = below;
+                here = Place {
+                    n: here.n + to.n,
+                    c: to.c,
+                };
             }
         }
     }
@@ -290,6 +298,7 @@ fn write_token(
     text: &mut Text,
     making: &mut RecordDraft,
 ) -> Result<(), AllocError>
+    requires few { length held.now.items ≤ MOST_RECORDS }
     requires kind { making.old.builder.kind ≡ Values }
     requires token { HasToken held.now.items j }
     ensures kind { making.new.builder.kind ≡ Values }
@@ -385,7 +394,9 @@ fn go_on_at(walk: &mut Walk, held: &VecDeque<Queued>, gone: u64, j: usize, wante
         → Halts o path gone rows j walk.new }
 {
     begin_at(walk, gone, j);
+    let from = walk.at;
     walk.go_on(held, gone, wanted);
+    walk.is_far = walk.at.saturating_sub(from) > FEW_RECORDS as u64;
 }
 
 /// The walk from a cell of the first record that waits goes on. What the token of the cell becomes,

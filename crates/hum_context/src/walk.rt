@@ -17,5 +17,7 @@ pub(crate) struct Walk {
     pub(crate) enough: bool,
     /// Whether the future is ended.
     pub(crate) ended: bool,
+    /// Whether it went through many records at once, and its way isn't kept yet.
+    pub(crate) is_far: bool,
     pub ghost within: { (at ≤ MOST_RECORDS) × (count ≤ at) },
 }
