@@ -1,9 +1,8 @@
 -- Past records in which nothing is found.
-use Rattle.std.proofs.Common.{◌≡◌, ◌∙◌, refl, sym, ap, ℕ, suc, ◌+◌, ◌-◌, ◌≤◌, ◌<◌, Bool, true, false}
-use Rattle.std.proofs.Common.{List, [], ◌∷◌, ◌++◌, length, filter, get_or, drop, append-nil}
+use Rattle.std.proofs.Common.{◌≡◌, ◌∙◌, refl, sym, ap, ℕ, ◌+◌, ◌-◌, ◌≤◌, ◌<◌, Bool, true, false}
+use Rattle.std.proofs.Common.{List, [], ◌∷◌, ◌++◌, length, filter, drop, append-nil}
 use Rattle.std.proofs.Common.{append_assoc, length-append, arith, cond, Option, Some, None, subst}
 use Rattle.std.specs.Option.{option_and_then, option_map}
-use Rattle.std.specs.List.{list_any}
 use Rattle.std.proofs.lemmas.List.Elements.{filter-append}
 use Rattle.hum_score.specs.Row.{Row}
 use Rattle.hum_score.specs.Spines.{Path}
@@ -12,10 +11,10 @@ use Rattle.hum_context.specs.declared.links.Sought.{Sought}
 use Rattle.hum_context.specs.declared.links.Sought.TheVariants.{Any, Last}
 use Rattle.hum_context.specs.declared.queued.Queued.{Queued}
 use Rattle.hum_context.specs.declared.walk.Walk.{Walk}
-use Rattle.hum_context.specs.Context.{Choice, Extent, First, Between, is_collectable, is_last, taken}
+use Rattle.hum_context.specs.Context.{Choice, Extent, First, Between, is_collectable, taken}
 use Rattle.hum_context.specs.Context.{chain, through}
 use Rattle.hum_context.specs.Columns.{column_after}
-use Rattle.hum_context.specs.Heard.{ends, wanted_of}
+use Rattle.hum_context.specs.Heard.{wanted_of}
 use Rattle.hum_context.specs.Leads.{Leads, is_sought, sought_of}
 use Rattle.hum_context.specs.Queue.{Knows}
 use Rattle.hum_context.specs.Walking.{Has, Stands, collected}

@@ -1,7 +1,7 @@
 -- Ways that are kept.
-use Rattle.std.proofs.Common.{◌≡◌, ◌∙◌, refl, sym, ap, ℕ, zero, suc, ◌+◌, ◌-◌, ◌≤◌, ◌<◌, Bool, true, false}
+use Rattle.std.proofs.Common.{◌≡◌, ◌∙◌, refl, sym, ap, ℕ, zero, suc, ◌+◌, ◌-◌, ◌≤◌, ◌<◌, true, false}
 use Rattle.std.proofs.Common.{List, [], ◌∷◌, ◌++◌, length, filter, get_or, drop, set, subst, ◌⊎◌, inl, inr}
-use Rattle.std.proofs.Common.{append_assoc, length-append, arith, Option, Some, None}
+use Rattle.std.proofs.Common.{append_assoc, length-append, arith, Some, None}
 use Rattle.std.specs.Prelude.{slice_get}
 use Rattle.std.proofs.lemmas.List.Elements.{filter-append}
 use Rattle.hum_score.specs.Row.{Row}
@@ -20,9 +20,9 @@ use Rattle.hum_context.specs.Leads.{IsPut, Leads, LeadsFrom, Linked, is_found, i
 use Rattle.hum_context.specs.Queue.{FirstIsData, Known, Knows}
 use Rattle.hum_context.specs.Walking.{AllStand, Halts, Stands}
 use Rattle.hum_context.proofs.Growth.{chain_push}
-use Rattle.hum_context.proofs.Leading.{leads_on, leads_rest, none_found, same_head}
+use Rattle.hum_context.proofs.Leading.{leads_rest, none_found, same_head}
 use Rattle.hum_context.proofs.Passing.{chain_more, chain_on}
-use Rattle.hum_context.proofs.Queues.{At, knows_at, knows_drop, drop_drop}
+use Rattle.hum_context.proofs.Queues.{At, knows_at}
 use Rattle.hum_context.proofs.Standing.{stand_in}
 use Rattle.hum_context.proofs.Ways.{Steps}
 

@@ -1,15 +1,13 @@
 -- Ways down a spine, put together and cut.
-use Rattle.std.proofs.Common.{◌≡◌, ◌∙◌, refl, sym, ap, ℕ, zero, suc, ◌+◌, ◌-◌, ◌≤◌, ◌<◌, Bool, true, false}
+use Rattle.std.proofs.Common.{◌≡◌, ◌∙◌, refl, sym, ap, ℕ, ◌+◌, ◌-◌, ◌≤◌, Bool, true, false}
 use Rattle.std.proofs.Common.{◌&&◌, List, [], ◌∷◌, ◌++◌, length, filter, get_or}
 use Rattle.std.proofs.Common.{append_assoc, length-append, arith, cond, Option, Some, None}
 use Rattle.std.specs.Option.{option_and_then}
 use Rattle.std.proofs.lemmas.List.Elements.{filter-append}
 use Rattle.hum_score.specs.declared.records.SpinedKind.TheVariants.{Local, Interpretation, Values}
-use Rattle.hum_score.specs.Row.{Row, Comment, Spined, token_at}
+use Rattle.hum_score.specs.Row.{Row, Comment, Spined}
 use Rattle.hum_score.specs.Spines.{Path, after}
 use Rattle.hum_score.specs.InOrder.{through}
-use Rattle.hum_stage.proofs.Scores.{through-append}
-use Rattle.hum_context.specs.declared.heard.Heard.{Heard}
 use Rattle.hum_context.specs.declared.heard.Heard.TheVariants.{Passed, Taken}
 use Rattle.hum_context.specs.declared.links.Link.{Link}
 use Rattle.hum_context.specs.declared.links.Links.{Links}
@@ -18,9 +16,9 @@ use Rattle.hum_context.specs.declared.links.Sought.TheVariants.{Any, Last}
 use Rattle.hum_context.specs.declared.queued.Queued.{Queued}
 use Rattle.hum_context.specs.Context.{Choice, is_collectable, begins, chain}
 use Rattle.hum_context.specs.Columns.{column_after, column_below, under}
-use Rattle.hum_context.specs.Heard.{ends, heard_of, heard_under}
-use Rattle.hum_context.specs.Leads.{Leads, LeadsFrom, Linked, is_found, is_sought, link_in, no_link}
-use Rattle.hum_context.specs.Queue.{Known, column_in, heard_token}
+use Rattle.hum_context.specs.Heard.{ends, heard_of}
+use Rattle.hum_context.specs.Leads.{Leads, Linked, is_found, is_sought, link_in, no_link}
+use Rattle.hum_context.specs.Queue.{Known, column_in}
 use Rattle.hum_context.proofs.Growth.{chain_push}
 use Rattle.hum_context.proofs.Passing.{chain_more, chain_on}
 

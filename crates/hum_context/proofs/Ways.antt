@@ -1,6 +1,6 @@
 -- A way, from cell to cell.
-use Rattle.std.proofs.Common.{◌≡◌, ◌∙◌, refl, sym, ap, ℕ, zero, suc, ◌+◌, ◌-◌, ◌≤◌, ◌<◌, false}
-use Rattle.std.proofs.Common.{List, [], ◌∷◌, ◌++◌, length, get_or, drop, arith, subst}
+use Rattle.std.proofs.Common.{◌≡◌, ◌∙◌, sym, ℕ, zero, suc, ◌+◌, ◌-◌, ◌<◌, false}
+use Rattle.std.proofs.Common.{List, [], ◌∷◌, length, get_or, drop, arith, subst}
 use Rattle.hum_score.specs.Row.{Row}
 use Rattle.hum_score.specs.Spines.{Path}
 use Rattle.hum_score.specs.InOrder.{through}
@@ -11,7 +11,7 @@ use Rattle.hum_context.specs.Context.{Choice}
 use Rattle.hum_context.specs.Leads.{Leads, Linked, is_found}
 use Rattle.hum_context.specs.Queue.{Known, Knows}
 use Rattle.hum_context.proofs.Leading.{leads_on}
-use Rattle.hum_context.proofs.Queues.{At, knows_at, drop_below, drop_get}
+use Rattle.hum_context.proofs.Queues.{knows_at, drop_below, drop_get}
 
 pub same_at : {X : Type 0} (xs : List X) (n : ℕ) (x y : X) → n < length xs → x ≡ get_or xs n x
     → y ≡ get_or xs n y → x ≡ y

@@ -1,6 +1,6 @@
 -- Ways down a spine, past records in which nothing is found.
-use Rattle.std.specs.Prelude.{◌≡◌, ◌⊎◌, ◌<◌, ◌≤◌, ◌&&◌, ℕ, ◌-◌, Bool, true, false}
-use Rattle.std.specs.Prelude.{List, [], ◌∷◌, ◌++◌, filter, length, slice_index_or, Option, Some, None}
+use Rattle.std.specs.Prelude.{◌≡◌, ◌⊎◌, ◌<◌, ◌&&◌, ℕ, ◌-◌, Bool, true, false}
+use Rattle.std.specs.Prelude.{List, [], ◌++◌, filter, length, slice_index_or, Option, Some, None}
 use Rattle.hum_score.specs.Row.{Row}
 use Rattle.hum_score.specs.Spines.{Path}
 use Rattle.hum_score.specs.InOrder.{through}
@@ -8,6 +8,7 @@ use Rattle.hum_context.specs.declared.heard.Heard.{Heard}
 use Rattle.hum_context.specs.declared.heard.Heard.TheVariants.{Passed, Taken}
 use Rattle.hum_context.specs.declared.links.Link.{Link}
 use Rattle.hum_context.specs.declared.links.Links.{Links}
+use Rattle.hum_context.specs.declared.links.Ways.{Ways}
 use Rattle.hum_context.specs.declared.links.Sought.{Sought}
 use Rattle.hum_context.specs.declared.links.Sought.TheVariants.{Any, Last}
 use Rattle.hum_context.specs.Context.{Choice, is_collectable, chain}
@@ -52,9 +53,19 @@ pub record LeadsFrom (o : Choice) (sought : Sought) (path : Path) (rows : List R
 abbrev pub no_link : Link
 no_link = record { over = 0; column = 0 }
 
+abbrev pub no_ways : Ways
+no_ways = record { any = no_link; last = no_link }
+
+abbrev pub way_of : Ways → Sought → Link
+way_of ways Any = ways.any
+way_of ways Last = ways.last
+
+abbrev pub with_way : Ways → Sought → Link → Ways
+with_way ways Any link = record { any = link; last = ways.last }
+with_way ways Last link = record { any = ways.any; last = link }
+
 abbrev pub link_in : Links → Sought → ℕ → Link
-link_in links Any c = slice_index_or links.any.items c no_link
-link_in links Last c = slice_index_or links.last.items c no_link
+link_in links sought c = way_of (slice_index_or links.ways.items c no_ways) sought
 
 -- Each that is known leads from its cell, which is one of the first of some rows.
 abbrev pub Linked : Choice → Path → List Row → Links → Type 0

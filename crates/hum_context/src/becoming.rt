@@ -14,7 +14,6 @@ ghost use Rattle.hum_context.specs.Walking.{AllStand, AreKnown, Becomes, Counts,
 ghost use Rattle.hum_context.specs.Walking.{Stands, Takes, Weighs, Writes, bytes_of, collected};
 
 use crate::heard::Heard;
-use crate::linking::FEW_RECORDS;
 use crate::links::Sought;
 use crate::measuring::measure;
 use crate::queued::Queued;
@@ -394,9 +393,7 @@ fn go_on_at(walk: &mut Walk, held: &VecDeque<Queued>, gone: u64, j: usize, wante
         → Halts o path gone rows j walk.new }
 {
     begin_at(walk, gone, j);
-    let from = walk.at;
     walk.go_on(held, gone, wanted);
-    walk.is_far = walk.at.saturating_sub(from) > FEW_RECORDS as u64;
 }
 
 /// The walk from a cell of the first record that waits goes on. What the token of the cell becomes,

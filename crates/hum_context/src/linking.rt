@@ -20,7 +20,7 @@ use std::alloc::AllocError;
 use std::collections::VecDeque;
 
 /// A way through more records is kept.
-pub(crate) const FEW_RECORDS: usize = 16;
+const FEW_RECORDS: usize = 16;
 
 /// The last column from which and to which one is kept.
 const LAST_COLUMN: usize = 65_535;
@@ -161,7 +161,7 @@ fn link_walk(
     link_ways(held, j, count, sought(wanted))
 }
 
-/// The same of the walk from a cell of the first record, if it went far.
+/// The same of the walk from a cell of the first record, if it went far since it was last asked.
 fn link_one(
     held: &mut VecDeque<Queued>,
     gone: u64,
@@ -180,10 +180,10 @@ fn link_one(
         → AllStand o path first rows walks.old.items → AllStand o path first rows walks.new.items }
 {
     let walk = walks[j];
-    if !walk.is_far {
+    walks[j].seen = walk.at as u32;
+    if walk.at.saturating_sub(walk.seen as u64) <= FEW_RECORDS as u64 {
         return Ok(());
     }
-    walks[j].is_far = false;
     link_walk(held, gone, j, walk, wanted)
 }
 

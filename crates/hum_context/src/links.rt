@@ -1,6 +1,7 @@
 //! Where spines lead, past records in which nothing is found.
 ghost use Rattle.std.specs.Prelude.{◌≡◌, ◌⊎◌, ◌==◌, ◌≤◌, ℕ, length, if◌then◌else◌, slice_index_or, OnOk};
-ghost use Rattle.hum_context.specs.Leads.{IsPut, link_in, no_link};
+ghost use Rattle.hum_context.specs.Leads.{IsPut, link_in, no_link, no_ways, with_way};
+ghost use Rattle.hum_context.specs.declared.links.Sought.{Sought as AnySought};
 
 use std::alloc::{AllocError, Global};
 
@@ -21,76 +22,112 @@ pub(crate) struct Link {
     pub(crate) column: u32,
 }
 
+/// What is known from a cell on.
+#[derive(Clone, Copy)]
+pub(crate) struct Ways {
+    pub(crate) any: Link,
+    pub(crate) last: Link,
+}
+
+/// Nothing is known.
+const NO_WAYS: Ways = Ways {
+    any: Link { over: 0, column: 0 },
+    last: Link { over: 0, column: 0 },
+};
+
 /// What is known from the cells of a record on.
 #[derive(Drop)]
 pub(crate) struct Links {
-    any: Vec<Link>,
-    last: Vec<Link>,
+    ways: Vec<Ways>,
 }
 
-/// What is known from a cell on.
-fn link_at(links: &[Link], c: usize) -> Link
-    ensures { result ≡ slice_index_or links.now c no_link }
+/// Makes room for so many cells.
+fn widen(ways: &mut Vec<Ways>, count: usize) -> Result<(), AllocError>
+    ensures kept { OnOk result ((c : ℕ) → slice_index_or ways.new.items c no_ways
+        ≡ slice_index_or ways.old.items c no_ways) }
+    ensures wide { OnOk result (count ≤ length ways.new.items) }
 {
-    if c < links.len() {
-        links[c]
-    } else {
-        Link { over: 0, column: 0 }
-    }
-}
-
-/// Makes room for so many.
-fn widen(links: &mut Vec<Link>, count: usize) -> Result<(), AllocError>
-    ensures kept { OnOk result ((c : ℕ) → slice_index_or links.new.items c no_link
-        ≡ slice_index_or links.old.items c no_link) }
-    ensures wide { OnOk result (count ≤ length links.new.items) }
-{
-    for _ in links.len()..count {
-        links.push(Link { over: 0, column: 0 })?;
+    for _ in ways.len()..count {
+        ways.push(NO_WAYS)?;
     }
     Ok(())
 }
 
 /// From a cell on this is known.
-fn put_link(links: &mut Vec<Link>, c: usize, link: Link) -> Result<(), AllocError>
+fn put_ways(ways: &mut Vec<Ways>, c: usize, here: Ways) -> Result<(), AllocError>
     requires { c ≤ 4294967295 }
-    ensures { OnOk result ((i : ℕ) → slice_index_or links.new.items i no_link
-        ≡ (if c == i then link else slice_index_or links.old.items i no_link)) }
+    ensures { OnOk result ((i : ℕ) → slice_index_or ways.new.items i no_ways
+        ≡ (if c == i then here else slice_index_or ways.old.items i no_ways)) }
 {
-    widen(links, c + 1)?;
-    links[c] = link;
+    widen(ways, c + 1)?;
+    ways[c] = here;
     Ok(())
+}
+
+impl Ways {
+    /// The same, where one more is known.
+    fn with(self, sought: Sought, link: Link) -> Ways
+        ensures { result ≡ with_way self sought link }
+    {
+        match sought {
+            Sought::Any => Ways {
+                any: link,
+                last: self.last,
+            },
+            Sought::Last => Ways {
+                any: self.any,
+                last: link,
+            },
+        }
+    }
 }
 
 impl Links {
     /// Nothing is known.
     pub(crate) fn none(alloc: Global) -> Links
-        ensures { (sought : Sought) (c : ℕ) → link_in result sought c ≡ no_link }
+        ensures { (sought : AnySought) (c : ℕ) → link_in result sought c ≡ no_link }
     {
         Links {
-            any: Vec::new(alloc),
-            last: Vec::new(alloc),
+            ways: Vec::new(alloc),
         }
+    }
+
+    /// Whether nothing is known.
+    pub(crate) fn is_empty(&self) -> bool {
+        self.ways.is_empty()
     }
 
     /// What is known from a cell on.
-    pub(crate) fn of(&self, sought: Sought, c: usize) -> Link
-        ensures { result ≡ link_in self.now sought c }
+    fn at(&self, c: usize) -> Ways
+        ensures { result ≡ slice_index_or self.now.ways.items c no_ways }
     {
-        match sought {
-            Sought::Any => link_at(&self.any, c),
-            Sought::Last => link_at(&self.last, c),
+        if c < self.ways.len() {
+            self.ways[c]
+        } else {
+            NO_WAYS
         }
     }
 
-    /// From a cell on this is known.
+    /// What is known from a cell on of what is looked for.
+    pub(crate) fn of(&self, sought: Sought, c: usize) -> Link
+        ensures { result ≡ link_in self.now sought c }
+    {
+        if c >= self.ways.len() {
+            return Link { over: 0, column: 0 };
+        }
+        match sought {
+            Sought::Any => self.ways[c].any,
+            Sought::Last => self.ways[c].last,
+        }
+    }
+
+    /// From a cell on one more is known.
     pub(crate) fn put(&mut self, sought: Sought, c: usize, link: Link) -> Result<(), AllocError>
         requires { c ≤ 4294967295 }
-        ensures { OnOk result ((s : Sought) (i : ℕ) → IsPut self.old sought c link s i (link_in self.new s i)) }
+        ensures { OnOk result ((s : AnySought) (i : ℕ)
+            → IsPut self.old sought c link s i (link_in self.new s i)) }
     {
-        match sought {
-            Sought::Any => put_link(&mut self.any, c, link),
-            Sought::Last => put_link(&mut self.last, c, link),
-        }
+        let here = self.at(c).with(sought, link);
+        put_ways(&mut self.ways, c, here)
     }
 }

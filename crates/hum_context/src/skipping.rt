@@ -36,8 +36,26 @@ impl Queued {
         }
     }
 
-    /// The cell to which one leads in which nothing is found, of so many records at most: by what is
-    /// known, or in the next.
+    /// The cell to which one leads in which nothing is found, of so many records at most, where a way is
+    /// kept.
+    #[inline(never)]
+    fn way(&self, sought: Sought, c: usize, most: usize) -> Option<Place>
+        ensures within { (to : Place) → result ≡ Some to → (0 < to.n) × (to.n ≤ most) }
+        ensures leads { (o : Choice) (path : Path) (rows : List Row)
+            → Linked o path rows self.now.links → (to : Place) → result ≡ Some to
+            → Leads o sought path rows c to.n to.c }
+    {
+        let link = self.links.of(sought, c);
+        if 0 < link.over && link.over as usize <= most {
+            return Some(Place {
+                n: link.over as usize,
+                c: link.column as usize,
+            });
+        }
+        None
+    }
+
+    /// The same, or else the cell in the next record.
     pub(crate) fn step(&self, sought: Sought, c: usize, most: usize) -> Option<Place>
         requires { 0 < most }
         ensures within { (to : Place) → result ≡ Some to → (0 < to.n) × (to.n ≤ most) }
@@ -48,12 +66,10 @@ impl Queued {
             → Leads o sought path (row ∷ rows) c to.n to.c }
         ensures none { result ≡ None → column_in self.now.row self.now.below c ≡ None }
     {
-        let link = self.links.of(sought, c);
-        if 0 < link.over && link.over as usize <= most {
-            return Some(Place {
-                n: link.over as usize,
-                c: link.column as usize,
-            });
+        if !self.links.is_empty() {
+            if let Some(to) = self.way(sought, c, most) {
+                return Some(to);
+            }
         }
         match self.column_below(c) {
             None => None,

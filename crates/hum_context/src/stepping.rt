@@ -53,7 +53,7 @@ impl Walk {
             count: 0,
             enough: false,
             ended: false,
-            is_far: false,
+            seen: at as u32,
         }
     }
 

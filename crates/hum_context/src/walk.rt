@@ -17,7 +17,7 @@ pub(crate) struct Walk {
     pub(crate) enough: bool,
     /// Whether the future is ended.
     pub(crate) ended: bool,
-    /// Whether it went through many records at once, and its way isn't kept yet.
-    pub(crate) is_far: bool,
+    /// How many records had come when it was last asked how far it goes.
+    pub(crate) seen: u32,
     pub ghost within: { (at ≤ MOST_RECORDS) × (count ≤ at) },
 }

@@ -1,6 +1,5 @@
-use Rattle.std.proofs.Common.{◌≡◌, ◌∙◌, ◌+◌, ◌-◌, ◌<◌, ap, sym, refl, arith, drop, get_or, length, List, ℕ, subst}
+use Rattle.std.proofs.Common.{◌≡◌, ◌∙◌, ◌+◌, ◌-◌, ap, sym, refl, arith, drop, List, ℕ}
 use Rattle.hum_context.specs.declared.links.Sought.TheVariants.{Any}
-use Rattle.hum_context.specs.declared.queued.Queued.{Queued}
 use Rattle.hum_context.specs.Leads.{is_found}
 use Rattle.hum_context.specs.Walking.{bytes_of}
 use Rattle.hum_context.proofs.Gathering.{gathers_none, gathers_take, gathers_all}
