@@ -20,6 +20,8 @@ use Rattle.hum_context.specs.Options.{extent_of, choice_of}
 use Rattle.hum_context.specs.Context.{Choice, taken, context, all_some, data_of, new_tokens}
 use Rattle.hum_stage.specs.Limits.{if_fits}
 use Rattle.hum_score.specs.InOrder.{through}
+use Rattle.hum_context.specs.declared.links.Sought.{Sought}
+use Rattle.hum_context.specs.Leads.{link_in, no_link}
 use Rattle.hum_context.specs.Memory.{Follows, follows_each}
 use Rattle.hum_context.specs.Queue.{FirstIsData, Known, Knows}
 use Rattle.hum_context.specs.Walking.{AllStand, Stands}
@@ -43,9 +45,9 @@ pub follows_put : (o : Choice) (path path' : Path) (gone : ℕ) (walks : List Wa
     → Follows o path gone walks held look past rows → length (passed past rows) < 4294967295
     → path' ≡ after path next
     → ((q : Path) → moves path next ≡ moves q next → Known o q next kept)
-    → held' ≡ held ++ kept ∷ []
+    → ((sought : Sought) (c : ℕ) → link_in kept.links sought c ≡ no_link) → held' ≡ held ++ kept ∷ []
     → Follows o path' gone walks held' look past (rows ++ next ∷ [])
-follows_put o path path' gone walks held held' look past rows next kept h few p known k =
+follows_put o path path' gone walks held held' look past rows next kept h few p known none k =
     let more = passed-push past rows next in
     let here = known (through (path_after past) rows)
     (ap (λ (q : Path). moves q next) (h.spines ∙ sym (path_passed past rows))) in
@@ -57,7 +59,7 @@ follows_put o path path' gone walks held held' look past rows next kept h few p 
       command = h.command;
       some_wanted = h.some_wanted;
       spines = p ∙ (ap (λ (q : Path). after q next) h.spines ∙ ap path_after (sym more));
-      waits = rw k (knows_push o (path_after past) held rows kept next h.waits here);
+      waits = rw k (knows_push o (path_after past) held rows kept next h.waits here none);
       stand = λ j walk at beyond. stands_more o (path_after past) gone rows next j walk
           (h.stand j walk at beyond);
       counted = omega (arith, counted, sum, longer);
@@ -116,6 +118,22 @@ none_stand o path gone rows walks e j walk at beyond =
   where
     nothing : (j : ℕ) → ◌≡◌ {A = Option Walk} (slice_get [] j) (Some walk) → ⊥
     nothing j k = cc
+
+-- more is known of the ways of those that wait
+pub follows_linked : (o : Choice) (path : Path) (gone : ℕ) (walks walks' : List Walk)
+    (held held' : List Queued) (look : Look) (past rows : List Row)
+    → Follows o path gone walks held look past rows → Knows o (path_after past) held' rows
+    → AllStand o (path_after past) gone rows walks'
+    → Follows o path gone walks' held' look past rows
+follows_linked o path gone walks walks' held held' look past rows h knows stand = record {
+  command = h.command;
+  some_wanted = h.some_wanted;
+  spines = h.spines;
+  waits = knows;
+  stand = stand;
+  counted = h.counted;
+  few = h.few;
+}
 
 -- other walks from the first stand
 pub follows_walks : (o : Choice) (path : Path) (gone : ℕ) (walks walks' : List Walk)

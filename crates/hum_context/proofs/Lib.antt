@@ -2,6 +2,9 @@ mod Examples
 pub mod Ending
 pub mod Keeping
 pub mod Growth
+pub mod Jumping
+pub mod Leading
+pub mod Kept
 pub mod Steady
 pub mod Nulls
 pub mod Places
@@ -15,4 +18,5 @@ pub mod Gathering
 pub mod Standing
 pub mod Lasts
 pub mod Shorter
+pub mod Ways
 pub mod Written

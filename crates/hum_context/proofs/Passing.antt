@@ -122,9 +122,15 @@ pass_none o path rows row j c kept walk new known at short h heard column ended 
     record {
       column = column ∙ (known.below c ∙ sym g.column);
       ended = ended ∙ (known.last c ∙ sym g.ended);
-      count = count ∙ (h.count ∙ ap length (sym same));
+      count = λ n is. count ∙ (h.count n is ∙ ap length (sym same));
       enough = rw (same, enough) (rw short at h.enough);
     }
+
+-- A count is asked only where so many are wanted.
+count_is : (x : Extent) (a b : ℕ) (e : Bool) → ((n : ℕ) → x ≡ First n → a ≡ b)
+    → enough_by (wanted_of x) (a + 1) e ≡ enough_by (wanted_of x) (b + 1) e
+count_is (First n) a b e h = ap (λ (m : ℕ). enough_by (Some n) (m + 1) e) (h n refl)
+count_is (Between opens closes) a b e h = refl
 
 pub enough_is : (x : Extent) (count : ℕ) (t : List ℕ)
     → enough_by (wanted_of x) count (ends x t) ≡ is_enough_by x count t
@@ -156,16 +162,15 @@ pass_one o path rows row j c kept walk new wanted b e want known at short h hear
     let more : collected o path (rows ++ row ∷ []) j ≡ got ++ token ∷ [] = g.collected
     ∙ ap (λ (x : Heard). got ++ heard_token x token) one in
     let sum = length-append got (token ∷ []) in
-    let was = h.count in
     let last : new.enough ≡ is_enough_by o.extent (length got + 1) token = enough
     ∙ (ap (λ (w : Option ℕ). enough_by w (walk.count + 1) e) want
-    ∙ (ap (λ (n : ℕ). enough_by (wanted_of o.extent) (n + 1) e) was
+    ∙ (count_is o.extent walk.count (length got) e h.count
     ∙ (ap (λ (x : Bool). enough_by (wanted_of o.extent) (length got + 1) x) (sym is.2)
     ∙ enough_is o.extent (length got + 1) token))) in
     record {
       column = column ∙ (known.below c ∙ sym g.column);
       ended = ended ∙ (known.last c ∙ sym g.ended);
-      count = rw more (omega (arith, count, was, sum));
+      count = λ n first. let was = h.count n first in rw more (omega (arith, count, was, sum));
       enough = rw (more, last) (taken_next o.extent got token (rw short at h.enough));
     }
 

@@ -1,9 +1,10 @@
 -- Records that wait, one by one.
-use Rattle.std.proofs.Common.{◌≡◌, ◌∙◌, refl, sym, ap, ℕ, zero, suc, ◌+◌, ◌≤◌, ◌<◌, Bool}
+use Rattle.std.proofs.Common.{◌≡◌, ◌∙◌, refl, sym, ap, ℕ, zero, suc, ◌+◌, ◌-◌, ◌≤◌, ◌<◌, Bool}
 use Rattle.std.proofs.Common.{true, false, ◌||◌, List, [], ◌∷◌, ◌++◌, length, filter, drop, get_or}
 use Rattle.std.proofs.Common.{append_assoc, length-append, arith, cond, Option, Some, None, inl, inr}
 use Rattle.std.specs.List.{position}
 use Rattle.std.proofs.lemmas.List.{length-drop}
+use Rattle.std.proofs.Math.Seq.{drop-nil}
 use Rattle.hum_score.specs.declared.records.Kind.TheVariants.{Interpretation as AnyInterpretation}
 use Rattle.hum_score.specs.declared.records.SpinedKind.TheVariants.{Local, Interpretation, Values}
 use Rattle.hum_score.specs.Row.{Row, Comment, Spined, kind_of, text_of}
@@ -16,10 +17,13 @@ use Rattle.hum_context.specs.declared.queued.Queued.{Queued}
 use Rattle.hum_context.specs.declared.walk.Walk.{Walk}
 use Rattle.hum_context.specs.Context.{Choice, is_collectable, is_last, begins}
 use Rattle.hum_score.specs.InOrder.{through}
+use Rattle.hum_context.specs.declared.links.Sought.{Sought}
 use Rattle.hum_context.specs.Heard.{heard_under, ends}
+use Rattle.hum_context.specs.Leads.{Linked, link_in, no_link}
 use Rattle.hum_context.specs.Memory.{knows_each}
 use Rattle.hum_context.specs.Queue.{Known, Knows, column_in, is_last_in, place_in, heard_token}
 use Rattle.hum_context.specs.Walking.{Has, Stands}
+use Rattle.hum_context.proofs.Leading.{linked_more, linked_none}
 use Rattle.hum_context.proofs.Tokens.{all_at, no_data, no_data_last, no_star_data, bang_no_data}
 use Rattle.hum_context.proofs.Tokens.{bang_no_last, LawfulAt}
 
@@ -104,12 +108,16 @@ known_new o path (Spined Interpretation tokens) kept found words lawful short is
 -- one more behind the others
 pub knows_push : (o : Choice) (path : Path) (held : List Queued) (rows : List Row) (kept : Queued)
     (next : Row) → Knows o path held rows → Known o (through path rows) next kept
+    → ((sought : Sought) (c : ℕ) → link_in kept.links sought c ≡ no_link)
     → Knows o path (held ++ kept ∷ []) (rows ++ next ∷ [])
-knows_push o path [] [] kept next h k = (k, tt)
-knows_push o path [] (row ∷ rows) kept next h k = absurd h
-knows_push o path (q ∷ qs) [] kept next h k = absurd h
-knows_push o path (q ∷ qs) (row ∷ rows) kept next h k =
-    (h.0, knows_push o (after path row) qs rows kept next h.1 k)
+knows_push o path [] [] kept next h k none = (k, tt, linked_none o path (next ∷ []) kept.links none)
+knows_push o path [] (row ∷ rows) kept next h k none = absurd h
+knows_push o path (q ∷ qs) [] kept next h k none = absurd h
+knows_push o path (q ∷ qs) (row ∷ rows) kept next h k none = (
+  h.0,
+  knows_push o (after path row) qs rows kept next h.1 k none,
+  linked_more o path (row ∷ rows) q.links next h.2,
+)
 
 -- the one at a place
 pub record At (o : Choice) (path : Path) (rest : List Row) (kept : Queued) : Type 0 where
@@ -117,6 +125,7 @@ pub record At (o : Choice) (path : Path) (rest : List Row) (kept : Queued) : Typ
   pub behind : List Row
   pub split : rest ≡ row ∷ behind
   pub known : Known o path row kept
+  pub linked : Linked o path (row ∷ behind) kept.links
 
 pub knows_at : (o : Choice) (path : Path) (held : List Queued) (front rest : List Row)
     (kept : Queued) → Knows o path held (front ++ rest) → length front < length held
@@ -128,6 +137,7 @@ knows_at o path (q ∷ qs) [] (row ∷ rows) kept h below at = record {
   behind = rows;
   split = refl;
   known = rw at h.0;
+  linked = rw at h.2;
 }
 knows_at o path (q ∷ qs) (row ∷ front) rest kept h below at =
     knows_at o (after path row) qs front rest kept h.1 (omega (arith, below)) at
@@ -145,6 +155,17 @@ drop_get zero xs m d = let none : 0 + m ≡ m = omega arith in rw none refl
 drop_get (suc k) [] m d = refl
 drop_get (suc k) (x ∷ xs) m d = let next : suc k + m ≡ suc (k + m) = omega arith in
     rw next (drop_get k xs m d)
+
+pub drop_drop : {X : Type 0} (k m : ℕ) (xs : List X) → drop m (drop k xs) ≡ drop (k + m) xs
+drop_drop zero m xs = let none : 0 + m ≡ m = omega arith in rw none refl
+drop_drop {X = X} (suc k) m [] = drop-nil {A = X} m ∙ sym (drop-nil {A = X} (suc k + m))
+drop_drop (suc k) m (x ∷ xs) = let next : suc k + m ≡ suc (k + m) = omega arith in
+    rw next (drop_drop k m xs)
+
+pub behind_at : {X : Type 0} (k n : ℕ) (xs : List X) (x : X) → k ≤ n → x ≡ get_or xs n x
+    → x ≡ get_or (drop k xs) (n - k) x
+behind_at k n xs x over is = let all : k + (n - k) ≡ n = omega (arith, over) in
+    is ∙ sym (drop_get k xs (n - k) x ∙ ap (λ (i : ℕ). get_or xs i x) all)
 
 pub drop_below : {X : Type 0} (k m : ℕ) (xs : List X) → k + m < length xs → m < length (drop k xs)
 drop_below k m xs h = let left = length-drop k xs in omega (arith, left, h)

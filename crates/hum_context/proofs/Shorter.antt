@@ -23,6 +23,7 @@ use Rattle.hum_context.specs.Heard.{heard_under, ends, wanted_of}
 use Rattle.hum_context.specs.Queue.{IsStill, Known, column_in, heard_token}
 use Rattle.hum_context.specs.Walking.{AllStand, Has, IsWithout, Shortens, Stands, collected}
 use Rattle.hum_context.proofs.Growth.{chain_push}
+use Rattle.hum_context.proofs.Leading.{same_head}
 use Rattle.hum_context.proofs.Passing.{chain_more, chain_on, open_end, heard_data}
 use Rattle.hum_context.proofs.Tokens.{taken_is}
 
@@ -71,7 +72,7 @@ shorter_none o path row front j i kept walk known below heard h =
     record {
       column = h.column ∙ s.column;
       ended = h.ended ∙ s.ended;
-      count = h.count ∙ ap length s.collected;
+      count = λ n is. h.count n is ∙ ap length s.collected;
       enough = rw s.collected at h.enough;
     }
 
@@ -145,18 +146,14 @@ shorter_one o path row front j i kept walk new wanted b e want known below heard
     (rw s.collected at h.enough) in
     let w = less.2 in
     let count = w.count in
-    let was = h.count ∙ ap length s.collected in
     record {
       column = w.column ∙ (h.column ∙ s.column);
       ended = w.ended ∙ (h.ended ∙ s.ended);
-      count = omega (arith, count, was);
+      count = λ n first. let was = h.count n first ∙ ap length s.collected in omega (arith, count, was);
       enough = less.1;
     }
 
 -- the walk from the cell below stands among the records that are left
-same_head : (x y : Row) (xs ys : List Row) → x ∷ xs ≡ y ∷ ys → (x ≡ y) × (xs ≡ ys)
-same_head x y xs ys e = (cc, cc)
-
 pub stands_below : (o : Choice) (path : Path) (first : ℕ) (row : Row) (rows : List Row) (j i : ℕ)
     (walk new : Walk) → Stands o path first (row ∷ rows) j walk
     → new.at ≡ walk.at → first + 1 < new.at

@@ -16,6 +16,7 @@ use Rattle.hum_context.specs.declared.queued.Queued.{Queued}
 use Rattle.hum_context.specs.Context.{Choice, is_collectable, is_last}
 use Rattle.hum_context.specs.Columns.{column_below, under}
 use Rattle.hum_context.specs.Heard.{heard_under}
+use Rattle.hum_context.specs.Leads.{Linked}
 use Rattle.hum_record.specs.declared.TheConstants.{MOST_BYTES}
 
 -- the place at which the spine at place c goes on
@@ -70,10 +71,11 @@ pub record IsStill (kept : Queued) : Type 0 where
   pub quiet : kept.heard.items ≡ []
   pub stays : (c : ℕ) → column_in kept.row kept.below c ≡ Some c
 
--- the same of each of those that wait, the spines before the first being known
+-- the same of each of those that wait, the spines before the first being known; and the ways from its
+-- cells that are known lead there
 abbrev pub Knows : Choice → Path → List Queued → List Row → Type 0
 Knows o path [] [] = Unit {0}
 Knows o path [] (row ∷ rows) = ⊥
 Knows o path (kept ∷ held) [] = ⊥
 Knows o path (kept ∷ held) (row ∷ rows) =
-    Known o path row kept × Knows o (after path row) held rows
+    Known o path row kept × Knows o (after path row) held rows × Linked o path (row ∷ rows) kept.links

@@ -12,7 +12,7 @@ use Rattle.hum_context.specs.declared.becoming.Becoming.{Becoming}
 use Rattle.hum_context.specs.declared.becoming.Becoming.TheVariants.{Stays, Null, Collects}
 use Rattle.hum_context.specs.declared.becoming.Weight.{Weight}
 use Rattle.hum_context.specs.declared.becoming.Weight.TheVariants.{Undecided, Long, Fits}
-use Rattle.hum_context.specs.Context.{Choice, is_collectable, is_last, taken, chain}
+use Rattle.hum_context.specs.Context.{Choice, First, is_collectable, is_last, taken, chain}
 use Rattle.hum_context.specs.Context.{new_token}
 use Rattle.hum_context.specs.Columns.{column_after}
 use Rattle.hum_record.specs.declared.TheConstants.{MOST_BYTES}
@@ -31,11 +31,11 @@ add_token (byte ∷ bytes) token = (byte ∷ bytes) ++ 32 ∷ token
 abbrev pub collected : Choice → Path → List Row → ℕ → List (List ℕ)
 collected o path rows j = filter (is_collectable o) (chain path rows j)
 
--- A walk from the cell at place j has gone through these rows.
+-- A walk from the cell at place j has gone through these rows. Tokens are counted where so many are wanted.
 pub record Has (o : Choice) (path : Path) (rows : List Row) (j : ℕ) (walk : Walk) : Type 0 where
   pub column : walk.column ≡ column_after path rows j
   pub ended : walk.ended ≡ list_any is_last (chain path rows j)
-  pub count : walk.count ≡ length (collected o path rows j)
+  pub count : (n : ℕ) → o.extent ≡ First n → walk.count ≡ length (collected o path rows j)
   pub enough : taken o.extent (collected o path rows j)
       ≡ (if walk.enough then Some (collected o path rows j) else None)
 

@@ -14,8 +14,10 @@ ghost use Rattle.hum_context.specs.Walking.{AllStand, AreKnown, Becomes, Counts,
 ghost use Rattle.hum_context.specs.Walking.{Stands, Takes, Weighs, Writes, bytes_of, collected};
 
 use crate::heard::Heard;
+use crate::links::Sought;
 use crate::measuring::measure;
 use crate::queued::Queued;
+use crate::skipping::Place;
 use crate::stepping::is_enough;
 use crate::text::Text;
 use crate::walk::Walk;
@@ -249,19 +251,20 @@ fn gather(
     j: usize,
     wanted: Option<u16>,
 ) -> Result<(), AllocError>
+    requires few { length held.now.items ≤ MOST_RECORDS }
     ensures { OnOk result ((o : Choice) (path : Path) (rows : List Row)
         → wanted ≡ wanted_of o.extent → taken o.extent [] ≡ None → Knows o path held.now.items rows
         → (tokens : List (List ℕ)) → taken o.extent (collected o path rows j) ≡ Some tokens
         → IsJoined text.new tokens) }
 {
     text.clear();
-    let mut column = j;
+    let mut here = Place { n: 0, c: j };
     let mut count: u64 = 0;
-    for n in 0..held.len() {
-        let next = &held[n];
-        match next.heard(column) {
+    while here.n < held.len() {
+        let next = &held[here.n];
+        match next.heard(here.c) {
             Heard::Taken { begins: _, ends } => {
-                text.add(next.token(column))?;
+                text.add(next.token(here.c))?;
                 count += 1;
                 if is_enough(wanted, count, ends) {
                     return Ok(());
@@ -269,12 +272,16 @@ fn gather(
                 if text.is_long() {
                     return Ok(());
                 }
+                here.n += 1;
             }
             Heard::Passed => {
-                let Some(below) = next.column_below(column) else {
+                let Some(to) = next.step(Sought::Any, here.c, held.len() - here.n) else {
                     return Ok(());
                 };
-                column = below;
+                here = Place {
+                    n: here.n + to.n,
+                    c: to.c,
+                };
             }
         }
     }
@@ -290,6 +297,7 @@ fn write_token(
     text: &mut Text,
     making: &mut RecordDraft,
 ) -> Result<(), AllocError>
+    requires few { length held.now.items ≤ MOST_RECORDS }
     requires kind { making.old.builder.kind ≡ Values }
     requires token { HasToken held.now.items j }
     ensures kind { making.new.builder.kind ≡ Values }

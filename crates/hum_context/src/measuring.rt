@@ -6,7 +6,9 @@ ghost use Rattle.hum_context.specs.{Context.Choice, Context.taken, Heard.wanted_
 ghost use Rattle.hum_context.specs.{Walking.bytes_of, Walking.collected};
 
 use crate::heard::Heard;
+use crate::links::Sought;
 use crate::queued::Queued;
+use crate::skipping::Place;
 use crate::stepping::is_enough;
 use hum_stage::MOST_RECORDS;
 use std::collections::VecDeque;
@@ -23,23 +25,27 @@ pub(crate) fn measure(held: &VecDeque<Queued>, k: usize, j: usize, wanted: Optio
         → result ≡ bytes_of tokens }
 {
     let mut size: u64 = 0;
-    let mut column = j;
+    let mut here = Place { n: k, c: j };
     let mut count: u64 = 0;
-    for n in 0..held.len() - k {
-        let next = &held[k + n];
-        match next.heard(column) {
+    while here.n < held.len() {
+        let next = &held[here.n];
+        match next.heard(here.c) {
             Heard::Taken { begins: _, ends } => {
-                size += next.bytes(column);
+                size += next.bytes(here.c);
                 count += 1;
                 if is_enough(wanted, count, ends) {
                     return size;
                 }
+                here.n += 1;
             }
             Heard::Passed => {
-                let Some(below) = next.column_below(column) else {
+                let Some(to) = next.step(Sought::Any, here.c, held.len() - here.n) else {
                     return size;
                 };
-                column = below;
+                here = Place {
+                    n: here.n + to.n,
+                    c: to.c,
+                };
             }
         }
     }

@@ -14,6 +14,7 @@ use crate::below::Below;
 use crate::heard::{SpareHeard, wanted};
 use crate::held::HeldRecord;
 use crate::lasting::lasting;
+use crate::linking::link;
 use crate::queued::Queued;
 use crate::sharing::{share, shorten};
 use crate::text::Text;
@@ -119,6 +120,7 @@ impl LooksAhead for Collecting {
         }
         let wanted = wanted(&self.options.span);
         let known = advance(held, self.gone, &mut self.walks, wanted)?;
+        link(held, self.gone, &mut self.walks, wanted)?;
         if !known {
             return Ok(Verdict::Waits);
         }

@@ -6,6 +6,7 @@ ghost use Rattle.hum_score.specs.Row.{kind_of, width_of};
 use crate::below::Below;
 use crate::heard::Heard;
 use crate::held::HeldRecord;
+use crate::links::Links;
 
 /// A record that waits, what was heard of its tokens, and where the spines under it go.
 #[derive(Drop)]
@@ -14,6 +15,7 @@ pub struct Queued {
     // of each token, or nothing where none is collected
     pub(crate) heard: Vec<Heard>,
     pub(crate) below: Below,
+    pub(crate) links: Links,
     // only data is heard
     pub ghost valued: { heard.items ≢ [] → kind_of row ≡ AnyValues },
     pub ghost narrow: { length heard.items ≤ width_of row },

@@ -4,16 +4,29 @@ ghost use Rattle.std.specs.Prelude.{false, Some, None, slice_index_or};
 ghost use Rattle.hum_score.specs.Row.{Row};
 ghost use Rattle.hum_score.specs.Spines.{Path};
 ghost use Rattle.hum_context.specs.{Context.Choice, Heard.wanted_of, Heard.enough_by};
+ghost use Rattle.hum_context.specs.Leads.{sought_of};
 ghost use Rattle.hum_context.specs.Queue.{Known, Knows, column_in, is_last_in};
 ghost use Rattle.hum_context.specs.Walking.{Has, Stands, Halts};
 ghost use Rattle.hum_context.specs.declared.heard.Heard.TheVariants.{Passed};
 ghost use Rattle.hum_score.specs.InOrder.{through};
 
 use crate::heard::Heard;
+use crate::links::Sought;
 use crate::queued::Queued;
+use crate::skipping::Place;
 use crate::walk::Walk;
 use hum_stage::MOST_RECORDS;
 use std::collections::VecDeque;
+
+/// What a walk looks for.
+pub(crate) fn sought(wanted: Option<u16>) -> Sought
+    ensures { result ≡ sought_of wanted }
+{
+    match wanted {
+        Some(_) => Sought::Any,
+        None => Sought::Last,
+    }
+}
 
 /// Whether so many tokens are enough, the last of which ends a group or doesn't.
 pub(crate) fn is_enough(wanted: Option<u16>, count: u64, ends: bool) -> bool
@@ -40,6 +53,7 @@ impl Walk {
             count: 0,
             enough: false,
             ended: false,
+            seen: at as u32,
         }
     }
 
@@ -93,6 +107,29 @@ impl Walk {
         }
     }
 
+    /// It goes on from a cell of those that wait: past records in which nothing is found, or through
+    /// one.
+    fn move_on(&mut self, held: &VecDeque<Queued>, gone: u64, here: Place, wanted: Option<u16>)
+        requires few { gone + length held.now.items ≤ MOST_RECORDS }
+        requires at { self.old.at ≡ gone + here.n }
+        requires within { here.n < length held.now.items }
+        ensures within { (self.old.at < self.new.at) × (self.new.at ≤ gone + length held.now.items) }
+        ensures stands { (o : Choice) (path : Path) (k : ℕ) (rows : List Row) (j : ℕ)
+            → wanted ≡ wanted_of o.extent → Knows o path (drop k held.now.items) rows
+            → self.old.column ≡ Some here.c → self.old.enough ≡ false
+            → Stands o path (gone + k) rows j self.old → Stands o path (gone + k) rows j self.new }
+    {
+        let next = &held[here.n];
+        if let Heard::Passed = next.heard(here.c) {
+            if let Some(to) = next.step(sought(wanted), here.c, held.len() - here.n) {
+                self.at += to.n as u64;
+                self.column = Some(to.c);
+                return;
+            }
+        }
+        self.pass(here.c, next, wanted);
+    }
+
     /// It goes on until its tokens are enough, its column ends or no more records wait, of which so
     /// many are gone.
     pub(crate) fn go_on(&mut self, held: &VecDeque<Queued>, gone: u64, wanted: Option<u16>)
@@ -103,14 +140,15 @@ impl Walk {
             → wanted ≡ wanted_of o.extent → Knows o path (drop k held.now.items) rows
             → Stands o path (gone + k) rows j self.old → Halts o path (gone + k) rows j self.new }
     {
-        for n in (self.at - gone) as usize..held.len() {
+        while self.at - gone < held.len() as u64 {
             if self.enough {
                 return;
             }
             let Some(c) = self.column else {
                 return;
             };
-            self.pass(c, &held[n], wanted);
+            let n = (self.at - gone) as usize;
+            self.move_on(held, gone, Place { n, c }, wanted);
         }
     }
 }

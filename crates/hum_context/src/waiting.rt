@@ -6,12 +6,15 @@ ghost use Rattle.hum_score.specs.declared.records.Kind.TheVariants.{Interpretati
 ghost use Rattle.hum_score.specs.{Row.kind_of, Row.token_at, Row.tokens_of, Spelling.IsToken};
 ghost use Rattle.hum_score.specs.Spines.{Path};
 ghost use Rattle.hum_context.specs.{Context.is_last, Options.choice_of};
+ghost use Rattle.hum_context.specs.Leads.{link_in, no_link};
 ghost use Rattle.hum_context.specs.Queue.{IsStill, Known, LeadsBelow, column_in, is_last_in};
 ghost use Rattle.hum_context.specs.declared.heard.Heard.TheVariants.{Passed};
+ghost use Rattle.hum_context.specs.declared.links.Sought.{Sought};
 
 use crate::below::Below;
 use crate::heard::{Heard, SpareHeard, hear_row};
 use crate::held::HeldRecord;
+use crate::links::Links;
 use crate::queued::Queued;
 use hum_choices::ContextOptions;
 use hum_path::{Sign, token_sign};
@@ -44,12 +47,20 @@ impl Queued {
         ensures kept { options.new ≡ options.old }
         ensures known { IfOk result (λ queued. (path : Path) → LeadsBelow path row below
             → Known (choice_of options.old) path row queued) }
+        ensures unlinked { IfOk result (λ queued. (sought : Sought) (c : ℕ)
+            → link_in queued.links sought c ≡ no_link) }
     {
         // Its text is lawful.
         let _kind = row.kind();
         let heard = hear_row(alloc, options, &row, spare)?;
         let row = HeldRecord::of(row, heard.is_empty());
-        Ok(Queued { row, heard, below })
+        let links = Links::none(alloc);
+        Ok(Queued {
+            row,
+            heard,
+            below,
+            links,
+        })
     }
 
     /// What was heard in a column; nothing beyond the last.

@@ -17,5 +17,7 @@ pub(crate) struct Walk {
     pub(crate) enough: bool,
     /// Whether the future is ended.
     pub(crate) ended: bool,
+    /// How many records had come when it was last asked how far it goes.
+    pub(crate) seen: u32,
     pub ghost within: { (at ≤ MOST_RECORDS) × (count ≤ at) },
 }

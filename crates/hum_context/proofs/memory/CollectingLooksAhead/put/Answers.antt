@@ -25,4 +25,5 @@ returns c look past rows h sound =
     c.in_ok-below.ensures.after
     (λ q e. c.in_ok-queued.ensures.known q
     (λ kind n. c.in_ok-below.ensures.below kind n ∙ ap (position (goes_on n)) e))
+    c.in_ok-queued.ensures.unlinked
     c.in_ok-push_back.ensures.items)

@@ -10,7 +10,7 @@ use Rattle.hum_context.specs.Queue.{Knows}
 use Rattle.hum_context.specs.Walking.{AllStand}
 use Rattle.hum_context.proofs.Weighing.{quiet_stays, fits_is, long_is, bytes_fit, bytes_long}
 use Rattle.hum_context.proofs.Following.{few_held, first_known, first_data, none_heard, get_first}
-use Rattle.hum_context.proofs.Following.{first_is_data, follows_on, follows_walks, undecided, decided_by, one_fewer}
+use Rattle.hum_context.proofs.Following.{first_is_data, follows_linked, follows_on, undecided, decided_by, one_fewer}
 use Rattle.hum_context.proofs.memory.CollectingLooksAhead.settle.Goals as goal
 
 pub returns-then-is_quiet-clause-settles : goal.returns-then-is_quiet-clause-settles
@@ -60,7 +60,9 @@ returns-then-not-known-clause-settles c look past row rows h =
     h.stand) in (
       ap (λ l. l past row rows) h.command
           ∙ undecided o past row rows is (rw c.if-not-known.true at are),
-      follows_walks o _ _ _ _ _ look past (row ∷ rows) h stand,
+      follows_linked o _ _ _ _ _ _ look past (row ∷ rows) h
+          (c.in_ok-link.ensures.knows o path (row ∷ rows) h.waits)
+          (c.in_ok-link.ensures.stand o path c.args.self.now.gone (row ∷ rows) stand),
     )
 
 pub returns-in_default-clause-settles : goal.returns-in_default-clause-settles
@@ -76,15 +78,16 @@ returns-in_default-clause-settles c look past row rows h =
     let want = c.wanted-wanted.ensures in
     let stand = c.in_ok-known.ensures.stand o path (row ∷ rows) want h.some_wanted h.waits h.stand in
     let knows = subst (λ (r : Row). Knows o path c.args.held.now.items (r ∷ rows)) is h.waits in
+    let linked = c.in_ok-link.ensures.knows o path _ knows in
     let stands =
-    subst (λ (r : Row). AllStand o path c.args.self.now.gone (r ∷ rows) c.advance.new.walks.items) is
-    stand in
+    subst (λ (r : Row). AllStand o path c.args.self.now.gone (r ∷ rows) c.link.new.walks.items) is
+    (c.in_ok-link.ensures.stand o path c.args.self.now.gone (row ∷ rows) stand) in
     let are = rw c.if-not-known.false at (c.in_ok-known.ensures.known o path (tokens_of row) rows want
     h.some_wanted knows
     (subst (λ (r : Row). AllStand o path c.args.self.now.gone (r ∷ rows) c.args.self.now.walks.items) is
     h.stand)) in
     let long = rw c.in_default.is at
-    (c.in_ok-made.ensures o path (tokens_of row) are.0 rows want h.some_wanted knows
+    (c.in_ok-made.ensures o path (tokens_of row) are.0 rows want h.some_wanted linked
     (rw c.deref.ensures.value stands) are.1) in
     ap (λ l. l past row rows) h.command
     ∙ decided_by o past row rows are.0 (Err L1) is are.1 (long_is are.0 (bytes_long are.0 long))
@@ -102,31 +105,34 @@ returns-clause-settles c look past row rows h =
     let want = c.wanted-wanted.ensures in
     let stand = c.in_ok-known.ensures.stand o path (row ∷ rows) want h.some_wanted h.waits h.stand in
     let knows = subst (λ (r : Row). Knows o path c.args.held.now.items (r ∷ rows)) is h.waits in
+    let waits = c.in_ok-link.ensures.knows o path (row ∷ rows) h.waits in
+    let linked = c.in_ok-link.ensures.knows o path _ knows in
+    let here = c.in_ok-link.ensures.stand o path c.args.self.now.gone (row ∷ rows) stand in
     let stands =
-    subst (λ (r : Row). AllStand o path c.args.self.now.gone (r ∷ rows) c.advance.new.walks.items) is
-    stand in
+    subst (λ (r : Row). AllStand o path c.args.self.now.gone (r ∷ rows) c.link.new.walks.items) is here in
     let are = rw c.if-not-known.false at (c.in_ok-known.ensures.known o path (tokens_of row) rows want
     h.some_wanted knows
     (subst (λ (r : Row). AllStand o path c.args.self.now.gone (r ∷ rows) c.args.self.now.walks.items) is
     h.stand)) in
     let made = rw c.in-Some.is at
-    (c.in_ok-made.ensures o path (tokens_of row) are.0 rows want h.some_wanted knows
+    (c.in_ok-made.ensures o path (tokens_of row) are.0 rows want h.some_wanted linked
     (rw c.deref.ensures.value stands) are.1) in
     let e = c.in_ok-row-2.ensures in
     rw (c.keep.ensures, e.kept, made.0) (
       ap (λ l. l past row rows) h.command
           ∙ decided_by o past row rows are.0 (Ok (Spined Values are.0 ∷ [])) is are.1
           (fits_is are.0 (bytes_fit are.0 made.1)),
-      follows_on o _ _ _ _ _ _ _ look past row rows h e.gone e.held
-          (e.stand path row rows h.waits stand),
+      follows_on o _ _ _ _ _ _ _ look past row rows
+          (follows_linked o _ _ _ _ _ _ look past (row ∷ rows) h waits here) e.gone e.held
+          (e.stand path row rows waits here),
     )
 
 pub write-requires-clause-data : goal.write-requires-clause-data
 write-requires-clause-data c =
     let size = c.args.held.now.ok.0 in
     let some = c.requires.filled in
-    first_is_data c.args.held.now.items c.index.result.now c.index.ensures (omega (arith, size, some))
-    (sym c.is_quiet.ensures ∙ c.if-is_quiet.false)
+    c.in_ok-link.ensures.valued (first_is_data c.args.held.now.items c.index.result.now c.index.ensures
+    (omega (arith, size, some)) (sym c.is_quiet.ensures ∙ c.if-is_quiet.false))
 
 pub index-requires : goal.index-requires
 index-requires c = c.requires.filled
@@ -151,7 +157,12 @@ let_go-requires-2-clause-few c =
     omega (arith, len, sum, under, some)
 
 pub let_go-requires-2-clause-some : goal.let_go-requires-2-clause-some
-let_go-requires-2-clause-some c = c.requires.filled
+let_go-requires-2-clause-some c =
+    let size = c.args.held.now.ok.0 in
+    let some = c.requires.filled in
+    let same = c.in_ok-link.ensures.size in
+    let new = c.link.new.held.ok.0 in
+    omega (arith, size, some, same, new)
 
 pub advance-requires-clause-few : goal.advance-requires-clause-few
 advance-requires-clause-few c =
@@ -173,13 +184,15 @@ write-requires-clause-few c =
     let len = c.len.ensures in
     let sum = c.saturating_add.ensures in
     let under = c.if-saturating_add-gt-MOST_RECORDS.false in
-    omega (arith, size, len, sum, under)
+    let same = c.in_ok-link.ensures.size in
+    omega (arith, size, len, sum, under, same)
 
 pub write-requires-clause-within : goal.write-requires-clause-within
 write-requires-clause-within c =
     let size = c.args.held.now.ok.0 in
     let some = c.requires.filled in
-    omega (arith, size, some)
+    let same = c.in_ok-link.ensures.size in
+    omega (arith, size, some, same)
 
 pub returns-then-is_quiet-clause-fewer : goal.returns-then-is_quiet-clause-fewer
 returns-then-is_quiet-clause-fewer c =
@@ -188,8 +201,8 @@ returns-then-is_quiet-clause-fewer c =
 
 pub returns-clause-fewer : goal.returns-clause-fewer
 returns-clause-fewer c =
-    one_fewer c.args.held.now.items c.let_go-2.new.held.items c.in_ok-row-2.ensures.held
-    c.args.held.now.ok.0 c.let_go-2.new.held.ok.0 c.requires.filled
+    one_fewer c.link.new.held.items c.let_go-2.new.held.items c.in_ok-row-2.ensures.held
+    (c.args.held.now.ok.0 ∙ sym c.in_ok-link.ensures.size) c.let_go-2.new.held.ok.0 c.requires.filled
 
 pub returns-in_err-row-clause-fewer : goal.returns-in_err-row-clause-fewer
 returns-in_err-row-clause-fewer c =
