@@ -212,7 +212,7 @@ class _Run:
 
 
 def _latest(entries: List[Entry]) -> Optional[Entry]:
-    return max(entries, key=lambda entry: entry.at, default=None)
+    return max(entries, key=lambda entry: entry.at) if entries else None
 
 
 def _write_table(results: str, scores: Iterable[Score], made: Made) -> None:

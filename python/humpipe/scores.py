@@ -8,6 +8,8 @@ from .running import ERRORS, Bytes, Plan, Scores, lines
 
 Source = Union[str, Bytes, 'os.PathLike[str]']
 
+# the tokens that change spines, and what a line may end with
+PATHS = frozenset(['*^', '*v', '*x', '*+', '*-'])
 ENDS = ('\n', '\r')
 KINDS = {'!': 'local comment', '*': 'interpretation'}
 
