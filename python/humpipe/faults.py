@@ -2,7 +2,7 @@
 import errno
 import os
 import re
-from typing import Pattern, Sequence
+from typing import List, Pattern, Sequence
 
 from .codes import CODES
 
@@ -22,6 +22,10 @@ class Error(Exception):
 
     def __str__(self) -> str:
         return self.message
+
+    def _render_traceback_(self) -> List[str]:
+        """What a notebook shows: the message alone."""
+        return [f'{type(self).__name__}: {self}']
 
     def __repr__(self) -> str:
         return f'{type(self).__name__}({self.message!r})'
