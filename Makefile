@@ -136,7 +136,7 @@ lint:
 	@for file in editors/vscode/*.json; do python3 -m json.tool "$$file" /dev/null || exit 1; done
 
 install: humpipe
-	PROGRAM=humpipe ./install.sh $(PREFIX)
+	PROGRAM=humpipe ./install.sh '$(PREFIX)'
 
 dist: $(needed)
 	@packaging/dist.sh $(there)

@@ -33,7 +33,7 @@ def _own_program() -> Optional[str]:
         files = importlib.metadata.files('humpipe') or []
     except importlib.metadata.PackageNotFoundError:
         return None
-    places = [str(file.locate()) for file in files if file.name == 'humpipe' and file.parent.name == 'bin']
+    places = [os.path.abspath(str(file.locate())) for file in files if file.name == 'humpipe' and file.parent.name == 'bin']
     modules = [str(file.locate()) for file in files if str(file) == 'humpipe/program.py']
     is_ours = any(os.path.exists(module) and os.path.samefile(module, __file__) for module in modules)
     return next((place for place in places if is_ours and os.access(place, os.X_OK)), None)
