@@ -130,7 +130,10 @@ lint:
 	@$(call has,groff) exit 0; test -z "$$(LC_ALL=C.UTF-8 groff -ww -man -Tutf8 -z man/humpipe.1 2>&1 | tee /dev/stderr)"
 	@$(call has,man) exit 0; test -z "$$(LC_ALL=C.UTF-8 man --warnings -l -Tutf8 -Z man/humpipe.1 2>&1 >/dev/null | tee /dev/stderr)"
 	@$(call has,mandoc) exit 0; mandoc -Tlint man/humpipe.1
-	@sh -n examples/corpus.sbatch && sh -n install.sh && sh -n packaging/dist.sh && bash -n completions/humpipe.bash
+	@sh -n examples/corpus.sbatch && sh -n install.sh && sh -n packaging/dist.sh && sh -n bench/corpus.sh && bash -n completions/humpipe.bash
+	@$(call has,shellcheck) exit 0; shellcheck examples/corpus.sbatch install.sh packaging/dist.sh bench/corpus.sh completions/humpipe.bash
+	@$(call has,mypy) exit 0; cd python && mypy --strict --no-error-summary --cache-dir=/dev/null humpipe
+	@$(call has,ruff) exit 0; ruff check --no-cache -q python packaging
 	@$(call has,zsh) exit 0; zsh -n completions/_humpipe
 	@$(call has,fish) exit 0; fish -n completions/humpipe.fish
 	@for file in editors/vscode/*.json; do python3 -m json.tool "$$file" /dev/null || exit 1; done

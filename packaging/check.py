@@ -357,18 +357,76 @@ def editor(checks, program, room):
         path = language.get('configuration', language.get('path'))
         checks.tell(path, os.path.exists(os.path.join(folder, path)), 'not there')
     path = linked(os.path.join(room, 'bin'), program)
-    score = os.path.join(room, 'a.krn')
-    with open(score, 'w', encoding='utf-8') as file:
-        file.write('**kern\n4c\n*-\n')
-    for name, text in ('a plan.hpl', 'out: read /dev/stdin | semits\n'), ('a.hbundle', 'out: read a | semits\n--- a\n**kern\n*-\n'):
-        plan = os.path.join(room, name)
-        with open(plan, 'w', encoding='utf-8') as file:
+    patterns = {one['name']: one['regexp'] for one in contributes['problemPatterns']}
+    bundle = ('a.hbundle', 'out: read a | semits\n--- a\n**kern\n*-\n')
+    for name, text, score, task, pattern, groups in (
+            ('a plan.hpl', 'out: read /dev/stdin | semits\n', '4c', 0, 'humpipe-plan', ('{plan}', '1', '4', 'N9')),
+            ('a plan.hpl', 'out: read /dev/stdin | semits\n', '4c', 1, 'humpipe-plan', ('{plan}', '1', '4', 'N9')),
+            (*bundle, '4c', 0, 'humpipe-plan', ('{plan}', '1', '4', 'N9')),
+            ('a plan.hpl', 'out: read /dev/stdin | semits -x\n', '4c\t4c', 1, 'humpipe-score', ('{score}', 'humpipe: stage 1 (read), line 2: P2', '2', 'P2')),
+            ('a plan.hpl', 'out: read /dev/stdin | semits -x\n', '4c4c', 1, 'humpipe-stage', ('{plan}', 'humpipe: stage 2 (semits), line 2: K1', 'K1'))):
+        plan, krn = os.path.join(room, name), os.path.join(room, 'a.krn')
+        for file, whole in (plan, text), (krn, f'**kern\n{score}\n*-\n'):
+            with open(file, 'w', encoding='utf-8') as out:
+                out.write(whole)
+        words = [word.replace('${file}', plan).replace('${input:score}', krn) for word in tasks[task]['args']]
+        _, told = run(tasks[task]['command'], *words, env={'PATH': path + ':' + PATH}, cwd=room)
+        last = told.rstrip('\n').split('\n')[-1]
+        found = [one for one in patterns if re.match(patterns[one], last)]
+        wanted = tuple(group.format(plan=plan, score=krn) for group in groups)
+        checks.tell(f'{tasks[task]["label"]}: {pattern}', found == [pattern] and re.match(patterns[pattern], last).groups() == wanted, told)
+
+
+VIM = '''set nocompatible
+set rtp^={top}/editors/vim
+filetype plugin on
+syntax on
+edit bad.hpl
+silent make
+let told = map(getqflist(), '[bufname(v:val.bufnr), v:val.lnum, v:val.col, v:val.text]') + [&filetype, &commentstring]
+let g:humpipe_score = 's.krn'
+edit ok.hpl
+silent make
+let told += map(getqflist(), 'v:val.text')
+edit s.krn
+let told += [&filetype, map([[1, 1], [2, 1], [2, 2], [3, 1]], 'synIDattr(synID(v:val[0], v:val[1], 1), "name")')]
+call writefile([json_encode(told)], 'out.json')
+qa!
+'''
+
+
+def vim(checks, program, room):
+    """What vim makes of plans and scores: their kinds, comments and colours, and the line that :make goes to."""
+    if not has('vim'):
+        checks.leave_out('vim', 'no vim')
+        return
+    folder = os.path.join(room, 'vim')
+    path = linked(folder, program)
+    for name, text in (('bad.hpl', 'out: read /dev/stdin | semits\n'), ('ok.hpl', 'out: read /dev/stdin | mint\n'), ('s.krn', '**kern\n4c4e\n*-\n'),
+                       ('t.vim', VIM.format(top=TOP))):
+        with open(os.path.join(folder, name), 'w', encoding='utf-8') as file:
             file.write(text)
-        for task in tasks if name.endswith('.hpl') else tasks[:1]:
-            words = [word.replace('${file}', plan).replace('${input:score}', score) for word in task['args']]
-            _, told = run(task['command'], *words, env={'PATH': path + ':' + PATH}, cwd=room)
-            found = re.match(contributes['problemPatterns'][0]['regexp'], told.rstrip('\n'))
-            checks.tell(f'{task["label"]}: {name}', found is not None and found.groups() == (plan, '1', '4', 'N9'), told)
+    _, text = run('vim', '-es', '-u', 'NONE', '-S', 't.vim', cwd=folder, env={'PATH': path + ':' + PATH, 'HOME': folder})
+    found = None
+    if os.path.exists(os.path.join(folder, 'out.json')):
+        with open(os.path.join(folder, 'out.json'), encoding='utf-8') as file:
+            found = json.load(file)
+    wanted = [['bad.hpl', 1, 4, 'N9'], 'humpipe', '# %s', 'stage 2 (mint), line 2: K1', 'humdrum',
+              ['humdrumExclusive', 'humdrumDuration', 'humdrumPitch', 'humdrumPath']]
+    checks.tell('vim', found == wanted, f'{found}\n{text}')
+
+
+def completions(checks, room):
+    """What bash completes: plans, but any file after `<`."""
+    script = (f'. {TOP}/completions/humpipe.bash; compopt() {{ :; }}; COMP_WORDS=("$@"); COMP_CWORD=$(($# - 1)); _humpipe; printf "%s\\n" "${{COMPREPLY[@]}}"')
+    folder = os.path.join(room, 'completions')
+    os.makedirs(os.path.join(folder, 'sub'))
+    for name in 'a plan.hpl', 'a.krn':
+        open(os.path.join(folder, name), 'w').close()
+    for words, wanted in ((('a',), ['a plan.hpl']), (('a plan.hpl', '<', 'a'), ['a plan.hpl', 'a.krn']), (('a plan.hpl', '>', 's'), ['sub']),
+                          (('--o',), ['--order']), (('--order', '='), ['left', 'right']), (('--order', '=', 'l'), ['left']), (('--link', '2'), ['256'])):
+        _, text = run('bash', '-c', script, 'bash', 'humpipe', *words, cwd=folder)
+        checks.tell(f'bash completion: {" ".join(words)}', sorted(text.splitlines()) == wanted, text)
 
 
 def main():
@@ -393,6 +451,8 @@ def main():
             extension(checks, dist)
             package(checks, dist, room, is_whole)
             editor(checks, program, room)
+            vim(checks, program, room)
+            completions(checks, room)
         if is_whole:
             release_is_made(checks, dist)
     print(f'{checks.passed} passed, {checks.failed} failed')

@@ -24,6 +24,7 @@ name=humpipe-$version-linux-x86_64
 tree=$room/$name
 parts='README.md LICENSE NOTICE CHANGELOG.md CITATION.cff VERSION install.sh man docs completions editors examples python'
 
+# shellcheck disable=SC2086 # the parts are words
 # The files of the release that git tracks. Where the sources are no checkout, those that .gitignore doesn't name.
 tracked() {
     if git -C "$top" rev-parse --is-inside-work-tree >/dev/null 2>&1; then
