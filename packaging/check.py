@@ -327,7 +327,7 @@ def by_debootstrap(checks, file, room):
 
 def installed(root):
     """All files and folders where a package may put some."""
-    return {os.path.join(place, name) for top in ('usr', 'etc', 'var/lib') for place, folders, names in os.walk(os.path.join(root, top))
+    return {os.path.relpath(os.path.join(place, name), root) for top in ('usr', 'etc', 'var/lib') for place, folders, names in os.walk(os.path.join(root, top))
             for name in folders + names if 'dpkg' not in place and 'apt' not in place.split(os.sep)}
 
 
@@ -441,10 +441,14 @@ def main():
         checks.leave_out('whether NOTICE has all crates', 'no rt')
     checks.tell('no rt on the path', not has('rt'))
     with tempfile.TemporaryDirectory(prefix='humpipe-release-') as room:
-        with planted():
+        is_checkout = run('git', '-c', f'safe.directory={TOP}', '-C', TOP, 'ls-files', '--error-unmatch', 'VERSION')[0] == 0
+        with planted() if is_checkout else contextlib.nullcontext():
             dist = same_bytes(checks, program, room)
-        found = [name for name in contents(dist) if 'planted' in name or 'cache' in name]
-        checks.tell('what git does not track', not found, '\n'.join(found))
+        if is_checkout:
+            found = [name for name in contents(dist) if 'planted' in name or 'cache' in name]
+            checks.tell('what git does not track', not found, '\n'.join(found))
+        else:
+            checks.leave_out('what git does not track', 'not a checkout')
         if checks.failed == 0:
             tarball(checks, dist, room)
             wheel(checks, dist, room)

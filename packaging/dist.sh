@@ -27,8 +27,8 @@ parts='README.md LICENSE NOTICE CHANGELOG.md CITATION.cff VERSION install.sh man
 # shellcheck disable=SC2086 # the parts are words
 # The files of the release that git tracks. Where the sources are no checkout, those that .gitignore doesn't name.
 tracked() {
-    if git -C "$top" rev-parse --is-inside-work-tree >/dev/null 2>&1; then
-        git -C "$top" ls-files -- $parts
+    if git -c safe.directory="$top" -C "$top" ls-files --error-unmatch VERSION >/dev/null 2>&1; then
+        git -c safe.directory="$top" -C "$top" ls-files -- $parts
     else
         echo 'not a checkout: all files that .gitignore does not name are taken' >&2
         git init -q --bare "$room/git"
