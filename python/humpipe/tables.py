@@ -6,8 +6,7 @@ from functools import lru_cache
 from itertools import groupby
 from typing import TYPE_CHECKING, Any, Dict, Iterable, Iterator, List, NamedTuple, Optional, Sequence, Tuple
 
-from .faults import Error
-from .many import Outcome, map
+from . import many
 from .program import Path
 from .running import ERRORS, Plan
 from .scores import Column, Columns, Source, is_barline, labels, whole_lines
@@ -24,7 +23,7 @@ OTHERS = frozenset('!*=')
 
 
 class Grid(NamedTuple):
-    """The data records of a score: the line and the bar of each, and for each column its label and its tokens, with None for null ones."""
+    """The data records of a score: the line and the bar of each, and for each column its label and its tokens, with None where it isn't there."""
 
     lines: List[int]
     bars: List[int]
@@ -82,9 +81,7 @@ class _Gatherer:
         rows = self.rows[:]
         self.rows.clear()
         begin = len(self.lines) - len(rows)
-        widths = {row.count('\t') + 1 for row in rows}
-        if len(widths) == 1 and widths == {len(self.columns.now)}:
-            self.put(rows, begin)
+        if not rows or self.put(rows, begin):
             return
         for width, stretch in groupby(rows, lambda row: row.count('\t') + 1):
             some = list(stretch)
@@ -95,16 +92,22 @@ class _Gatherer:
             self.put(some, begin)
             begin += len(some)
 
-    def put(self, rows: List[str], begin: int) -> None:
+    def put(self, rows: List[str], begin: int) -> bool:
+        """Puts records into their columns, if each has as many tokens as there are columns."""
         columns = self.columns.now
+        width = len(columns)
+        # a line end, which is in no token, behind each record says whether all are of this width
+        tokens = '\t\n\t'.join(rows).split('\t')
+        if len(tokens) != len(rows) * (width + 1) - 1 or tokens[width::width + 1].count('\n') != len(rows) - 1:
+            return False
         self.named += [column for column in columns if not column.name]
-        tokens = '\t'.join(rows).split('\t')
         parts: Dict[int, int] = {}
         for place, column in enumerate(columns):
             part = parts[column.thread] = parts.get(column.thread, 0) + 1
             cells = self.cells.setdefault((column.spine, column.thread, part), [])
             cells += [None] * (begin - len(cells))
-            cells += [None if token == '.' else token for token in tokens[place::len(columns)]]
+            cells += tokens[place::width + 1]
+        return True
 
     def grid(self) -> Grid:
         self.flush()
@@ -134,17 +137,21 @@ def frame(text: Source, *, encoding: str = 'utf-8') -> 'pandas.DataFrame':
     import pandas
 
     found = grid(text, encoding)
-    index = pandas.MultiIndex.from_arrays([numpy.fromiter(found.bars, int), numpy.fromiter(found.lines, int)], names=['bar', 'line'])
-    block = numpy.empty((len(found.columns), len(index)), object)
+    count = len(found.lines)
+    bars = numpy.fromiter(found.bars, int, count)
+    levels, codes = numpy.unique(bars, return_inverse=True)
+    index = pandas.MultiIndex([levels, numpy.fromiter(found.lines, int, count)], [codes, numpy.arange(count)], names=['bar', 'line'], verify_integrity=False)
+    block = numpy.empty((len(found.columns), count), object)
     for place, cells in enumerate(found.columns.values()):
-        block[place] = numpy.fromiter(cells, object, len(cells))
+        block[place] = numpy.fromiter(cells, object, count)
+    block[block == '.'] = None
     return pandas.DataFrame(block.T, index, list(found.columns))
 
 
 class Table:
     """The rows of a table, where there is no pandas: `to_dicts()` gives them, and `faults` the outcomes of the scores that have none."""
 
-    def __init__(self, columns: Dict[str, List[Any]], faults: List[Outcome]) -> None:
+    def __init__(self, columns: Dict[str, List[Any]], faults: List[many.Outcome]) -> None:
         self.columns = list(columns)
         self.faults = faults
         self._columns = columns
@@ -189,9 +196,9 @@ def table(plan: Plan, paths: Iterable[Path], *, reference: Sequence[str] = (), j
     keys = [reference] if isinstance(reference, str) else list(reference)
     columns: Dict[str, List[Any]] = {name: [] for name in ['file', *keys, 'bar', 'line']}
     spines: Dict[str, List[Any]] = {}
-    faults: List[Outcome] = []
+    faults: List[many.Outcome] = []
     total = count = 0
-    for outcome in map(plan, paths, jobs, progress, executor=executor, encoding=encoding, timeout=timeout):
+    for outcome in many.map(plan, paths, jobs, progress, executor=executor, encoding=encoding, timeout=timeout):
         total += 1
         if outcome.fault:
             faults.append(outcome)
@@ -205,7 +212,7 @@ def table(plan: Plan, paths: Iterable[Path], *, reference: Sequence[str] = (), j
         for label, cells in found.columns.items():
             column = spines.setdefault(label, [])
             column += [None] * (count - len(column))
-            column += cells
+            column += [None if token == '.' else token for token in cells]
         count += len(found.lines)
     for column in spines.values():
         column += [None] * (count - len(column))
@@ -214,7 +221,7 @@ def table(plan: Plan, paths: Iterable[Path], *, reference: Sequence[str] = (), j
     return _table({**columns, **spines}, faults)
 
 
-def _table(columns: Dict[str, List[Any]], faults: List[Outcome]) -> Any:
+def _table(columns: Dict[str, List[Any]], faults: List[many.Outcome]) -> Any:
     try:
         frame_class = _frame_class()
     except ImportError:
