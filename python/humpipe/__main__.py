@@ -1,7 +1,10 @@
 """python3 -m humpipe: runs a plan over folders of scores, or shows the columns of its stages."""
 import argparse
+import os
+import shutil
 import signal
 import sys
+import tempfile
 from pathlib import Path
 from typing import List, NoReturn, Optional, Tuple
 
@@ -63,7 +66,7 @@ def _arguments() -> argparse.ArgumentParser:
     one = commands.add_parser('show', allow_abbrev=False, help='writes a page on which one sees the columns of each stage',
                               description='Writes a page of HTML that needs nothing else: each stage of the plan with its columns.')
     one.add_argument('plan', metavar='PLAN', type=Path, help="the plan's file")
-    one.add_argument('score', metavar='SCORE', nargs='?', type=Path, help='what the plan reads as /dev/stdin')
+    one.add_argument('score', metavar='SCORE', nargs='?', type=Path, help='what the plan reads as /dev/stdin (else what is written to this command)')
     one.add_argument('--encoding', default='utf-8', help='the encoding of the scores (utf-8)')
     return parser
 
@@ -108,7 +111,16 @@ def _told(summary: Summary) -> str:
 
 def _show(given: argparse.Namespace) -> int:
     from .show import page
-    sys.stdout.buffer.write(page(given.plan, given.score, encoding=given.encoding).encode('utf-8', 'replace'))
+    with tempfile.TemporaryDirectory(prefix='humpipe-') as folder:
+        score = given.score
+        if score is None and not sys.stdin.isatty():
+            # the score is what is written to this program
+            score = os.path.join(folder, 'standard input')
+            with open(score, 'xb') as file:
+                shutil.copyfileobj(sys.stdin.buffer, file)
+            score = score if os.path.getsize(score) else None
+        text = page(given.plan, score, encoding=given.encoding)
+    sys.stdout.buffer.write(text.encode('utf-8', 'replace'))
     return 0
 
 

@@ -90,10 +90,10 @@ def corpus(plan: Plan, scores: Iterable[Path], into: Path, *, jobs: Optional[int
 def _take_folder(results: str) -> None:
     """Makes the folder of results, or goes on with one that was made so. One with other files is left alone."""
     os.makedirs(results, exist_ok=True)
-    if not os.path.isdir(os.path.join(results, KEPT)):
-        if os.listdir(results):
-            raise ValueError(f'{shown(results)} has files that are no results: name a new folder')
-        os.makedirs(os.path.join(results, KEPT), exist_ok=True)
+    there = os.listdir(results)
+    if there and KEPT not in there:
+        raise ValueError(f'{shown(results)} has files that are no results: name a new folder')
+    os.makedirs(os.path.join(results, KEPT), exist_ok=True)
 
 
 def _made(plan: bytes) -> Made:

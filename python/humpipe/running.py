@@ -7,7 +7,7 @@ import subprocess
 import tempfile
 import threading
 from contextlib import contextmanager
-from typing import Dict, Iterator, Mapping, Optional, Union
+from typing import Dict, Iterator, Mapping, Optional, Tuple, Type, Union
 
 from .faults import Fault, unread
 from .plans import STANDARD_INPUT, reads, renamed
@@ -30,8 +30,12 @@ class Text(str):
     encoding: str
 
     def _repr_html_(self) -> str:
-        from .show import framed, page
-        return framed(page(self.plan, self.scores, encoding=self.encoding))
+        from .show import shown
+        return shown(self)
+
+    def __reduce__(self) -> Tuple[Type[str], Tuple[str]]:
+        # goes to other processes as a text alone
+        return str, (str(self),)
 
 
 def run(plan: Plan, scores: Scores = None, *, encoding: str = 'utf-8', timeout: Optional[float] = None) -> Text:

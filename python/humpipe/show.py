@@ -10,10 +10,11 @@ from .following import Cell, Panel, Refused, Row, Story, Thread
 from .layout import Group, groups
 from .plans import WORD
 from .ribbons import Style, strip
-from .running import Plan, Scores
+from .running import Plan, Scores, Text
 
 HERE = os.path.dirname(os.path.abspath(__file__))
 MOST_OPEN = 250
+MOST_IN_FRAME = 2_000
 WORDS = {'*^': 'splits in two', '*v': 'joins its neighbour', '*x': 'changes places', '*+': 'gets a new spine beside it', '*-': 'ends'}
 KINDS = {'global comment': 'global', 'local comment': 'local', 'interpretation': 'interpretation', 'data': 'data'}
 
@@ -34,9 +35,17 @@ def page(plan: Plan, scores: Scores = None, *, encoding: str = 'utf-8') -> str:
             f'<title>{_text(title)}</title>\n<style>\n{css}{style.css()}</style>\n' + '\n'.join(body) + f'\n<script>\n{script}</script>\n</html>\n')
 
 
-def framed(whole: str) -> str:
-    """A page as a frame in another one."""
+def shown(text: Text) -> str:
+    """What a notebook shows of an answer: the page in a frame, or of a long one its first lines."""
+    lines = text.count('\n')
+    if lines > MOST_IN_FRAME:
+        return f'<pre>{_text_lines(text, 200)}</pre><p>{lines} lines. humpipe.page(plan, scores) makes a page of all.</p>'
+    whole = page(text.plan, text.scores, encoding=text.encoding)
     return f'<iframe title="humpipe" style="width:100%;height:36em;border:1px solid #8886" srcdoc="{html.escape(whole)}"></iframe>'
+
+
+def _text_lines(text: str, count: int) -> str:
+    return '\n'.join(_text(line.replace('\t', '        ')) for line in text.split('\n', count)[:count])
 
 
 def _read(name: str) -> str:
@@ -244,7 +253,7 @@ class _Panel:
                 blank = 0
         parts.append(self.gap(blank, before))
         count = sum(self.index in line.rows for line in group.lines)
-        short = (f'<tr class="short"><th></th><td colspan="{len(self.widths)}" class="{self.style.layout(self.widths, first)} faint">'
+        short = (f'<tr class="short"><th></th><td colspan="{len(self.widths)}" class="{self.style.layout(self.widths, first)}">'
                  f'<span class="over">{count or "no"} record{"s" * (count != 1)}</span></td></tr>')
         return f'<tbody data-group="{index}">{"".join(parts)}{short}</tbody>'
 

@@ -15,5 +15,8 @@ class _Hidden:
             raise ModuleNotFoundError(f'no {name} for these tests', name=name)
 
 
+if os.environ.get('HUMPIPE'):
+    # tests go to other folders
+    os.environ['HUMPIPE'] = os.path.abspath(os.environ['HUMPIPE'])
 if os.environ.get(BARE):
     sys.meta_path.insert(0, _Hidden)

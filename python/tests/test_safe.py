@@ -1,5 +1,6 @@
 """What may never happen: a file that is overwritten, a score that is missing, an answer of another file."""
 import os
+import shutil
 import signal
 import subprocess
 import sys
@@ -200,7 +201,12 @@ class Streams(Runs):
 
 class Version(Runs):
     def test_the_program_s_is_said(self):
-        self.write('bin/VERSION', '9.8.7\n')
-        os.symlink(surroundings()['HUMPIPE'], self.folder / 'bin' / 'humpipe')
-        told = subprocess.check_output([sys.executable, '-m', 'humpipe', '--version'], env=surroundings(), text=True)
-        self.assertIn(f'humpipe for Python {humpipe.__version__}; /', told)
+        for place in ('bin/humpipe', 'tarball/humpipe'):
+            shutil.copy(surroundings()['HUMPIPE'], self.write(place, ''))
+        (self.folder / 'bin/humpipe').chmod(0o755)
+        self.write('share/doc/humpipe/VERSION', '9.8.7\n')
+        self.write('tarball/VERSION', '9.8.6\n')
+        for place, version in (('bin/humpipe', '9.8.7'), ('tarball/humpipe', '9.8.6')):
+            program = str(self.folder / place)
+            told = subprocess.check_output([sys.executable, '-m', 'humpipe', '--version'], env=surroundings(HUMPIPE=program), text=True)
+            self.assertEqual(told, f'humpipe for Python {humpipe.__version__}; {program} {version}\n')

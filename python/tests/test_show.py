@@ -1,9 +1,11 @@
 """The page on which one sees the columns: what its elements say, beside what the program gives."""
 import json
+import pickle
 import random
 import re
 import shutil
 import subprocess
+import sys
 import unittest
 from html.parser import HTMLParser
 
@@ -165,6 +167,19 @@ class Pages(Runs):
         text = humpipe.run('out: read a | mint', {'a': '**kern\n4c\n*-\n'})
         self.assertTrue(text._repr_html_().startswith('<iframe '))
         self.assertIn('&lt;!DOCTYPE html&gt;', text._repr_html_())
+        again = pickle.loads(pickle.dumps(text))
+        self.assertEqual((type(again), again), (str, text))
+
+    def test_a_long_answer_in_a_notebook(self):
+        shown = humpipe.run('out: read a', {'a': '**kern\t**kern\n' + '4c\t<4d\n' * 5000 + '*-\t*-\n'})._repr_html_()
+        self.assertIn('4c        &lt;4d', shown)
+        self.assertIn('5002 lines', shown)
+        self.assertLess(len(shown), 10_000)
+
+    def test_a_score_that_is_written_to_the_command(self):
+        plan = self.write('p.hpl', 'out: read /dev/stdin | mint')
+        shown = subprocess.run([sys.executable, '-m', 'humpipe', 'show', str(plan)], input=FAULTY.encode(), env=surroundings(), stdout=subprocess.PIPE, check=True)
+        self.assertIn('stage 2 (mint), line 3: K1', shown.stdout.decode())
 
 
 class Faults(Runs):
@@ -204,7 +219,7 @@ class Faults(Runs):
 
     def test_the_command(self):
         plan = self.write('p.hpl', 'out: read /dev/stdin | mint')
-        words = [shutil.which('python3') or 'python3', '-m', 'humpipe', 'show', str(plan), str(self.score)]
+        words = [sys.executable, '-m', 'humpipe', 'show', str(plan), str(self.score)]
         shown = subprocess.run(words, env=surroundings(), stdout=subprocess.PIPE, check=True).stdout.decode()
         self.assertEqual(shown, page(plan, self.score))
 
@@ -220,12 +235,15 @@ class Browser(Runs):
         cells: [...row.querySelectorAll('td.t')].map(cell => ({ thread: cell.dataset.thread, colour: getComputedStyle(cell).getPropertyValue('--c'), text: cell.textContent, box: box(cell) })) })));
       const row = document.querySelector('tr.row.barline[id]');
       if (row) row.click();
+      const press = key => document.activeElement.dispatchEvent(new KeyboardEvent('keydown', { key, bubbles: true }));
+      const moves = [document.activeElement.id];
+      for (const key of ['ArrowDown', 'ArrowRight', 'ArrowRight', 'ArrowUp', 'ArrowLeft']) { press(key); moves.push(document.activeElement.id); }
       const held = [...document.querySelectorAll('.held')].map(one => one.id);
       document.querySelector('.rail button').click();
       const folded = document.querySelectorAll('tbody.folded').length;
       const out = document.createElement('pre');
       out.id = 'probe';
-      out.textContent = JSON.stringify({ panels, held, folded, status: document.getElementById('status').textContent });
+      out.textContent = JSON.stringify({ panels, held, moves, folded, status: document.getElementById('status').textContent });
       document.body.append(out);
     })</script>'''
 
@@ -259,4 +277,5 @@ class Browser(Runs):
         self.assertEqual(len(set.union(*colours.values())), len(colours))
         self.assertGreater(len(found['held']), 3)
         self.assertEqual(found['folded'], len(found['panels']) + 1)
-        self.assertIn('line 2', found['status'])
+        self.assertEqual(found['moves'], ['r1-2', 'r1-3', 'r2-3', 'r3-3', 'r3-2', 'r2-2'])
+        self.assertIn('stage 2, line 2', found['status'])
