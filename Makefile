@@ -149,13 +149,16 @@ lint:
 	@$(call has,groff) test -z "$$(LC_ALL=C.UTF-8 groff -ww -man -Tutf8 -z man/humpipe.1 2>&1 | tee /dev/stderr)"
 	@$(call has,man) test -z "$$(LC_ALL=C.UTF-8 man --warnings -l -Tutf8 -Z man/humpipe.1 2>&1 >/dev/null | tee /dev/stderr)"
 	@$(call has,mandoc) mandoc -Tlint man/humpipe.1
-	@sh -n examples/corpus.sh && sh -n install.sh && sh -n packaging/dist.sh && bash -n completions/humpipe.bash
+	@sh -n examples/corpus.sbatch && sh -n install.sh && sh -n packaging/dist.sh && sh -n bench/corpus.sh && bash -n completions/humpipe.bash
+	@$(call has,shellcheck) shellcheck examples/corpus.sbatch install.sh packaging/dist.sh bench/corpus.sh completions/humpipe.bash
+	@$(call has,mypy) cd python && mypy --strict --no-error-summary --cache-dir=/dev/null humpipe
+	@$(call has,ruff) ruff check --no-cache -q python packaging
 	@$(call has,zsh) zsh -n completions/_humpipe
 	@$(call has,fish) fish -n completions/humpipe.fish
 	@for file in editors/vscode/*.json; do python3 -m json.tool "$$file" /dev/null || exit 1; done
 
 install: humpipe
-	PROGRAM=humpipe ./install.sh $(PREFIX)
+	PROGRAM=humpipe ./install.sh '$(PREFIX)'
 
 dist: $(needed)
 	@packaging/dist.sh $(there)

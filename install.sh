@@ -1,31 +1,55 @@
 #!/bin/sh
-# install.sh [PREFIX]: installs humpipe below PREFIX, /usr/local if nothing is said: the program, its man page, the manual with examples and the
-# editors' files, and the completions of three shells. PROGRAM is another program than the one beside this script; DESTDIR goes before PREFIX.
+# install.sh [--uninstall] [PREFIX]: installs humpipe below PREFIX, /usr/local if nothing is said: the program, its man page, the manual with examples and
+# the editors' files, and the completions of three shells. --uninstall takes away what was installed there. PROGRAM is another program than the one
+# beside this script; DESTDIR goes before PREFIX.
 set -eu
-here=$(cd "$(dirname "$0")" && pwd)
+unset CDPATH
+here=$(cd -- "$(dirname -- "$0")" && pwd)
 program=${PROGRAM:-$here/humpipe}
-to=${DESTDIR:-}${1:-/usr/local}
+does=place
+if [ "${1-}" = --uninstall ]; then
+    does=take
+    shift
+fi
+[ $# -le 1 ] || { echo 'usage: install.sh [--uninstall] [PREFIX]' >&2; exit 2; }
+prefix=${1-/usr/local}
+case $prefix in
+    '') echo 'install.sh: an empty PREFIX' >&2; exit 2 ;;
+    -*) echo "install.sh: no folder: $prefix" >&2; exit 2 ;;
+esac
+to=${DESTDIR:-}$prefix
 manual=$to/share/doc/humpipe
-[ -x "$program" ] || { echo "install.sh: no program at $program" >&2; exit 1; }
+[ "$does" = take ] || [ -x "$program" ] || { echo "install.sh: no program at $program" >&2; exit 1; }
 
-# Installs the files below a folder under another one, as `files FOLDER TO`.
+# Installs a file, as `place MODE FILE TO`.
+place() { install -D -m "$1" -- "$2" "$3"; }
+
+# Takes a file away, and the folders that it leaves empty.
+take() {
+    rm -f -- "$3"
+    folder=$(dirname -- "$3")
+    while [ "$folder" != "$to" ] && rmdir -- "$folder" 2>/dev/null; do folder=$(dirname -- "$folder"); done
+}
+
+# Does that with all files below a folder, as `files FOLDER TO`.
 files() {
-    (cd "$1" && find . -name __pycache__ -prune -o -type f -print) | while read -r name; do
+    (cd -- "$1" && find . -name __pycache__ -prune -o -type f -print) | while read -r name; do
         mode=644
         [ ! -x "$1/$name" ] || mode=755
-        install -D -m "$mode" "$1/$name" "$2/$name"
+        $does "$mode" "$1/$name" "$2/${name#./}"
     done
 }
 
-install -D -m 755 "$program" "$to/bin/humpipe"
-install -D -m 644 "$here/man/humpipe.1" "$to/share/man/man1/humpipe.1"
-install -D -m 644 -t "$manual" "$here"/docs/*.md
-install -D -m 644 -t "$manual/plots" "$here"/docs/plots/*.svg
-for name in LICENSE NOTICE CHANGELOG.md CITATION.cff; do
-    install -D -m 644 "$here/$name" "$manual/$name"
+$does 755 "$program" "$to/bin/humpipe"
+$does 644 "$here/man/humpipe.1" "$to/share/man/man1/humpipe.1"
+for name in LICENSE NOTICE CHANGELOG.md CITATION.cff VERSION; do
+    $does 644 "$here/$name" "$manual/$name"
+done
+(cd -- "$here/docs" && find . -type f \( -name '*.md' -o -name '*.svg' -o -name '*.png' \)) | while read -r name; do
+    $does 644 "$here/docs/$name" "$manual/${name#./}"
 done
 files "$here/examples" "$manual/examples"
 files "$here/editors" "$manual/editors"
-install -D -m 644 "$here/completions/humpipe.bash" "$to/share/bash-completion/completions/humpipe"
-install -D -m 644 "$here/completions/_humpipe" "$to/share/zsh/site-functions/_humpipe"
-install -D -m 644 "$here/completions/humpipe.fish" "$to/share/fish/vendor_completions.d/humpipe.fish"
+$does 644 "$here/completions/humpipe.bash" "$to/share/bash-completion/completions/humpipe"
+$does 644 "$here/completions/_humpipe" "$to/share/zsh/site-functions/_humpipe"
+$does 644 "$here/completions/humpipe.fish" "$to/share/fish/vendor_completions.d/humpipe.fish"

@@ -1,4 +1,4 @@
-# bash completion for humpipe: --link, --order and the plan's file
+# bash completion for humpipe: --link, --order, the plan's file, and any file after < and >
 _humpipe() {
     local word=${COMP_WORDS[COMP_CWORD]} before=${COMP_WORDS[COMP_CWORD - 1]}
     # bash parts --order=left into three words
@@ -8,15 +8,17 @@ _humpipe() {
         before=${COMP_WORDS[COMP_CWORD - 2]}
     fi
     case $before in
-        --link) COMPREPLY=($(compgen -W '1 16 256 4096' -- "$word")); return ;;
-        --order) COMPREPLY=($(compgen -W 'left right' -- "$word")); return ;;
+        --link) mapfile -t COMPREPLY < <(compgen -W '1 16 256 4096' -- "$word"); return ;;
+        --order) mapfile -t COMPREPLY < <(compgen -W 'left right' -- "$word"); return ;;
     esac
-    if [[ $word == -* ]]; then
-        COMPREPLY=($(compgen -W '--link --order' -- "$word"))
+    compopt -o filenames 2>/dev/null
+    if [[ $before =~ ^[0-9]*(\<|\>|\>\>)$ || $word =~ ^(\<|\>) ]]; then
+        # a score, or a file to write
+        mapfile -t COMPREPLY < <(compgen -f -- "${word##*[<>]}")
+    elif [[ $word == -* ]]; then
+        mapfile -t COMPREPLY < <(compgen -W '--link --order' -- "$word")
     else
-        compopt -o filenames 2>/dev/null
-        local IFS=$'\n'
-        COMPREPLY=($(compgen -f -X '!*.hpl' -- "$word") $(compgen -d -- "$word"))
+        mapfile -t COMPREPLY < <(compgen -f -X '!*.hpl' -- "$word"; compgen -d -- "$word")
     fi
 }
 complete -F _humpipe humpipe ./humpipe

@@ -2,9 +2,11 @@
 """check.py [--whole] PROGRAM: makes a release of PROGRAM twice, compares the two, installs it in fresh folders, and runs there the first pipeline of
 the README and `man`, with no `rt` on the path.
 
-The tarball is unpacked, and installed by its install.sh; the Debian package is unpacked by dpkg -x. With --whole it is also installed by
-dpkg --root and, where debootstrap can make one, in a new Debian; lintian reads it; and the files in dist must be those that were made.
+The tarball is unpacked, and installed by its install.sh, which then takes all away again; the wheel is installed in a fresh venv, without a network; the
+Debian package is unpacked by dpkg -x. With --whole it is also installed by dpkg --root and, where debootstrap can make one, in a new Debian, where nothing
+is left once it is purged; lintian reads it; and the files in dist must be those that were made.
 What needs a program that isn't on the machine is left out, and told. The last line is `N passed, M failed`; status 1 if something failed."""
+import contextlib
 import glob
 import importlib.util
 import json
@@ -13,7 +15,10 @@ import re
 import shutil
 import subprocess
 import sys
+import tarfile
 import tempfile
+import xml.etree.ElementTree
+import zipfile
 
 HERE = os.path.dirname(os.path.abspath(__file__))
 TOP = os.path.dirname(HERE)
@@ -129,6 +134,33 @@ def same_bytes(checks, program, room):
     return made[0]
 
 
+@contextlib.contextmanager
+def planted():
+    """Files among the sources that git doesn't track."""
+    places = [os.path.join(TOP, place, 'planted-untracked.py') for place in ('python/humpipe', 'examples', 'docs', 'editors/vscode')]
+    for place in places:
+        open(place, 'x').close()
+    try:
+        yield
+    finally:
+        for place in places:
+            os.unlink(place)
+
+
+def contents(dist):
+    """The names of all files in the release."""
+    for name in sorted(os.listdir(dist)):
+        path = os.path.join(dist, name)
+        if name.endswith('.tar.gz'):
+            with tarfile.open(path) as archive:
+                yield from archive.getnames()
+        elif name.endswith(('.whl', '.vsix')):
+            with zipfile.ZipFile(path) as archive:
+                yield from archive.namelist()
+        elif name.endswith('.deb'):
+            yield from run('dpkg-deb', '-c', path)[1].split()
+
+
 def tarball(checks, dist, room):
     name = f'humpipe-{version()}-linux-x86_64'
     checks.ends_well('tar', 'tar', '-xzf', os.path.join(dist, name + '.tar.gz'), '-C', room)
@@ -139,16 +171,90 @@ def tarball(checks, dist, room):
     checks.ends_well('install.sh', './install.sh', prefix, cwd=folder)
     runs_first_pipeline(checks, 'install.sh', linked(os.path.join(room, 'by-prefix'), os.path.join(prefix, 'bin', 'humpipe')))
     shows_page(checks, 'install.sh', 'man', '-M', os.path.join(prefix, 'share', 'man'), 'humpipe')
-    if has('python3'):
-        code = "import humpipe; print(humpipe.run('out: read a | mint', {'a': '**kern\\n4c\\n4d\\n*-\\n'}), end='')"
-        _, text = run('python3', '-c', code, env={'PYTHONPATH': os.path.join(folder, 'python'), 'HUMPIPE': os.path.join(folder, 'humpipe')})
-        checks.tell('tarball: python', text == '**mint\n[c]\n+M2\n*-\n', text)
+    by_install(checks, folder, room)
+    python(checks, 'tarball: python', sys.executable, folder, env={'PYTHONPATH': os.path.join(folder, 'python'), 'HUMPIPE': os.path.join(folder, 'humpipe')})
+    surroundings = {'HUMPIPE': os.path.join(folder, 'humpipe'), 'PYTHONDONTWRITEBYTECODE': '1'}
+    checks.ends_well('tarball: tests of Python', sys.executable, '-m', 'unittest', 'tests.test_package', 'tests.test_scores', 'tests.test_faults',
+                     cwd=os.path.join(folder, 'python'), env=surroundings)
+    dead = [f'{page}: {link}' for page in glob.glob(os.path.join(folder, '**', '*.md'), recursive=True) for link in dead_links(page)]
+    checks.tell('tarball: links', not dead, '\n'.join(dead))
+
+
+def dead_links(page):
+    """The links of a page to files that aren't there."""
+    with open(page, encoding='utf-8') as file:
+        lines = [line for line in file if not line.startswith('    ')]
+    for link in re.findall(r'\]\(([^)#:\s]+)[)#]', ''.join(lines)):
+        if not os.path.exists(os.path.join(os.path.dirname(page), link)):
+            yield link
+
+
+def by_install(checks, folder, room):
+    """What install.sh refuses, where it installs, and that it takes all away."""
+    for words in (['', ], ['--uninstall', ''], ['a', 'b'], ['--prefix=/a']):
+        status, text = run('./install.sh', *words, cwd=folder)
+        checks.tell(f'install.sh {words}', status == 2 and text != '', text)
+    prefix = os.path.join(room, 'a prefix')
+    checks.ends_well('install.sh, CDPATH and a blank', './install.sh', prefix, cwd=folder, env={'CDPATH': room})
+    checks.tell('VERSION', open(os.path.join(prefix, 'share/doc/humpipe/VERSION'), encoding='utf-8').read().strip() == version(), 'another one')
+    mine = os.path.join(prefix, 'bin', 'mine')
+    open(mine, 'w').close()
+    checks.ends_well('install.sh --uninstall', './install.sh', '--uninstall', prefix, cwd=folder)
+    left = [os.path.join(place, name) for place, _, names in os.walk(prefix) for name in names]
+    checks.tell('install.sh --uninstall: what is left', left == [mine] and sorted(os.listdir(prefix)) == ['bin'], f'{left} {os.listdir(prefix)}')
+
+
+def python(checks, what, interpreter, folder, **more):
+    """Whether the Python package runs the program."""
+    code = "import humpipe; print(humpipe.run('out: read a | mint', {'a': '**kern\\n4c\\n4d\\n*-\\n'}), end=''); print(humpipe.program_version())"
+    _, text = run(interpreter, '-c', code, cwd=folder, **more)
+    checks.tell(what, text == f'**mint\n[c]\n+M2\n*-\n{version()}\n', text)
+
+
+def wheel(checks, dist, room):
+    """Installs the wheel in a fresh venv, without a network, and the source distribution as far as there is setuptools."""
+    files = glob.glob(os.path.join(dist, '*.whl'))
+    if not files:
+        checks.leave_out('the wheel', 'not made')
+        return
+    venv = os.path.join(room, 'venv')
+    status, text = run(sys.executable, '-m', 'venv', venv)
+    if status:
+        checks.leave_out('the wheel', 'no venv: ' + text.strip().split('\n')[-1])
+        return
+    interpreter = os.path.join(venv, 'bin', 'python')
+    checks.ends_well('pip install of the wheel', interpreter, '-m', 'pip', 'install', '-q', '--no-index', '--disable-pip-version-check', files[0], env={'HOME': room})
+    python(checks, 'wheel', interpreter, room)
+    runs_first_pipeline(checks, 'wheel', linked(os.path.join(room, 'by-wheel'), os.path.join(venv, 'bin', 'humpipe')))
+    checks.ends_well('pip check', interpreter, '-m', 'pip', 'check', env={'HOME': room})
+    text = checks.ends_well('pip show', interpreter, '-m', 'pip', 'show', '-f', 'humpipe', env={'HOME': room})
+    checks.tell('wheel: licences', 'licenses/LICENSE' in text and 'licenses/NOTICE' in text and 'page.css' in text, text)
+    checks.ends_well('pip uninstall', interpreter, '-m', 'pip', 'uninstall', '-q', '-y', 'humpipe', env={'HOME': room})
+    checks.tell('wheel: nothing is left', not os.path.exists(os.path.join(venv, 'bin', 'humpipe')), 'the program is')
+    with tarfile.open(os.path.join(dist, f'humpipe-{version()}.tar.gz')) as archive:
+        names = {name.partition('/')[2] for name in archive.getnames()}
+    wanted = {'PKG-INFO', 'pyproject.toml', 'LICENSE', 'NOTICE', 'tests/test_running.py', 'humpipe/py.typed', 'humpipe/page.js'}
+    checks.tell('source distribution', wanted <= names, str(wanted - names))
+
+
+def extension(checks, dist):
+    """The extension has what its manifest and its package.json name."""
+    with zipfile.ZipFile(os.path.join(dist, f'humpipe-{version()}.vsix')) as archive:
+        names = set(archive.namelist())
+        manifest = xml.etree.ElementTree.fromstring(archive.read('extension.vsixmanifest'))
+        types = xml.etree.ElementTree.fromstring(archive.read('[Content_Types].xml'))
+        contributes = json.loads(archive.read('extension/package.json'))['contributes']
+    named = {one.get('Path') for one in manifest.iter() if one.tag.endswith('Asset')}
+    named |= {'extension/' + one.get(key, '')[2:] for one in contributes['languages'] + contributes['grammars'] for key in ('path', 'configuration') if key in one}
+    checks.tell('vsix: what it names', named <= names, str(named - names))
+    ends = {one.get('Extension') for one in types}
+    checks.tell('vsix: kinds of files', {os.path.splitext(name)[1] for name in names - {'[Content_Types].xml'}} <= ends, str(ends))
 
 
 def package(checks, dist, room, is_whole):
     files = glob.glob(os.path.join(dist, '*.deb'))
     if not files:
-        checks.leave_out('the Debian package', 'no dpkg-deb')
+        checks.leave_out('the Debian package', 'not made')
         return
     root = os.path.join(room, 'unpacked')
     checks.ends_well('dpkg -x', 'dpkg', '-x', files[0], root)
@@ -181,13 +287,14 @@ def by_dpkg_root(checks, file, room):
     for folder in 'info', 'updates', 'triggers':
         os.makedirs(os.path.join(root, 'var/lib/dpkg', folder))
     open(os.path.join(root, 'var/lib/dpkg/status'), 'w').close()
-    words = ['dpkg', f'--root={root}', '--force-depends', '--force-not-root', '-i', file]
     if os.geteuid() != 0:
-        if not has('fakeroot'):
-            checks.leave_out('dpkg --root', 'not as root, and no fakeroot')
-            return
-        words = ['fakeroot', '--'] + words
-    checks.ends_well('dpkg --root', *words)
+        checks.leave_out('dpkg --root', 'not as root')
+        return
+    # the scripts of the package need a shell
+    for name in ['/bin/sh'] + re.findall(r'(/\S+\.so\S*)', run('ldd', '/bin/sh')[1]):
+        os.makedirs(os.path.dirname(root + name), exist_ok=True)
+        shutil.copy(name, root + name)
+    checks.ends_well('dpkg --root', 'dpkg', f'--root={root}', '--force-depends', '-i', file)
     status = run('dpkg', f'--root={root}', '-s', 'humpipe')[1]
     checks.tell('dpkg --root: status', 'Status: install ok installed' in status and f'Version: {version()}' in status, status)
     runs_first_pipeline(checks, 'dpkg --root', linked(os.path.join(room, 'by-dpkg-root'), os.path.join(root, 'usr', 'bin', 'humpipe')))
@@ -200,15 +307,28 @@ def by_debootstrap(checks, file, room):
         checks.leave_out('in a new Debian', 'no debootstrap' if os.geteuid() == 0 else 'not as root')
         return
     root = os.path.join(room, 'debian')
-    status, text = run('debootstrap', '--variant=minbase', '--include=man-db', 'bookworm', root)
+    status, text = run('debootstrap', '--variant=minbase', '--include=man-db,python3-minimal', 'bookworm', root)
     if status:
         checks.leave_out('in a new Debian', 'debootstrap: ' + text.strip().split('\n')[-1])
         return
     shutil.copy(file, os.path.join(root, 'tmp'))
+    before = installed(root)
     checks.ends_well('apt-get install', 'chroot', root, 'apt-get', 'install', '-y', '/tmp/' + os.path.basename(file),
                      env={'DEBIAN_FRONTEND': 'noninteractive'})
     runs_first_pipeline(checks, 'in a new Debian', linked(os.path.join(root, 'tmp', 'first'), '/usr/bin/humpipe'), root)
     shows_page(checks, 'in a new Debian', 'chroot', root, 'man', 'humpipe')
+    code = "import humpipe; assert humpipe.run('out: read a', {'a': '**a\\n*-\\n'}) == '**a\\n*-\\n'; import importlib.metadata; print(importlib.metadata.version('humpipe'))"
+    text = checks.ends_well('in a new Debian: python', 'chroot', root, 'python3', '-c', code)
+    checks.tell('in a new Debian: version', text.strip() == version(), text)
+    checks.ends_well('apt-get purge', 'chroot', root, 'apt-get', 'purge', '-y', 'humpipe', env={'DEBIAN_FRONTEND': 'noninteractive'})
+    left = {name for name in installed(root) - before if 'humpipe' in name}
+    checks.tell('purged: nothing is left', not left, '\n'.join(sorted(left)))
+
+
+def installed(root):
+    """All files and folders where a package may put some."""
+    return {os.path.relpath(os.path.join(place, name), root) for top in ('usr', 'etc', 'var/lib') for place, folders, names in os.walk(os.path.join(root, top))
+            for name in folders + names if 'dpkg' not in place and 'apt' not in place.split(os.sep)}
 
 
 def by_lintian(checks, file):
@@ -237,18 +357,76 @@ def editor(checks, program, room):
         path = language.get('configuration', language.get('path'))
         checks.tell(path, os.path.exists(os.path.join(folder, path)), 'not there')
     path = linked(os.path.join(room, 'bin'), program)
-    score = os.path.join(room, 'a.krn')
-    with open(score, 'w', encoding='utf-8') as file:
-        file.write('**kern\n4c\n*-\n')
-    for name, text in ('a plan.hpl', 'out: read /dev/stdin | semits\n'), ('a.hbundle', 'out: read a | semits\n--- a\n**kern\n*-\n'):
-        plan = os.path.join(room, name)
-        with open(plan, 'w', encoding='utf-8') as file:
+    patterns = {one['name']: one['regexp'] for one in contributes['problemPatterns']}
+    bundle = ('a.hbundle', 'out: read a | semits\n--- a\n**kern\n*-\n')
+    for name, text, score, task, pattern, groups in (
+            ('a plan.hpl', 'out: read /dev/stdin | semits\n', '4c', 0, 'humpipe-plan', ('{plan}', '1', '4', 'N9')),
+            ('a plan.hpl', 'out: read /dev/stdin | semits\n', '4c', 1, 'humpipe-plan', ('{plan}', '1', '4', 'N9')),
+            (*bundle, '4c', 0, 'humpipe-plan', ('{plan}', '1', '4', 'N9')),
+            ('a plan.hpl', 'out: read /dev/stdin | semits -x\n', '4c\t4c', 1, 'humpipe-score', ('{score}', 'humpipe: stage 1 (read), line 2: P2', '2', 'P2')),
+            ('a plan.hpl', 'out: read /dev/stdin | semits -x\n', '4c4c', 1, 'humpipe-stage', ('{plan}', 'humpipe: stage 2 (semits), line 2: K1', 'K1'))):
+        plan, krn = os.path.join(room, name), os.path.join(room, 'a.krn')
+        for file, whole in (plan, text), (krn, f'**kern\n{score}\n*-\n'):
+            with open(file, 'w', encoding='utf-8') as out:
+                out.write(whole)
+        words = [word.replace('${file}', plan).replace('${input:score}', krn) for word in tasks[task]['args']]
+        _, told = run(tasks[task]['command'], *words, env={'PATH': path + ':' + PATH}, cwd=room)
+        last = told.rstrip('\n').split('\n')[-1]
+        found = [one for one in patterns if re.match(patterns[one], last)]
+        wanted = tuple(group.format(plan=plan, score=krn) for group in groups)
+        checks.tell(f'{tasks[task]["label"]}: {pattern}', found == [pattern] and re.match(patterns[pattern], last).groups() == wanted, told)
+
+
+VIM = '''set nocompatible
+set rtp^={top}/editors/vim
+filetype plugin on
+syntax on
+edit bad.hpl
+silent make
+let told = map(getqflist(), '[bufname(v:val.bufnr), v:val.lnum, v:val.col, v:val.text]') + [&filetype, &commentstring]
+let g:humpipe_score = 's.krn'
+edit ok.hpl
+silent make
+let told += map(getqflist(), 'v:val.text')
+edit s.krn
+let told += [&filetype, map([[1, 1], [2, 1], [2, 2], [3, 1]], 'synIDattr(synID(v:val[0], v:val[1], 1), "name")')]
+call writefile([json_encode(told)], 'out.json')
+qa!
+'''
+
+
+def vim(checks, program, room):
+    """What vim makes of plans and scores: their kinds, comments and colours, and the line that :make goes to."""
+    if not has('vim'):
+        checks.leave_out('vim', 'no vim')
+        return
+    folder = os.path.join(room, 'vim')
+    path = linked(folder, program)
+    for name, text in (('bad.hpl', 'out: read /dev/stdin | semits\n'), ('ok.hpl', 'out: read /dev/stdin | mint\n'), ('s.krn', '**kern\n4c4e\n*-\n'),
+                       ('t.vim', VIM.format(top=TOP))):
+        with open(os.path.join(folder, name), 'w', encoding='utf-8') as file:
             file.write(text)
-        for task in tasks if name.endswith('.hpl') else tasks[:1]:
-            words = [word.replace('${file}', plan).replace('${input:score}', score) for word in task['args']]
-            _, told = run(task['command'], *words, env={'PATH': path + ':' + PATH}, cwd=room)
-            found = re.match(contributes['problemPatterns'][0]['regexp'], told.rstrip('\n'))
-            checks.tell(f'{task["label"]}: {name}', found is not None and found.groups() == (plan, '1', '4', 'N9'), told)
+    _, text = run('vim', '-es', '-u', 'NONE', '-S', 't.vim', cwd=folder, env={'PATH': path + ':' + PATH, 'HOME': folder})
+    found = None
+    if os.path.exists(os.path.join(folder, 'out.json')):
+        with open(os.path.join(folder, 'out.json'), encoding='utf-8') as file:
+            found = json.load(file)
+    wanted = [['bad.hpl', 1, 4, 'N9'], 'humpipe', '# %s', 'stage 2 (mint), line 2: K1', 'humdrum',
+              ['humdrumExclusive', 'humdrumDuration', 'humdrumPitch', 'humdrumPath']]
+    checks.tell('vim', found == wanted, f'{found}\n{text}')
+
+
+def completions(checks, room):
+    """What bash completes: plans, but any file after `<`."""
+    script = (f'. {TOP}/completions/humpipe.bash; compopt() {{ :; }}; COMP_WORDS=("$@"); COMP_CWORD=$(($# - 1)); _humpipe; printf "%s\\n" "${{COMPREPLY[@]}}"')
+    folder = os.path.join(room, 'completions')
+    os.makedirs(os.path.join(folder, 'sub'))
+    for name in 'a plan.hpl', 'a.krn':
+        open(os.path.join(folder, name), 'w').close()
+    for words, wanted in ((('a',), ['a plan.hpl']), (('a plan.hpl', '<', 'a'), ['a plan.hpl', 'a.krn']), (('a plan.hpl', '>', 's'), ['sub']),
+                          (('--o',), ['--order']), (('--order', '='), ['left', 'right']), (('--order', '=', 'l'), ['left']), (('--link', '2'), ['256'])):
+        _, text = run('bash', '-c', script, 'bash', 'humpipe', *words, cwd=folder)
+        checks.tell(f'bash completion: {" ".join(words)}', sorted(text.splitlines()) == wanted, text)
 
 
 def main():
@@ -263,11 +441,22 @@ def main():
         checks.leave_out('whether NOTICE has all crates', 'no rt')
     checks.tell('no rt on the path', not has('rt'))
     with tempfile.TemporaryDirectory(prefix='humpipe-release-') as room:
-        dist = same_bytes(checks, program, room)
+        is_checkout = run('git', '-c', f'safe.directory={TOP}', '-C', TOP, 'ls-files', '--error-unmatch', 'VERSION')[0] == 0
+        with planted() if is_checkout else contextlib.nullcontext():
+            dist = same_bytes(checks, program, room)
+        if is_checkout:
+            found = [name for name in contents(dist) if 'planted' in name or 'cache' in name]
+            checks.tell('what git does not track', not found, '\n'.join(found))
+        else:
+            checks.leave_out('what git does not track', 'not a checkout')
         if checks.failed == 0:
             tarball(checks, dist, room)
+            wheel(checks, dist, room)
+            extension(checks, dist)
             package(checks, dist, room, is_whole)
             editor(checks, program, room)
+            vim(checks, program, room)
+            completions(checks, room)
         if is_whole:
             release_is_made(checks, dist)
     print(f'{checks.passed} passed, {checks.failed} failed')

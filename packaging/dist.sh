@@ -1,16 +1,18 @@
 #!/bin/sh
-# dist.sh PROGRAM [FOLDER]: makes the release of PROGRAM in FOLDER, dist if nothing is said: a tarball, a Debian package and SHA256SUMS.
+# dist.sh PROGRAM [FOLDER]: makes the release of PROGRAM in FOLDER, dist if nothing is said: a tarball, a Debian package, a Python wheel with the program in it,
+# the source of the Python package, an extension for Visual Studio Code, and SHA256SUMS. In it is what git tracks, and nothing else.
 #
 # The same files give the same bytes. What stands in them has the date SOURCE_DATE_EPOCH; if nothing is said, that of the version in
-# CHANGELOG.md. Without dpkg-deb the package is left out.
+# CHANGELOG.md. What needs a program that isn't there (debhelper and dh-python, a Python with tomllib) is left out, and told.
 set -eu
 umask 022
+unset CDPATH
 export LC_ALL=C TZ=UTC0
 [ $# -ge 1 ] || { echo 'usage: dist.sh PROGRAM [FOLDER]' >&2; exit 2; }
-top=$(cd "$(dirname "$0")/.." && pwd)
-program=$(realpath "$1")
-mkdir -p "${2:-dist}"
-dist=$(cd "${2:-dist}" && pwd)
+top=$(cd -- "$(dirname -- "$0")/.." && pwd)
+program=$(realpath -- "$1")
+mkdir -p -- "${2:-dist}"
+dist=$(cd -- "${2:-dist}" && pwd)
 version=$(cat "$top/VERSION")
 "$top/packaging/version.py" --check
 day=$(sed -n "s/^## \[$version\] - //p" "$top/CHANGELOG.md")
@@ -18,27 +20,44 @@ SOURCE_DATE_EPOCH=${SOURCE_DATE_EPOCH:-$(date -d "$day" +%s)}
 export SOURCE_DATE_EPOCH
 room=$(mktemp -d)
 trap 'rm -rf "$room"' EXIT INT TERM
+name=humpipe-$version-linux-x86_64
+tree=$room/$name
+parts='README.md LICENSE NOTICE CHANGELOG.md CITATION.cff VERSION install.sh man docs completions editors examples python'
+
+# shellcheck disable=SC2086 # the parts are words
+# The files of the release that git tracks. Where the sources are no checkout, those that .gitignore doesn't name.
+tracked() {
+    if git -c safe.directory="$top" -C "$top" ls-files --error-unmatch VERSION >/dev/null 2>&1; then
+        git -c safe.directory="$top" -C "$top" ls-files -- $parts
+    else
+        echo 'not a checkout: all files that .gitignore does not name are taken' >&2
+        git init -q --bare "$room/git"
+        git --git-dir="$room/git" --work-tree="$top" -C "$top" ls-files --others --exclude-per-directory=.gitignore -- $parts
+    fi
+}
 
 # Gives all files below a folder one mode for each kind, and the date.
 settle() {
-    find "$1" -name __pycache__ -prune -exec rm -rf {} +
     chmod -R u=rwX,go=rX "$1"
     find "$1" -exec touch -h -d "@$SOURCE_DATE_EPOCH" {} +
 }
 
+# The tree of the release: what the tarball has.
+grow() {
+    mkdir "$tree"
+    (cd "$top" && tracked | grep -v '^docs/check.py$\|^python/make_codes.py$' | tar -c --no-recursion -T -) | tar -x -C "$tree"
+    cp "$program" "$tree/humpipe"
+    strip=$(command -v strip || true)
+    [ -z "$strip" ] || "$strip" --strip-unneeded "$tree/humpipe"
+    python3 "$top/packaging/pages.py" "$tree"
+    settle "$tree"
+}
+
 tarball() {
-    name=humpipe-$version-linux-x86_64
-    mkdir "$room/$name"
-    cp "$program" "$room/$name/humpipe"
-    for part in README.md LICENSE NOTICE CHANGELOG.md CITATION.cff VERSION install.sh man docs completions editors examples python; do
-        cp -R "$top/$part" "$room/$name/$part"
-    done
-    rm -f "$room/$name/docs/check.py"
-    settle "$room/$name"
     tar -C "$room" --sort=name --format=ustar --owner=0 --group=0 --numeric-owner -cf - "$name" | gzip -9n >"$dist/$name.tar.gz"
 }
 
-# What the program needs of the C library: its own, and of what version.
+# The version of the C library that the program needs, and that it needs no other library.
 libc() {
     ldd "$program" | awk '{ print $1 }' | while read -r library; do
         case $library in
@@ -49,31 +68,28 @@ libc() {
     grep -ao 'GLIBC_[0-9.]*' "$program" | sed 's/GLIBC_//' | sort -uV | tail -n 1
 }
 
+# The Debian package, by debhelper in a copy of the tree. The Python module comes from the wheel.
 package() {
-    root=$room/root
-    manual=$root/usr/share/doc/humpipe
-    PROGRAM=$program DESTDIR=$root "$top/install.sh" /usr >/dev/null
-    strip=$(command -v strip || true)
-    [ -z "$strip" ] || "$strip" --strip-unneeded "$root/usr/bin/humpipe"
-    mkdir -p "$root/usr/lib/python3/dist-packages" "$root/usr/share/zsh" "$root/DEBIAN"
-    cp -R "$top/python/humpipe" "$root/usr/lib/python3/dist-packages/humpipe"
-    mv "$root/usr/share/zsh/site-functions" "$root/usr/share/zsh/vendor-completions"
-    { cat "$top/LICENSE"; echo; cat "$top/NOTICE"; } >"$manual/copyright"
-    rm "$manual/LICENSE" "$manual/NOTICE"
-    maintainer=$(sed -n 's/^Maintainer: //p' "$top/packaging/control")
+    cp -R "$tree" "$room/source"
+    cp -R "$top/packaging/debian" "$room/source/debian"
+    maintainer=$(sed -n 's/^Maintainer: //p' "$top/packaging/debian/control")
     printf 'humpipe (%s) stable; urgency=medium\n\n  * What has changed is in CHANGELOG.md.\n\n -- %s  %s\n' \
-        "$version" "$maintainer" "$(date -R -d "@$SOURCE_DATE_EPOCH")" >"$manual/changelog"
-    gzip -9n "$manual/changelog" "$root/usr/share/man/man1/humpipe.1"
-    settle "$root/usr"
-    needs=$(libc)
-    size=$(find "$root/usr" -type f -printf '%s\n' | awk '{ kib += int(($1 + 1023) / 1024) } END { print kib }')
-    sed "s/@VERSION@/$version/; s/@LIBC@/$needs/; s/@SIZE@/$size/" "$top/packaging/control" >"$root/DEBIAN/control"
-    (cd "$root" && find usr -type f | sort | xargs md5sum) >"$root/DEBIAN/md5sums"
-    settle "$root"
-    dpkg-deb --root-owner-group -Zxz --build "$root" "$dist/humpipe_${version}_amd64.deb" >/dev/null
+        "$version" "$maintainer" "$(date -R -d "@$SOURCE_DATE_EPOCH")" >"$room/source/debian/changelog"
+    python3 "$top/packaging/copyright.py" "$tree" >"$room/source/debian/copyright"
+    mkdir "$room/source/debian/module"
+    (cd "$room/source/debian/module" && python3 -m zipfile -e "$dist"/humpipe-*.whl . && rm -rf ./*.data ./*.dist-info/RECORD ./*.dist-info/licenses)
+    (cd "$room/source" && dpkg-buildpackage -b -d -uc -us >"$room/log" 2>&1) || { cat "$room/log" >&2; exit 1; }
+    cp "$room"/humpipe_*.deb "$dist"
 }
 
-rm -f "$dist"/humpipe[-_]*.tar.gz "$dist"/humpipe_*.deb "$dist/SHA256SUMS"
+rm -f "$dist"/humpipe[-_]*.tar.gz "$dist"/humpipe[-_]*.deb "$dist"/humpipe-*.whl "$dist"/humpipe-*.vsix "$dist/SHA256SUMS"
+grow
 tarball
-if command -v dpkg-deb >/dev/null; then package; else echo 'left out: the Debian package (no dpkg-deb)'; fi
+python3 "$top/packaging/vsix.py" "$tree" "$dist"
+if python3 -c 'import tomllib' 2>/dev/null; then
+    python3 "$top/packaging/wheel.py" "$tree" "$tree/humpipe" "$(libc)" "$dist"
+    if command -v dh >/dev/null && command -v dh_python3 >/dev/null; then package; else echo 'left out: the Debian package (no debhelper and dh-python)'; fi
+else
+    echo 'left out: the wheel, the source distribution and the Debian package (no Python 3.11)'
+fi
 (cd "$dist" && sha256sum humpipe[-_]* >SHA256SUMS && cat SHA256SUMS)

@@ -7,10 +7,27 @@
     *-
 
 `run` answers the text that a plan means, and raises a `Fault` where a stage refuses and a `PlanFault` where the plan is at fault. `map`
-runs a plan over many scores. `records` and `frame` cut what is written into tokens."""
-from .faults import Error, Fault, PlanFault, RunError
-from .running import Outcome, map, run
-from .scores import Record, frame, records
+runs a plan over many scores, `corpus` over folders of them, and `table` makes one table of what it gives. `records` and `frame` cut what is written
+into tokens. `page` makes a page on which one sees the columns of each stage."""
+from typing import Any
+
+from . import plot
+from .corpora import Summary, corpus
+from .faults import Error, Fault, Missing, OutOfTime, PlanFault, RunError
+from .many import Outcome, map
+from .program import program_version
+from .running import Text, run
+from .scores import Record, records
+from .show import page
+from .tables import Table, frame, table
 
 __version__ = '1.0.0'
-__all__ = ['Error', 'Fault', 'Outcome', 'PlanFault', 'Record', 'RunError', 'frame', 'map', 'records', 'run']
+# `map` isn't among them: `from humpipe import *` leaves Python's own
+__all__ = ['Error', 'Fault', 'Missing', 'OutOfTime', 'Outcome', 'PlanFault', 'Record', 'RunError', 'Summary', 'Table', 'Text', 'corpus', 'frame', 'page',
+           'plot', 'program_version', 'records', 'run', 'table']
+
+
+def load_ipython_extension(ipython: Any) -> None:
+    """Called by `%load_ext humpipe`."""
+    from .notebook import load
+    load(ipython)

@@ -1,6 +1,8 @@
 """What humpipe tells when something went wrong, as exceptions."""
+import errno
+import os
 import re
-from typing import Pattern, Sequence
+from typing import List, Pattern, Sequence
 
 from .codes import CODES
 
@@ -20,6 +22,13 @@ class Error(Exception):
 
     def __str__(self) -> str:
         return self.message
+
+    def _render_traceback_(self) -> List[str]:
+        """What a notebook shows: the message alone."""
+        return [f'{type(self).__name__}: {self}']
+
+    def __repr__(self) -> str:
+        return f'{type(self).__name__}({self.message!r})'
 
 
 class Explained(Error):
@@ -60,7 +69,23 @@ class PlanFault(Explained):
 
 
 class RunError(Error):
-    """A score can't be opened or read, nothing takes what is written, or memory ran out."""
+    """All else: the plan, a score or the program isn't there or can't be read, memory or time ran out, something ended the program."""
+
+
+class Missing(RunError, FileNotFoundError):
+    """A plan, a score or the program that isn't there."""
+
+    def __init__(self, message: str, text: str = '') -> None:
+        super().__init__(message, text)
+        self.errno, self.strerror = errno.ENOENT, os.strerror(errno.ENOENT)
+
+
+class OutOfTime(RunError, TimeoutError):
+    """A run that wasn't done in the time that it was given."""
+
+    def __init__(self, message: str, text: str = '') -> None:
+        super().__init__(message, text)
+        self.errno, self.strerror = errno.ETIMEDOUT, os.strerror(errno.ETIMEDOUT)
 
 
 def _parts(pattern: Pattern[str], message: str) -> Sequence[str]:
@@ -70,7 +95,13 @@ def _parts(pattern: Pattern[str], message: str) -> Sequence[str]:
     return found.groups()
 
 
-def error_of(told: str, text: str) -> Error:
+def unread(what: str, error: OSError) -> RunError:
+    """The exception for a file that can't be read."""
+    message = f'{what}: {error.strerror or error}'
+    return Missing(message) if isinstance(error, FileNotFoundError) else RunError(message)
+
+
+def error_of(told: str, text: str = '') -> Error:
     """The exception for a line of standard error."""
     message = told[len('humpipe: '):] if told.startswith('humpipe: ') else told
     if STAGE.fullmatch(message):

@@ -12,11 +12,17 @@ HERE = os.path.dirname(os.path.abspath(__file__))
 PACKAGE = os.path.dirname(HERE)
 
 
+REPOSITORY = os.path.dirname(PACKAGE)
+IS_REPOSITORY = os.path.exists(os.path.join(REPOSITORY, 'packaging', 'made.py'))
+
+
 class Package(unittest.TestCase):
+    @unittest.skipUnless(IS_REPOSITORY, 'not in the repository')
     def test_codes_are_those_of_the_page(self):
         told = subprocess.run([sys.executable, os.path.join(PACKAGE, 'make_codes.py'), '--check'], stderr=subprocess.PIPE)
         self.assertEqual(told.returncode, 0, told.stderr.decode())
 
+    @unittest.skipUnless(os.path.exists(os.path.join(REPOSITORY, 'VERSION')), 'no VERSION')
     def test_version_is_the_repository_s(self):
         with open(os.path.join(PACKAGE, '..', 'VERSION'), encoding='utf-8') as file:
             self.assertEqual(humpipe.__version__, file.read().strip())

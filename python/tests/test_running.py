@@ -1,32 +1,12 @@
 """Runs of the program: the `humpipe` on the path, or the one that HUMPIPE names."""
 import os
-import shutil
-import tempfile
 import threading
 import unittest
-from pathlib import Path
 
 import humpipe
 from humpipe import running
 
-SCORE = '**kern\n4g\n8a\n8b\n*-\n'
-MINT = '**mint\n[g]\n+M2\n+M2\n*-\n'
-FROM_STDIN = 'out: read /dev/stdin | mint'
-PROGRAM = os.environ.get('HUMPIPE', 'humpipe')
-
-
-@unittest.skipUnless(shutil.which(PROGRAM), f'no program {PROGRAM}')
-class Runs(unittest.TestCase):
-    def setUp(self):
-        room = tempfile.TemporaryDirectory()
-        self.addCleanup(room.cleanup)
-        self.folder = Path(room.name)
-        self.score = self.write('tune.krn', SCORE)
-
-    def write(self, name, text):
-        path = self.folder / name
-        path.write_bytes(text if isinstance(text, bytes) else text.encode())
-        return path
+from .support import FROM_STDIN, MINT, SCORE, Runs
 
 
 class One(Runs):

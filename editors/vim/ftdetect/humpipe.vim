@@ -1,3 +1,3 @@
-" plans of humpipe
-autocmd BufRead,BufNewFile *.hpl setfiletype humpipe
-autocmd BufRead,BufNewFile *.hbundle setfiletype humpipe
+" plans and bundles of humpipe, and Humdrum scores
+autocmd BufRead,BufNewFile *.hpl,*.hbundle setfiletype humpipe
+autocmd BufRead,BufNewFile *.krn,*.KRN setfiletype humdrum
