@@ -3,7 +3,7 @@ from collections import Counter
 from fractions import Fraction
 from math import gcd
 
-from .music import PITCH, Note
+from .music import PITCH, Note, read_note
 
 NAMES = ['c', 'c#', 'd', 'e-', 'e', 'f', 'f#', 'g', 'a-', 'a', 'b-', 'b']
 
@@ -377,7 +377,7 @@ def phrases(score, field):
         token = record.tokens[record.fields.index(field)]
         if token == '.':
             continue
-        note = first_pitch([Note(part) for part in token.split(' ')])
+        note = first_pitch([read_note(part) for part in token.split(' ')])
         if note is not None and not note.goes_on:
             if is_due:
                 if begun is not None:
@@ -507,7 +507,7 @@ def spoken(score, field):
 
 def respelled(text, steps, semitones):
     """A part of a token a number of steps and semitones higher, without the sign of a natural."""
-    note = Note(text)
+    note = read_note(text)
     if note.step is None:
         return text
     step, sound = note.step + steps, note.semitones + semitones

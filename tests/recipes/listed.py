@@ -3,7 +3,7 @@ from math import gcd
 
 from . import answers, dirt
 from .editions import second
-from .music import Score
+from .music import read_score
 from .running import Recipe
 
 QUESTIONS, CLEANING, FROM_HUMDRUM, PYTHON = 'docs/QUESTIONS.md', 'docs/CLEANING.md', 'docs/FROM_HUMDRUM.md', 'docs/PYTHON.md'
@@ -127,13 +127,13 @@ def python():
 
 def edition(answer):
     """The answer on a score and its second edition."""
-    return lambda score: answer(score, Score(second(score.source, score.parts()[0])), score.parts()[0])
+    return lambda score: answer(score, read_score(second(score.source, score.parts()[0])), score.parts()[0])
 
 
 def on_grid_of_editions(*more):
     """The step that both editions need."""
     def sets(score):
-        steps = [int(step_of(one)) for one in (score, Score(second(score.source, score.parts()[0])))]
+        steps = [int(step_of(one)) for one in (score, read_score(second(score.source, score.parts()[0])))]
         found = {'-t 8': f'-t {steps[0] * steps[1] // gcd(*steps)}'}
         for one in more:
             found.update(one(score))
@@ -147,7 +147,7 @@ def other_words(text):
 
 
 def of_words(score):
-    return answers.words(score, Score(other_words(score.source)), score.parts('**text')[0])
+    return answers.words(score, read_score(other_words(score.source)), score.parts('**text')[0])
 
 
 def sung(answer):

@@ -56,8 +56,9 @@ def files_of(command, files):
 
 
 def scores_of(texts):
-    """The scores that plans and commands read."""
+    """The scores that plans and commands read; of the examples also those that `sed` puts in the place of another."""
     found = set()
     for text in texts:
         found |= set(re.findall(r'[A-Za-z0-9_./]+\.krn', text))
+        found |= {name for name in SCORES if re.search(r'\b' + name[len('examples/'):-len('.krn')] + r'\b', text)}
     return found
