@@ -289,7 +289,7 @@ def main():
         print(f'check.py: no program at {words[0]}')
         print('0 passed, 1 failed')
         sys.exit(1)
-    paths = ['README.md', 'CHANGELOG.md', 'CONTRIBUTING.md', 'bench/README.md'] + sorted(os.path.relpath(p, TOP) for p in glob.glob(os.path.join(TOP, 'docs', '*.md')))
+    paths = ['README.md', 'CHANGELOG.md', 'CONTRIBUTING.md', 'bench/README.md'] + sorted(os.path.relpath(p, TOP) for p in glob.glob(os.path.join(TOP, 'docs', '**', '*.md'), recursive=True))
     pages = [Page(path, words[0]) for path in paths if os.path.exists(os.path.join(TOP, path))]
     for page in pages:
         page.check()
