@@ -124,7 +124,7 @@ python: humpipe
 	@cd python && HUMPIPE=../humpipe python3 -m tests
 
 plots: $(needed)
-	@python3 docs/plots.py $(there)
+	@python3 docs/dev/plots.py $(there)
 
 # A program that isn't there is left out.
 has = command -v $(1) >/dev/null ||
