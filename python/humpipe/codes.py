@@ -26,7 +26,7 @@ CODES = {
     'X1': 'A join of chosen and dropped columns. Usual cause: two spines of the score become one.',
     'X2': "A chosen field or name isn't there. Usual causes: a field beyond the last spine; a name that is spelled otherwise (`**Kern`).",
     'X3': "An exchange across a chosen column. Usual cause: of two columns that change places one is chosen, the other isn't, and a chosen one stands between.",
-    'C1': 'Cleaved columns change places, are added to, end one by one, or join another. Usual cause: one of the spines ends earlier than the others.',
+    'C1': 'Cleaved columns change places, are added to, end one by one, or join another. Usual causes: one of the spines ends earlier than the others, or two hands change places by `*x`.',
     'C2': 'An exclusive interpretation in a cleaved column. Usual cause: a spine changes its kind on the way.',
     'B1': 'Data while no column is timed. Usual cause: the score has neither `**kern` nor `**recip` there, or an earlier stage made something else of it.',
     'B2': "The notes of a record don't begin where earlier ones end. Usual cause: a duration in one voice that is too long or too short.",
