@@ -552,6 +552,16 @@ def where(score, names):
     return [name + '\t' + row for name in names for row in rows]
 
 
+def together(score, low, high):
+    """The notes and barlines of two parts, without records in which neither has a note."""
+    lines = []
+    for record in score.records:
+        tokens = [token for field in (low, high) for token, own in zip(record.tokens, record.fields) if own == field] if record.kind == 'data' else []
+        if any(token != '.' for token in tokens):
+            lines.append('\t'.join(tokens))
+    return lines
+
+
 # Python
 
 

@@ -114,3 +114,8 @@ def faulty(text, what):
     tokens[k] = what
     lines[record.line - 1] = '\t'.join(tokens)
     return written(lines), record.line
+
+
+def part(text, field):
+    """A part alone, as an edition of parts has it: without null records."""
+    return written('\t'.join(tokens) for record, tokens in read_score(text).cut(field) if not record.is_data or any(token != '.' for token in tokens))

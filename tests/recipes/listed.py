@@ -6,7 +6,7 @@ from .editions import second
 from .music import read_score
 from .running import Recipe
 
-QUESTIONS, CLEANING, FROM_HUMDRUM, PYTHON = 'docs/QUESTIONS.md', 'docs/CLEANING.md', 'docs/FROM_HUMDRUM.md', 'docs/PYTHON.md'
+QUESTIONS, CLEANING, FROM_HUMDRUM, PYTHON, COMMANDS = (f'docs/{name}.md' for name in ('QUESTIONS', 'CLEANING', 'FROM_HUMDRUM', 'PYTHON', 'COMMANDS'))
 
 
 def part(old='-f 4', which=-1):
@@ -42,7 +42,7 @@ def of_part(answer, which=-1):
 
 
 def listed():
-    return readme() + questions() + cleaning() + from_humdrum() + python()
+    return readme() + questions() + cleaning() + from_humdrum() + python() + commands()
 
 
 def readme():
@@ -122,6 +122,16 @@ def python():
                lambda score: {'spine == 2': f'spine == {score.parts()[0]}'}, without=['Latin-1']),
         Recipe('intervals in pandas', PYTHON, 'python3 intervals.py', of_part(answers.sorted_intervals), part(), without=['Latin-1', 'splits']),
         Recipe('leaps in pandas', PYTHON, 'python3 bass_leaps.py', of_part(answers.octaves_of_bass, 0), part('-f 1', 0), without=['Latin-1']),
+    ]
+
+
+def commands():
+    """Two parts that were taken apart, without their null records, are put together in time."""
+    alone = ['held over splits', 'graces', 'exchanges']
+    return [
+        Recipe('parts by time', COMMANDS, 'humpipe by_time.hpl', lambda score: answers.together(score, score.parts()[0], score.parts()[-1]),
+               lambda score: {'-t 4': f'-t {step_of(score)}'}, seen=data, kerns=(2, 4), without=alone,
+               scores=lambda text, score: {'low.krn': dirt.part(text, score.parts()[0]), 'top.krn': dirt.part(text, score.parts()[-1])}),
     ]
 
 
