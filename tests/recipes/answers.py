@@ -106,6 +106,13 @@ def beats(score, beat):
                 time += beat
 
 
+def odd_bars(score):
+    """What is told of bars without a whole number of quarters, but for the upbeat and the last bar."""
+    starts = [(record.bar, record.time_after) for record in with_times(score) if record.bar is not None]
+    odd = [bar for (bar, start), (_, end) in zip(starts, starts[1:]) if (end - start) % Fraction(1, 4)]
+    return f'no whole number of beats in bar {" ".join(map(str, odd))}' if odd else ''
+
+
 def with_times(score):
     """Barlines and records in which a note begins; each barline has the time of what follows it."""
     kept = [record for record in score.records if record.time is not None or record.is_barline]
