@@ -92,7 +92,7 @@ def durations(notes):
 def beats(score, beat):
     """Each beat's record, its time, and the barlines between them: counted from a numbered barline, in an upbeat back from the first."""
     first = next((record.time_after for record in with_times(score) if record.bar is not None), Fraction(0))
-    start, is_begun = first, False
+    start = first
     for record in with_times(score):
         if record.is_barline:
             if record.bar is not None:

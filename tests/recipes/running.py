@@ -122,7 +122,7 @@ class Runs:
         return found.split('\n')[:-1] if found.endswith('\n') else found.split('\n') if found else []
 
 
-def differs(recipe, text, score, found):
+def differs(recipe, score, found):
     """What is wrong with what a recipe printed, or nothing."""
     lines, told = found
     want, seen, complaint = recipe.answer(score), recipe.seen(lines), recipe.told(score)
