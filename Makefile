@@ -141,7 +141,7 @@ python: humpipe
 	@cd python && HUMPIPE=../humpipe python3 -m tests
 
 plots: $(needed)
-	@python3 docs/plots.py $(there)
+	@python3 docs/dev/plots.py $(there)
 
 # What needs a program that isn't there is left out, and told.
 has = command -v $(1) >/dev/null || { echo 'left out: what $(1) would read (no $(1))'; exit 0; };

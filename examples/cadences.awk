@@ -1,4 +1,4 @@
-# what sounds a BEAT before each fermata, and under it: the columns of a score on a grid of STEP, and again with what sounds on in parentheses
+# what sounds a BEAT before each fermata, and under it: the columns of a score on a grid of STEP, and again with what is sustained in parentheses
 BEGIN { FS = "\t"; ahead = step / beat; bar = 0 }
 /^=[0-9]/ { bar = substr($1, 2) + 0 }
 /^[*!=]/ { next }

@@ -85,8 +85,10 @@ def first_pipeline():
 
 
 def runs_first_pipeline(checks, what, folder, root=None):
-    """Runs it in a folder that has the program as `humpipe`; below another root, if one is given."""
+    """Runs it in a folder that has the program as `humpipe`, and the examples; below another root, if one is given."""
     files, runs = first_pipeline()
+    if not os.path.exists(os.path.join(folder, 'examples')):
+        shutil.copytree(os.path.join(TOP, 'examples'), os.path.join(folder, 'examples'))
     for name, text in files.items():
         with open(os.path.join(folder, name), 'w', encoding='utf-8') as file:
             file.write(text)

@@ -33,13 +33,13 @@ class Trial:
         self.recipe, self.runs = recipe, runs
 
     def difference(self, text, score):
-        return differs(self.recipe, text, score, self.runs.run(self.recipe, [(text, score)])[0])
+        return differs(self.recipe, score, self.runs.run(self.recipe, [(text, score)])[0])
 
     def first(self, scores):
         """The first score on which it differs, and how."""
         self.recipe.read()
         for (seed, text, score), found in zip(scores, self.runs.run(self.recipe, [(text, score) for _, text, score in scores])):
-            wrong = differs(self.recipe, text, score, found)
+            wrong = differs(self.recipe, score, found)
             if wrong is not None:
                 return seed, text, wrong
         return None

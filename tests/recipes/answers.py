@@ -3,7 +3,7 @@ from collections import Counter
 from fractions import Fraction
 from math import gcd
 
-from .music import PITCH, Note
+from .music import PITCH, Note, read_note
 
 NAMES = ['c', 'c#', 'd', 'e-', 'e', 'f', 'f#', 'g', 'a-', 'a', 'b-', 'b']
 
@@ -92,7 +92,7 @@ def durations(notes):
 def beats(score, beat):
     """Each beat's record, its time, and the barlines between them: counted from a numbered barline, in an upbeat back from the first."""
     first = next((record.time_after for record in with_times(score) if record.bar is not None), Fraction(0))
-    start, is_begun = first, False
+    start = first
     for record in with_times(score):
         if record.is_barline:
             if record.bar is not None:
@@ -104,6 +104,13 @@ def beats(score, beat):
             while time < record.until:
                 yield record, time
                 time += beat
+
+
+def odd_bars(score):
+    """What is told of bars without a whole number of quarters, but for the upbeat and the last bar."""
+    starts = [(record.bar, record.time_after) for record in with_times(score) if record.bar is not None]
+    odd = [bar for (bar, start), (_, end) in zip(starts, starts[1:]) if (end - start) % Fraction(1, 4)]
+    return f'no whole number of beats in bar {" ".join(map(str, odd))}' if odd else ''
 
 
 def with_times(score):
@@ -377,7 +384,7 @@ def phrases(score, field):
         token = record.tokens[record.fields.index(field)]
         if token == '.':
             continue
-        note = first_pitch([Note(part) for part in token.split(' ')])
+        note = first_pitch([read_note(part) for part in token.split(' ')])
         if note is not None and not note.goes_on:
             if is_due:
                 if begun is not None:
@@ -507,7 +514,7 @@ def spoken(score, field):
 
 def respelled(text, steps, semitones):
     """A part of a token a number of steps and semitones higher, without the sign of a natural."""
-    note = Note(text)
+    note = read_note(text)
     if note.step is None:
         return text
     step, sound = note.step + steps, note.semitones + semitones
@@ -550,6 +557,16 @@ def where(score, names):
         if any(token[0] in '+-' and int(''.join(filter(str.isdigit, token))) >= 6 for token in own if token != '.'):
             rows.append('\t'.join([title, str(bar)] + own))
     return [name + '\t' + row for name in names for row in rows]
+
+
+def together(score, low, high):
+    """The notes and barlines of two parts, without records in which neither has a note."""
+    lines = []
+    for record in score.records:
+        tokens = [token for field in (low, high) for token, own in zip(record.tokens, record.fields) if own == field] if record.kind == 'data' else []
+        if any(token != '.' for token in tokens):
+            lines.append('\t'.join(tokens))
+    return lines
 
 
 # Python

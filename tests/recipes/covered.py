@@ -8,7 +8,7 @@ PAGES = ['README.md', 'docs/QUESTIONS.md', 'docs/CLEANING.md', 'docs/FROM_HUMDRU
 EXAMPLES = [
     r'humpipe examples/soprano.hpl', r'.*upbeat\.hpl.*', r'.*syncopated\.hpl.*', r'humpipe examples/(in_e_flat|concert)\.hpl.*', r'.*untouched\.hpl.*',
     r'humpipe concert\.hpl.*', r'.*shorter\.krn.*', r"humpipe <\(echo 'out: read [a-z0-9]+\.krn.*", r"humpipe <\(echo \"out: read examples/chorale.krn \| extract -i .*",
-    r'.*carol_and_back\.krn.*', r'awk .*Isoprn.*', r'humpipe tune\.hpl', r'python3 (tune|refused|reach|corpus|stream|latin|table|octaves)\.py',
+    r'.*carol_and_back\.krn.*', r'awk .*Isoprn.*', r'humpipe tune\.hpl', r'python3 (tune|refused|reach|corpus|stream|latin|table|octaves)\.py', r'python3 -m humpipe .*',
 ]
 
 

@@ -2,7 +2,7 @@
 import random
 from fractions import Fraction
 
-from .music import Score
+from .music import read_score
 
 
 def lines_of(score):
@@ -16,7 +16,7 @@ def written(lines, end='\n'):
 def untidy(text):
     """A byte order mark, line ends of CR and LF, blank lines, tabs that align, cells that were left empty."""
     dice, lines = random.Random(text), []
-    for record in Score(text).records:
+    for record in read_score(text).records:
         line = record.text
         if record.kind != 'global' and len(record.tokens) > 1:
             how = dice.choice(['as it is', 'aligned', 'tab at the end', 'empty'])
@@ -39,7 +39,7 @@ def kind_is_seen(line):
 def joined(text):
     """Joins that follow each other in one record."""
     lines, held, joins = [], None, 0
-    for record in Score(text).records:
+    for record in read_score(text).records:
         tokens = record.tokens
         is_join = record.kind == 'interpretation' and '*v' in tokens and set(tokens) <= {'*', '*v'}
         if is_join and held is not None and tokens.index('*v') > held.index('*v'):
@@ -56,13 +56,13 @@ def joined(text):
 
 def blanks(text):
     """Blanks in place of tabs."""
-    return written(line if line.startswith('!!') else '   '.join(line.split('\t')) + '  ' for line in lines_of(Score(text)))
+    return written(line if line.startswith('!!') else '   '.join(line.split('\t')) + '  ' for line in lines_of(read_score(text)))
 
 
 def graced(text):
     """Grace notes beside the notes of other columns, whose own notes come in the next record."""
     lines, before = [], None
-    for record in Score(text).records:
+    for record in read_score(text).records:
         if before is not None and record.time is not None:
             kern = [k for k, name in enumerate(record.names) if name == '**kern']
             graces = [k for k in kern if before.tokens[k] != '.']
@@ -80,7 +80,7 @@ def graced(text):
 
 def bar_rests(text):
     """1r for each rest of a whole bar."""
-    score, lines, meter = Score(text), [], None
+    score, lines, meter = read_score(text), [], None
     barlines = [(number, record) for number, record in enumerate(score.records) if record.bar is not None]
     for number, record in enumerate(score.records):
         tokens = list(record.tokens)
@@ -107,10 +107,15 @@ def around(score, barlines, number):
 
 def faulty(text, what):
     """A note that can't be read, and its line."""
-    dice, score = random.Random(text), Score(text)
+    dice, score = random.Random(text), read_score(text)
     record, k = dice.choice(list(score.kern_tokens()))
     lines = lines_of(score)
     tokens = list(record.tokens)
     tokens[k] = what
     lines[record.line - 1] = '\t'.join(tokens)
     return written(lines), record.line
+
+
+def part(text, field):
+    """A part alone, as an edition of parts has it: without null records."""
+    return written('\t'.join(tokens) for record, tokens in read_score(text).cut(field) if not record.is_data or any(token != '.' for token in tokens))

@@ -1,4 +1,5 @@
 """A second edition of a score: stems added, pitches changed, notes divided with and without a tie, the upbeat left out."""
+import functools
 import random
 import re
 
@@ -8,6 +9,7 @@ from .scores import WRITTEN
 VALUES = {text: value for value, text in WRITTEN.items()}
 
 
+@functools.lru_cache(maxsize=None)
 def second(text, field):
     """Another edition of a score; the same one for the same score."""
     dice = random.Random(text)

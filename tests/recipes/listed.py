@@ -3,10 +3,10 @@ from math import gcd
 
 from . import answers, dirt
 from .editions import second
-from .music import Score
+from .music import read_score
 from .running import Recipe
 
-QUESTIONS, CLEANING, FROM_HUMDRUM, PYTHON = 'docs/QUESTIONS.md', 'docs/CLEANING.md', 'docs/FROM_HUMDRUM.md', 'docs/PYTHON.md'
+QUESTIONS, CLEANING, FROM_HUMDRUM, PYTHON, COMMANDS = (f'docs/{name}.md' for name in ('QUESTIONS', 'CLEANING', 'FROM_HUMDRUM', 'PYTHON', 'COMMANDS'))
 
 
 def part(old='-f 4', which=-1):
@@ -42,7 +42,7 @@ def of_part(answer, which=-1):
 
 
 def listed():
-    return readme() + questions() + cleaning() + from_humdrum() + python()
+    return readme() + questions() + cleaning() + from_humdrum() + python() + commands()
 
 
 def readme():
@@ -59,10 +59,10 @@ def questions():
         Recipe('one interval', QUESTIONS, "soprano.hpl | humpipe /dev/stdin", of_part(answers.seconds), part()),
         Recipe('grid', QUESTIONS, 'durations.hpl | awk', answers.grid),
         Recipe('leaps', QUESTIONS, 'humpipe examples/leaps.hpl', of_part(answers.leaps, 0), part('-f 1', 0), seen=data),
-        Recipe('quarters', QUESTIONS, 'quarters.hpl | awk', answers.quarters, on_grid(step), seen=data),
-        Recipe('chords', QUESTIONS, 'chords.hpl | awk', answers.chords, on_grid(step)),
+        Recipe('quarters', QUESTIONS, 'quarters.hpl | awk', answers.quarters, on_grid(step), seen=data, told=answers.odd_bars),
+        Recipe('chords', QUESTIONS, 'chords.hpl | awk', answers.chords, on_grid(step), told=answers.odd_bars),
         Recipe('outer voices', QUESTIONS, 'outer_voices.hpl | awk', lambda score: answers.outer(score, score.parts()[0], score.parts()[-1]),
-               on_grid(step, part('-f 1', 0), part('-f 4', -1)), kerns=(2, 4)),
+               on_grid(step, part('-f 1', 0), part('-f 4', -1)), told=answers.odd_bars, kerns=(2, 4)),
         Recipe('parallels', QUESTIONS, 'parallels.hpl | awk', answers.parallels, on_grid(), kerns=(2, 4)),
         Recipe('syllables', QUESTIONS, 'syllables.hpl | awk', sung(answers.syllables), on_grid(step, voice_and_words), words=True),
         Recipe('cadences', QUESTIONS, 'cadences.hpl | awk', answers.cadences, on_grid(step)),
@@ -125,15 +125,25 @@ def python():
     ]
 
 
+def commands():
+    """Two parts that were taken apart, without their null records, are put together in time."""
+    alone = ['held over splits', 'graces', 'exchanges']
+    return [
+        Recipe('parts by time', COMMANDS, 'humpipe by_time.hpl', lambda score: answers.together(score, score.parts()[0], score.parts()[-1]),
+               lambda score: {'-t 4': f'-t {step_of(score)}'}, seen=data, kerns=(2, 4), without=alone,
+               scores=lambda text, score: {'low.krn': dirt.part(text, score.parts()[0]), 'top.krn': dirt.part(text, score.parts()[-1])}),
+    ]
+
+
 def edition(answer):
     """The answer on a score and its second edition."""
-    return lambda score: answer(score, Score(second(score.source, score.parts()[0])), score.parts()[0])
+    return lambda score: answer(score, read_score(second(score.source, score.parts()[0])), score.parts()[0])
 
 
 def on_grid_of_editions(*more):
     """The step that both editions need."""
     def sets(score):
-        steps = [int(step_of(one)) for one in (score, Score(second(score.source, score.parts()[0])))]
+        steps = [int(step_of(one)) for one in (score, read_score(second(score.source, score.parts()[0])))]
         found = {'-t 8': f'-t {steps[0] * steps[1] // gcd(*steps)}'}
         for one in more:
             found.update(one(score))
@@ -147,7 +157,7 @@ def other_words(text):
 
 
 def of_words(score):
-    return answers.words(score, Score(other_words(score.source)), score.parts('**text')[0])
+    return answers.words(score, read_score(other_words(score.source)), score.parts('**text')[0])
 
 
 def sung(answer):

@@ -1,6 +1,7 @@
 """What a score says, read in plain Python: its records, where each column comes from, and when each note sounds.
 
 It shares nothing with humpipe: a recipe's answer is worked out from this. Bytes are letters of Latin-1, so that each stays what it is."""
+import functools
 import re
 from fractions import Fraction
 
@@ -42,6 +43,12 @@ class Note:
         return self.step is not None and not self.goes_on
 
 
+@functools.lru_cache(maxsize=None)
+def read_note(text):
+    """A note, read once for all places where it stands."""
+    return Note(text)
+
+
 def length(found):
     """A duration in whole notes."""
     number, divided, dots = found[1], found[2], len(found[3])
@@ -81,7 +88,7 @@ class Record:
         """The notes of a token."""
         if self.names[k] != '**kern' or not self.is_data or self.tokens[k] == '.':
             return []
-        return [Note(part) for part in self.tokens[k].split(' ')]
+        return [read_note(part) for part in self.tokens[k].split(' ')]
 
 
 def kind_of(text):
@@ -95,7 +102,7 @@ class Sound:
 
     def __init__(self, token='.', start=None, end=None):
         self.token, self.start, self.end = token, start, end
-        self.notes = [Note(part) for part in token.split(' ')] if token != '.' else []
+        self.notes = [read_note(part) for part in token.split(' ')] if token != '.' else []
 
 
 class Score:
@@ -244,3 +251,9 @@ def handed(states, places):
 
 def first_duration(record, k):
     return next((note.duration for note in record.notes(k) if note.duration is not None), None)
+
+
+@functools.lru_cache(maxsize=None)
+def read_score(text):
+    """A score, read once."""
+    return Score(text)

@@ -1,13 +1,21 @@
 """The recipes of the pages: the commands of their transcripts, and the files that these show."""
+import importlib.util
 import os
 import re
-import sys
 
 TOP = os.path.dirname(os.path.dirname(os.path.dirname(os.path.abspath(__file__))))
 SCORES = {f'examples/{name}' for name in os.listdir(os.path.join(TOP, 'examples')) if name.endswith('.krn')}
-sys.path.append(os.path.join(TOP, 'docs'))
 
-from transcripts import blocks, is_transcript, steps  # noqa: E402
+
+def docs_check():
+    """The functions of docs/check.py."""
+    spec = importlib.util.spec_from_file_location('docs_check', os.path.join(TOP, 'docs', 'check.py'))
+    module = importlib.util.module_from_spec(spec)
+    spec.loader.exec_module(module)
+    return module
+
+
+DOCS = docs_check()
 
 
 class Page:
@@ -18,8 +26,8 @@ class Page:
         with open(os.path.join(TOP, path), encoding='utf-8') as page:
             lines = page.read().split('\n')
         self.commands, files = [], {}
-        for first, block in blocks(lines):
-            for number, command, shown in steps(first, block) if is_transcript(block) else []:
+        for first, block in DOCS.blocks(lines):
+            for number, command, shown in DOCS.steps(first, block) if DOCS.is_transcript(block) else []:
                 words = command.split()
                 if words[0] == 'cat' and len(words) == 2:
                     files = dict(files, **{words[1]: ''.join(line + '\n' for line in shown)})
@@ -56,8 +64,9 @@ def files_of(command, files):
 
 
 def scores_of(texts):
-    """The scores that plans and commands read."""
+    """The scores that plans and commands read; of the examples also those that `sed` puts in the place of another."""
     found = set()
     for text in texts:
         found |= set(re.findall(r'[A-Za-z0-9_./]+\.krn', text))
+        found |= {name for name in SCORES if re.search(r'\b' + name[len('examples/'):-len('.krn')] + r'\b', text)}
     return found

@@ -75,14 +75,12 @@ class Runs:
         shutil.rmtree(self.room)
 
     def folder(self, text):
-        """The folder of a score, in which it has the name of each score of the examples; made once."""
+        """The folder of a score; made once."""
         if text not in self.folders:
             own = os.path.join(self.room, str(len(self.folders)))
             os.makedirs(os.path.join(own, 'examples'))
             os.symlink(os.path.join(self.room, 'bin', 'humpipe'), os.path.join(own, 'humpipe'))
             self.folders[text] = own, {}
-            for name in sorted(pages.SCORES):
-                self.write(text, name, text)
         return self.folders[text][0]
 
     def write(self, text, name, content):
@@ -101,7 +99,7 @@ class Runs:
         for text, score in scores:
             command, files = recipe.at(score)
             own = self.folder(text)
-            others = {name: text for name in pages.scores_of([command, *files.values()])}
+            others = dict.fromkeys(pages.scores_of([command, *files.values()]), text)
             for name, content in {**others, **files, **recipe.scores(text, score)}.items():
                 self.write(text, name, content)
             script.append(f'cd {own} && {{ {{\n{command}\n}} >out 2>told; }}\n')
@@ -124,7 +122,7 @@ class Runs:
         return found.split('\n')[:-1] if found.endswith('\n') else found.split('\n') if found else []
 
 
-def differs(recipe, text, score, found):
+def differs(recipe, score, found):
     """What is wrong with what a recipe printed, or nothing."""
     lines, told = found
     want, seen, complaint = recipe.answer(score), recipe.seen(lines), recipe.told(score)

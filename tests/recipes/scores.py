@@ -88,32 +88,36 @@ class Maker:
             self.kinds.insert(self.dice.choice([0, len(self.kinds)]), ('**harm', 0))
 
     def some_bars(self):
+        """The bars: an upbeat, a first bar without a barline, new meters, barlines in the middle of a bar, numbers that come twice."""
         dice = self.dice
-        meter = dice.choice(METERS)
-        length = Fraction(meter)
-        self.first_meter = meter
-        start, bars, number = Fraction(0), [], dice.choice([1, 1, 1, 1, 33])
-        if self.may('upbeat', 0.6):
-            eighths = int(length * 8)
-            bars.append(Bar(start, Fraction(dice.randint(1, max(1, eighths - 1)), 8), None))
-            start += bars[0].length
-        elif self.may('no first barline', 0.2):
-            bars.append(Bar(start, length, None))
-            start, number = start + length, number + 1
-        for k in range(dice.randint(1, 5)):
-            line = f'={number}' + ('-' if not bars else dice.choice(['', '', '', '', '||', ':|!|:'] if 'odd barlines' not in self.without else ['']))
-            bar = Bar(start, length, line)
+        self.first_meter = meter = dice.choice(METERS)
+        bars = self.first_bar(Fraction(meter))
+        start, number = bars[0].length if bars else Fraction(0), dice.choice([1, 1, 1, 1, 33])
+        for _ in range(dice.randint(1, 5)):
+            bar = Bar(start, Fraction(meter), f'={number}' + ('-' if not bars else self.barline(['', '', '', '', '||', ':|!|:'])))
             if bars and self.may('new meter', 0.15):
-                meter = dice.choice(METERS)
-                bar.length = length = Fraction(meter)
-                bar.meter = meter
+                bar.meter = meter = dice.choice(METERS)
+                bar.length = Fraction(meter)
+            start += bar.length
             bars.append(bar)
-            if length > Fraction(1, 4) and self.may('odd barlines', 0.15):
-                bar.length = Fraction(dice.randint(1, int(length * 8) - 1), 8)
-                bars.append(Bar(start + bar.length, length - bar.length, dice.choice(['=:|!', '=||', '=|!:', '=:|!|:'])))
-            start += length
+            if bar.length > Fraction(1, 4) and self.may('odd barlines', 0.15):
+                bars.append(self.rest_of_bar(bar))
             number += 0 if self.may('odd barlines', 0.05) else 1
         return bars
+
+    def first_bar(self, length):
+        if self.may('upbeat', 0.6):
+            return [Bar(Fraction(0), Fraction(self.dice.randint(1, max(1, int(length * 8) - 1)), 8), None)]
+        return [Bar(Fraction(0), length, None)] if self.may('no first barline', 0.2) else []
+
+    def barline(self, ends):
+        return self.dice.choice(ends) if 'odd barlines' not in self.without else ''
+
+    def rest_of_bar(self, bar):
+        """Divides a bar by a barline without a number."""
+        end = bar.start + bar.length
+        bar.length = Fraction(self.dice.randint(1, int(bar.length * 8) - 1), 8)
+        return Bar(bar.start + bar.length, end - bar.start - bar.length, self.dice.choice(['=:|!', '=||', '=|!:', '=:|!|:']))
 
     def stretches(self, bar):
         """The voices of a part in a bar."""
@@ -132,56 +136,68 @@ class Maker:
 
     def rhythm(self, start, whole):
         """A voice that fills this time."""
-        dice, at, voice = self.dice, Fraction(0), []
         if self.may('bar rests', self.resting) and whole in WRITTEN:
             return [Event(start, whole)]
+        at, voice = Fraction(0), []
         while at < whole:
-            left = whole - at
-            for group in Fraction(1, 2), Fraction(1, 4), Fraction(1, 8):
-                if self.has_triplets and group <= left and dice.random() < 0.1:
-                    third = group / 3
-                    parts = dice.choice([[third] * 3, [2 * third, third], [third, 2 * third]])
-                    if all(part in WRITTEN for part in parts):
-                        for part in parts:
-                            voice.append(Event(start + at, part))
-                            at += part
-                        break
-            else:
-                fits = [d for d in WRITTEN if d <= left and d % self.shortest == 0 and d <= 1]
-                if not fits:
-                    fits = [left]
-                duration = dice.choice(fits)
+            for duration in self.triplet(whole - at) or [self.duration(whole - at)]:
                 voice.append(Event(start + at, duration))
                 at += duration
         return voice
 
+    def triplet(self, most):
+        """Three thirds, or one and two, of a half, a quarter or an eighth; seldom."""
+        for group in Fraction(1, 2), Fraction(1, 4), Fraction(1, 8):
+            if self.has_triplets and group <= most and self.dice.random() < 0.1:
+                third = group / 3
+                parts = self.dice.choice([[third] * 3, [2 * third, third], [third, 2 * third]])
+                if all(part in WRITTEN for part in parts):
+                    return parts
+        return None
+
+    def duration(self, most):
+        return self.dice.choice([one for one in WRITTEN if one <= min(most, 1) and one % self.shortest == 0] or [most])
+
     def pitch(self, part):
         """Gives a part its notes, ties and graces."""
-        dice, before = self.dice, None
-        height = 28 + self.levels[part]
+        self.height, before = 28 + self.levels[part], None
         for bar in self.bars:
             for stretch in bar.stretches[part]:
-                for number, voice in enumerate(stretch.voices):
-                    for k, event in enumerate(voice):
-                        if number == 0 and k == 0 and len(stretch.voices) > 1 and before is not None and before.at + before.duration == event.at \
-                                and self.may('held over splits', 0.6) and before.duration + event.duration in WRITTEN and stretch.start > bar.start:
-                            before.duration += event.duration
-                            event.is_held, event.pitches = True, before.pitches
-                            continue
-                        is_tied = number == 0 and before is not None and before.pitches and self.has_ties and dice.random() < 0.15
-                        if is_tied:
-                            before.tie, event.tie, event.pitches = {'': '[', ']': '_'}[before.tie], ']', before.pitches
-                        elif dice.random() < 0.85 or 'rests' in self.without:
-                            height = min(max(height + dice.choice([-7, -4, -3, -2, -1, -1, -1, 0, 0, 1, 1, 1, 2, 3, 4, 7, 8]), 10), 48)
-                            event.pitches = [self.spelled(height)]
-                            if self.has_chords and dice.random() < 0.2:
-                                event.pitches += [self.spelled(height + more) for more in dice.choice([[2], [4], [2, 4], [7]])]
-                        if self.has_graces and dice.random() < 0.1:
-                            event.graces = [self.grace(height + dice.choice([-1, 1, 2])) for _ in range(dice.randint(1, 2))]
-                        if number == 0:
-                            before = event if event.pitches or event.tie else None
-                    if number == 0 and len(stretch.voices) > 1 and stretch is not bar.stretches[part][-1]:
-                        before = None
+                before = self.first_voice(stretch.voices[0], before, stretch.start > bar.start and len(stretch.voices) > 1)
+                for voice in stretch.voices[1:]:
+                    for event in voice:
+                        self.note(event)
+                        self.graces(event)
+                if len(stretch.voices) > 1 and stretch is not bar.stretches[part][-1]:
+                    before = None
+
+    def first_voice(self, voice, before, may_hold):
+        """The left voice, which may go on under a split from the event before, and has ties."""
+        for k, event in enumerate(voice):
+            goes_on = before is not None and before.at + before.duration == event.at
+            if may_hold and k == 0 and goes_on and before.duration + event.duration in WRITTEN and self.may('held over splits', 0.6):
+                before.duration += event.duration
+                event.is_held, event.pitches = True, before.pitches
+                continue
+            if before is not None and before.pitches and self.has_ties and self.dice.random() < 0.15:
+                before.tie, event.tie, event.pitches = {'': '[', ']': '_'}[before.tie], ']', before.pitches
+            else:
+                self.note(event)
+            self.graces(event)
+            before = event if event.pitches else None
+        return before
+
+    def note(self, event):
+        """A note, a chord or a rest, mostly near the note before."""
+        dice = self.dice
+        if dice.random() < 0.85 or 'rests' in self.without:
+            self.height = min(max(self.height + dice.choice([-7, -4, -3, -2, -1, -1, -1, 0, 0, 1, 1, 1, 2, 3, 4, 7, 8]), 10), 48)
+            others = dice.choice([[2], [4], [2, 4], [7]]) if self.has_chords and dice.random() < 0.2 else []
+            event.pitches = [self.spelled(self.height + more) for more in [0] + others]
+
+    def graces(self, event):
+        if self.has_graces and self.dice.random() < 0.1:
+            event.graces = [self.grace(self.height + self.dice.choice([-1, 1, 2])) for _ in range(self.dice.randint(1, 2))]
 
     def spelled(self, step):
         octave, letter = divmod(step, 7)

@@ -9,7 +9,7 @@ import subprocess
 import sys
 import tempfile
 
-TOP = os.path.dirname(os.path.dirname(os.path.abspath(__file__)))
+TOP = os.path.dirname(os.path.dirname(os.path.dirname(os.path.abspath(__file__))))
 TITLES = {
     'two_bars': ('Two bars of a song', 'Notes on a staff in three-four time with one flat: f, a and b flat under a slur, c; then a half note a, and f. '
                  'The words are: Row me over, fer-'),
