@@ -101,7 +101,7 @@ early:
 		command -v rt >/dev/null || { echo 'no program at humpipe, and no rt to make it: say DOCS=no'; echo '0 passed, 1 failed'; exit 1; }; \
 		mkdir -p bench/data && program=bench/data/unproved && python3 bench/unproved.py --fast "$$program" >/dev/null || exit 1; \
 	fi; \
-	python3 tests/check.py "$$program" && python3 docs/check.py "$$program"
+	python3 tests/proved.py && python3 tests/check.py "$$program" && python3 docs/check.py "$$program"
 
 edits:
 	@python3 tests/edits.py --lanes $(LANES)
