@@ -14,7 +14,8 @@ from typing import Any
 from . import plot
 from .corpora import Summary, corpus
 from .faults import Error, Fault, Missing, OutOfTime, PlanFault, RunError
-from .many import Outcome, map
+from .many import Outcome
+from .many import map as map
 from .program import program_version
 from .running import Text, run
 from .scores import Record, records

@@ -5,8 +5,7 @@ from typing import Callable, Dict, Iterator, List, Mapping, NamedTuple, Optional
 from .faults import Error, Fault, Missing, PlanFault, RunError
 from .links import links_of
 from .plans import STANDARD_INPUT, Stage, branches, quoted
-from .program import ended
-from .running import ERRORS, Plan, Scores, call_of, plan_bytes, run
+from .running import ERRORS, Plan, Scores, plan_bytes, run
 from .scores import KINDS, PATHS, Column, Columns, whole_lines
 
 
