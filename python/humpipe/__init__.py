@@ -22,7 +22,7 @@ from .scores import Record, records
 from .show import page
 from .tables import Table, frame, table
 
-__version__ = '1.0.0'
+__version__ = '1.1.0'
 # `map` isn't among them: `from humpipe import *` leaves Python's own
 __all__ = ['Error', 'Fault', 'Missing', 'OutOfTime', 'Outcome', 'PlanFault', 'Record', 'RunError', 'Summary', 'Table', 'Text', 'corpus', 'frame', 'page',
            'plot', 'program_version', 'records', 'run', 'table']
