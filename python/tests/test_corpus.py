@@ -2,6 +2,7 @@
 import json
 import os
 import random
+import shutil
 import signal
 import subprocess
 import sys
@@ -129,6 +130,12 @@ class Table(Corpora):
         self.assertEqual((status, written), (2, '6 scores, 2 refused, 2 could not be run\n'))
         self.assertEqual(error, 'humpipe: dangling.krn: No such file or directory\nhumpipe: pipe.krn: is no file\n')
         self.assertEqual(rows(self.into)['pipe.krn'], ['2', '-', '-', '-', 'is no file'])
+
+    @unittest.skipUnless(shutil.which('bash'), 'no bash')
+    def test_a_plan_of_the_shell(self):
+        words = ['bash', '-c', '"$0" -m humpipe corpus <(echo "$1") "$2" --into "$3"', sys.executable, FROM_STDIN, str(self.scores), str(self.into)]
+        ended = subprocess.run(words, env=surroundings(), stdout=subprocess.PIPE, text=True)
+        self.assertEqual((ended.returncode, ended.stdout), (1, '4 scores, 2 refused\n'))
 
     def test_a_program_with_a_blank_in_its_path(self):
         os.symlink(surroundings()['HUMPIPE'], self.write('a b/x', '').parent / 'hum pipe')
