@@ -79,7 +79,8 @@ def _head(title: str, story: Story, refused: Optional[Refused], all_groups: List
                      '<label>Find <input id="find" type="search" autocomplete="off" spellcheck="false"></label> '
                      '<output id="found"></output> <button type="button" id="fold">Fold all</button> '
                      '<button type="button" id="unfold">Unfold all</button></form>'
-                     '<p class="help">Each colour is one spine. The same row is the same record, as it goes through the stages. '
+                     '<p class="help">Each colour is one spine, and its number the field where it was read: 2/2 is the second column of spine 2, 2+ a spine '
+                     'that was added to it. What stands in one row is one record, as it goes through the stages. '
                      '<span class="keys">Arrow keys move, a click or Enter holds a record.</span></p>')
     return ''.join(parts) + '</header>'
 

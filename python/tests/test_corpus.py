@@ -123,6 +123,16 @@ class Table(Corpora):
         self.assertEqual(len(results_below(self.into)), 10)
         self.assertEqual(shown('a\u2028b\u202e'), 'a\\u2028b\\u202e')
 
+    def test_a_result_that_can_t_be_made(self):
+        words = self.plan, self.scores, '--into', self.into
+        self.ends(*words)
+        shutil.rmtree(self.into / '1')
+        (self.into / '1').write_text('no folder')
+        status, written, error = self.ends(*words)
+        self.assertEqual((status, written), (2, '4 scores, 2 refused, 3 as before, 1 could not be run\n'))
+        self.assertRegex(error, r'^humpipe: 1/a.krn: its result: .*\n$')
+        self.assertEqual(rows(self.into)['1/a.krn'][:4], ['2', '-', '-', '-'])
+
     def test_what_can_t_be_run_is_told(self):
         os.symlink('nowhere', self.scores / 'dangling.krn')
         os.mkfifo(self.scores / 'pipe.krn')
