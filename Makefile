@@ -124,8 +124,8 @@ plots: $(needed)
 	for plot in intervals contour rhythms reach; do \
 		(cd "$$room" && gnuplot examples/plots/$$plot.gp) >docs/plots/$$plot.svg || exit 1; echo docs/plots/$$plot.svg; done
 
-# A program that isn't there is left out.
-has = command -v $(1) >/dev/null ||
+# A program that isn't there is left out, and told.
+has = command -v $(1) >/dev/null || ! echo 'left out: $(1)' ||
 lint:
 	@$(call has,groff) exit 0; test -z "$$(LC_ALL=C.UTF-8 groff -ww -man -Tutf8 -z man/humpipe.1 2>&1 | tee /dev/stderr)"
 	@$(call has,man) exit 0; test -z "$$(LC_ALL=C.UTF-8 man --warnings -l -Tutf8 -Z man/humpipe.1 2>&1 >/dev/null | tee /dev/stderr)"

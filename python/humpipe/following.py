@@ -110,7 +110,7 @@ class Story:
         else:
             panel.takes = takes(stage, [first_names(one.text) for one in inputs])
             panel.roots = [tuple(root for place, field in fields for root in inputs[place].roots[field - 1]) for fields in panel.takes]
-            panel.links = links_of(stage, [one.text for one in inputs], panel.text)
+            panel.links = links_of(stage, [one.text for one in inputs], panel.text, self.encoding)
         panel.rows = list(rows(panel))
         return panel
 

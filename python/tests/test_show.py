@@ -143,6 +143,12 @@ class Pages(Runs):
         self.assertEqual([row['to'] for row in found.panels[2]], ['r3-1', 'r3-3', 'r3-4', 'r3-5', None, 'r3-7', 'r3-8'])
         self.assertEqual([row['to'] for row in found.panels[5]], ['r6-1', None, None, 'r6-2', 'r6-3', 'r6-4', 'r6-5', 'r6-6'])
 
+    def test_latin_1(self):
+        score = self.write('a.krn', '**text\ncafé\nthé\n*-\n'.encode('latin-1'))
+        text = page("out: read /dev/stdin | yank -o 't' -r 1", score, encoding='latin-1')
+        self.assertIn('>café<', text)
+        self.assertEqual([row['to'] for row in Elements(text).panels[1]], ['r2-1', None, 'r2-2', 'r2-3'])
+
     def test_colours_of_a_cleaved_spine(self):
         score = self.write('a.krn', '**kern\t**text\t**kern\n4c\tla\t4e\n*-\t*-\t*-\n')
         found = Elements(page("out: read /dev/stdin | cleave -i '**kern' -o '**chord' -d ''", score))
