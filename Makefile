@@ -8,7 +8,7 @@
 #   make edits      tries the edits alone, over what rt check has proved
 #   make bench      times and peak memory beside other programs on the same score
 #   make install    the program, its man page, the manual (docs/) and completions, into PREFIX=/usr/local
-#   make dist       a release in dist/: a tarball, a Debian package and their checksums
+#   make dist       a release in dist/: a tarball, a Debian package, a Python wheel and its source, an extension for Visual Studio Code, and checksums
 #   make dist-test  installs them in fresh folders, and runs them there
 #   make rows       runs the rows of tests/ with the program
 #   make faults     runs small pipelines with it, while one call for memory, read, write or opened file after the other fails

@@ -225,7 +225,8 @@ def wheel(checks, dist, room):
         checks.leave_out('the wheel', 'no venv: ' + text.strip().split('\n')[-1])
         return
     interpreter = os.path.join(venv, 'bin', 'python')
-    checks.ends_well('pip install of the wheel', interpreter, '-m', 'pip', 'install', '-q', '--no-index', '--disable-pip-version-check', files[0], env={'HOME': room})
+    checks.ends_well('pip install of the wheel', interpreter, '-m', 'pip', 'install', '-q', '--no-index', '--disable-pip-version-check', files[0],
+                     env={'HOME': room})
     python(checks, 'wheel', interpreter, room)
     runs_first_pipeline(checks, 'wheel', linked(os.path.join(room, 'by-wheel'), os.path.join(venv, 'bin', 'humpipe')))
     checks.ends_well('pip check', interpreter, '-m', 'pip', 'check', env={'HOME': room})
@@ -247,7 +248,7 @@ def extension(checks, dist):
         types = xml.etree.ElementTree.fromstring(archive.read('[Content_Types].xml'))
         contributes = json.loads(archive.read('extension/package.json'))['contributes']
     named = {one.get('Path') for one in manifest.iter() if one.tag.endswith('Asset')}
-    named |= {'extension/' + one.get(key, '')[2:] for one in contributes['languages'] + contributes['grammars'] for key in ('path', 'configuration') if key in one}
+    named |= {'extension/' + one[key][2:] for one in contributes['languages'] + contributes['grammars'] for key in ('path', 'configuration') if key in one}
     checks.tell('vsix: what it names', named <= names, str(named - names))
     ends = {one.get('Extension') for one in types}
     checks.tell('vsix: kinds of files', {os.path.splitext(name)[1] for name in names - {'[Content_Types].xml'}} <= ends, str(ends))
@@ -319,7 +320,8 @@ def by_debootstrap(checks, file, room):
                      env={'DEBIAN_FRONTEND': 'noninteractive'})
     runs_first_pipeline(checks, 'in a new Debian', linked(os.path.join(root, 'tmp', 'first'), '/usr/bin/humpipe'), root)
     shows_page(checks, 'in a new Debian', 'chroot', root, 'man', 'humpipe')
-    code = "import humpipe; assert humpipe.run('out: read a', {'a': '**a\\n*-\\n'}) == '**a\\n*-\\n'; import importlib.metadata; print(importlib.metadata.version('humpipe'))"
+    code = ("import humpipe, importlib.metadata; assert humpipe.run('out: read a', {'a': '**a\\n*-\\n'}) == '**a\\n*-\\n'; "
+            "print(importlib.metadata.version('humpipe'))")
     text = checks.ends_well('in a new Debian: python', 'chroot', root, 'python3', '-c', code)
     checks.tell('in a new Debian: version', text.strip() == version(), text)
     checks.ends_well('apt-get purge', 'chroot', root, 'apt-get', 'purge', '-y', 'humpipe', env={'DEBIAN_FRONTEND': 'noninteractive'})

@@ -45,7 +45,7 @@ settle() {
 # The tree of the release: what the tarball has.
 grow() {
     mkdir "$tree"
-    (cd "$top" && tracked | grep -v '^docs/check.py$\|^python/make_codes.py$' | tar -c --no-recursion -T -) | tar -x -C "$tree"
+    (cd "$top" && tracked | grep -v "^docs/.*\.py$\|^python/make_codes.py$" | tar -c --no-recursion -T -) | tar -x -C "$tree"
     cp "$program" "$tree/humpipe"
     strip=$(command -v strip || true)
     [ -z "$strip" ] || "$strip" --strip-unneeded "$tree/humpipe"

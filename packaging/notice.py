@@ -7,7 +7,6 @@ the kit; of MIT and Apache, MIT is taken."""
 import os
 import re
 import subprocess
-import sys
 
 from made import write_or_check
 

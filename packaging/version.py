@@ -15,6 +15,7 @@ PLACES = [
     ('CITATION.cff', r'(^version: )(\S+)($)'),
     ('python/humpipe/__init__.py', r"(^__version__ = ')([^']*)(')"),
     ('editors/vscode/package.json', r'(^  "version": ")([^"]*)(")'),
+    ('docs/PYTHON.md', r'(humpipe-)([0-9][0-9.]*[0-9])(-py3)'),
     ('README.md', r'(humpipe-)([0-9][0-9.]*[0-9])(-linux)'),
     ('README.md', r'(humpipe_)([0-9][0-9.]*[0-9])(_amd64)'),
 ]

@@ -14,14 +14,15 @@ from typing import Any
 from . import plot
 from .corpora import Summary, corpus
 from .faults import Error, Fault, Missing, OutOfTime, PlanFault, RunError
-from .many import Outcome, map
+from .many import Outcome
+from .many import map as map
 from .program import program_version
 from .running import Text, run
 from .scores import Record, records
 from .show import page
 from .tables import Table, frame, table
 
-__version__ = '1.0.0'
+__version__ = '1.1.0'
 # `map` isn't among them: `from humpipe import *` leaves Python's own
 __all__ = ['Error', 'Fault', 'Missing', 'OutOfTime', 'Outcome', 'PlanFault', 'Record', 'RunError', 'Summary', 'Table', 'Text', 'corpus', 'frame', 'page',
            'plot', 'program_version', 'records', 'run', 'table']

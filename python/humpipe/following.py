@@ -5,8 +5,7 @@ from typing import Callable, Dict, Iterator, List, Mapping, NamedTuple, Optional
 from .faults import Error, Fault, Missing, PlanFault, RunError
 from .links import links_of
 from .plans import STANDARD_INPUT, Stage, branches, quoted
-from .program import ended
-from .running import ERRORS, Plan, Scores, call_of, plan_bytes, run
+from .running import ERRORS, Plan, Scores, plan_bytes, run
 from .scores import KINDS, PATHS, Column, Columns, whole_lines
 
 
@@ -111,7 +110,7 @@ class Story:
         else:
             panel.takes = takes(stage, [first_names(one.text) for one in inputs])
             panel.roots = [tuple(root for place, field in fields for root in inputs[place].roots[field - 1]) for fields in panel.takes]
-            panel.links = links_of(stage, [one.text for one in inputs], panel.text)
+            panel.links = links_of(stage, [one.text for one in inputs], panel.text, self.encoding)
         panel.rows = list(rows(panel))
         return panel
 

@@ -27,13 +27,14 @@ class Group(NamedTuple):
 def groups(panels: List[Panel], refused: Optional[Refused]) -> List[Group]:
     """The rows of the page, by the bars of the first panel."""
     order, rows_at = _placed(panels)
+    has_bars = _has_bars(panels[0])
     found: List[Group] = [Group('start', [])]
     for key in order:
         rows = rows_at[key]
         label = _bar(panels[0].rows[rows[0]]) if 0 in rows else None
         if label is not None:
             found.append(Group(label, []))
-        elif len(found[-1].lines) >= LARGEST_GROUP and not _has_bars(panels[0]):
+        elif len(found[-1].lines) >= LARGEST_GROUP and not has_bars:
             found.append(Group(f'from line {panels[0].rows[rows[0]].line}' if 0 in rows else 'more', []))
         has_step = any(panels[place].rows[index].after is not None for place, index in rows.items())
         has_fault = refused is not None and any(panels[place] is refused.panel and panels[place].rows[index].line == refused.line

@@ -16,25 +16,26 @@ ONE_FOR_ONE = ('context', 'ditto', 'mint', 'recip', 'semits')
 Links = Dict[int, List[int]]
 
 
-def links_of(stage: Stage, texts: List[str], given: str) -> List[Links]:
+def links_of(stage: Stage, texts: List[str], given: str, encoding: str = 'utf-8') -> List[Links]:
     """For each text that a stage read, the lines of what it gave that come of each line."""
     lines, made = [whole_lines(text) for text in texts], whole_lines(given)
     if stage.command == 'assemble':
-        return _assembled(lines, made)
+        return _assembled(lines, made, encoding)
     if stage.command in ONE_FOR_ONE:
         return [{line: [line] for line in range(1, len(made) + 1)}]
     if stage.command == 'rid':
         return [_kept(list(enumerate(lines[0], 1)), list(enumerate(made, 1)))]
     if stage.command == 'trans':
         return [_with_one_more(lines[0], made)]
-    return [_numbered(stage, lines[0], made) if '-l' in stage.options else _marked(stage, lines[0], made)]
+    of = _numbered if '-l' in stage.options else _marked
+    return [of(stage, lines[0], made, encoding)]
 
 
-def _assembled(texts: List[List[str]], made: List[str]) -> List[Links]:
+def _assembled(texts: List[List[str]], made: List[str], encoding: str) -> List[Links]:
     """What assemble puts where doesn't depend on tokens, so their score and line stand in their place; what changes spines stands as it is."""
     plan = ''.join(f'p{place}: read in{place}\n' for place in range(len(texts))) + 'out: assemble ' + ' '.join(f'p{place}' for place in range(len(texts)))
     scores = {f'in{place}': ''.join(_labelled(place, line, whole) + '\n' for line, whole in enumerate(lines, 1)) for place, lines in enumerate(texts)}
-    told = _told(plan, scores)
+    told = _told(plan, scores, encoding)
     if len(told) != len(made):
         return [{} for _ in texts]
     found: List[Links] = [{} for _ in texts]
@@ -95,14 +96,14 @@ def _with_one_more(lines: List[str], made: List[str]) -> Links:
     return found
 
 
-def _numbered(stage: Stage, lines: List[str], made: List[str]) -> Links:
+def _numbered(stage: Stage, lines: List[str], made: List[str], encoding: str) -> Links:
     """For `yank -l`, which doesn't look at tokens: their line stands in their place."""
     def numbered(line: int, whole: str) -> str:
         if whole.startswith('!!'):
             return f'!!{line}'
         return whole if whole.startswith('*') else '\t'.join(('!' if token.startswith('!') else '') + str(line) for token in whole.split('\t'))
 
-    told = _answer(stage, [numbered(line, whole) for line, whole in enumerate(lines, 1)])
+    told = _answer(stage, [numbered(line, whole) for line, whole in enumerate(lines, 1)], encoding)
     if len(told) != len(made):
         return {}
     steps = iter(line for line, whole in enumerate(lines, 1) if whole.startswith('*'))
@@ -113,9 +114,9 @@ def _numbered(stage: Stage, lines: List[str], made: List[str]) -> Links:
     return found
 
 
-def _marked(stage: Stage, lines: List[str], made: List[str]) -> Links:
+def _marked(stage: Stage, lines: List[str], made: List[str], encoding: str) -> Links:
     """What stands after each mark comes of the records that stood after it."""
-    told = _answer(stage, list(_with_marks(lines)))
+    told = _answer(stage, list(_with_marks(lines)), encoding)
     groups: Dict[int, List[Tuple[int, str]]] = {0: []}
     number = after = 0
     for whole in told:
@@ -167,13 +168,13 @@ def _with_marks(lines: List[str]) -> Iterator[str]:
             width += tokens.count('*^') + tokens.count('*+') - tokens.count('*-') - joins
 
 
-def _answer(stage: Stage, lines: List[str]) -> List[str]:
-    return _told(f'out: read in0 | {stage.text}\n', {'in0': ''.join(line + '\n' for line in lines)})
+def _answer(stage: Stage, lines: List[str], encoding: str) -> List[str]:
+    return _told(f'out: read in0 | {stage.text}\n', {'in0': ''.join(line + '\n' for line in lines)}, encoding)
 
 
-def _told(plan: str, scores: Dict[str, str]) -> List[str]:
+def _told(plan: str, scores: Dict[str, str], encoding: str) -> List[str]:
     """The lines of a plan's output, as far as it goes."""
     try:
-        return whole_lines(run(plan, scores))
+        return whole_lines(run(plan, scores, encoding=encoding))
     except Error as error:
         return whole_lines(error.text)

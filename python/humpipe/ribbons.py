@@ -30,7 +30,8 @@ class Style:
     def label(self, thread: Thread) -> str:
         """What a thread is called: its field where it was read, with a letter for the source if there are several."""
         names = [self._root(root) for root in thread.roots]
-        return ('+'.join(names) if len(names) < 4 else f'{names[0]}..{names[-1]}') + ('+' * (thread.added > 0)) + (str(thread.added) if thread.added > 1 else '')
+        added = '' if not thread.added else '+' if thread.added == 1 else f'+{thread.added}'
+        return ('+'.join(names) if len(names) < 4 else f'{names[0]}..{names[-1]}') + added
 
     def _root(self, root: Root) -> str:
         letter = chr(ord('a') + root.source % 26) if self._sources > 1 else ''
@@ -84,7 +85,8 @@ def strip(style: Style, widths: Widths, row: Row, stage: int) -> str:
     labels = ''.join(f'<i class="{style.name(cell.thread)}" style="left:calc({100 * sum(widths[:place]) / sum(widths):.3f}% + 7px)">'
                      f'{style.label(cell.thread)}{f"/{cell.part}" if cell.part > 1 else ""}</i>' for place, (cell, _) in enumerate(row.after))
     words = '; '.join(_words(row, place, cell, sources) for place, (cell, sources) in enumerate(row.after)) or 'no spine goes on'
-    return (f'<tr class="strip"><th></th><td colspan="{len(widths)}"><svg viewBox="0 0 {sum(widths)} 10" preserveAspectRatio="none" aria-hidden="true">{ribbons}</svg>'
+    return (f'<tr class="strip"><th></th><td colspan="{len(widths)}">'
+            f'<svg viewBox="0 0 {sum(widths)} 10" preserveAspectRatio="none" aria-hidden="true">{ribbons}</svg>'
             f'{labels}<span class="vh">After this record: {words}.</span></td></tr>')
 
 

@@ -79,7 +79,8 @@ def _head(title: str, story: Story, refused: Optional[Refused], all_groups: List
                      '<label>Find <input id="find" type="search" autocomplete="off" spellcheck="false"></label> '
                      '<output id="found"></output> <button type="button" id="fold">Fold all</button> '
                      '<button type="button" id="unfold">Unfold all</button></form>'
-                     '<p class="help">Each colour is one spine. The same row is the same record, as it goes through the stages. '
+                     '<p class="help">Each colour is one spine, and its number the field where it was read: 2/2 is the second column of spine 2, 2+ a spine '
+                     'that was added to it. What stands in one row is one record, as it goes through the stages. '
                      '<span class="keys">Arrow keys move, a click or Enter holds a record.</span></p>')
     return ''.join(parts) + '</header>'
 
@@ -159,7 +160,8 @@ def _by_branch(story: Story, panels: List[str]) -> List[str]:
     found = []
     for name, stages in story.branches:
         inner = ''.join(panels[stage.number - 1] for stage in stages)
-        found.append(f'<section class="branch" aria-label="branch {_text(name)}"><div class="branch-name">{_text(name)}:</div><div class="panels">{inner}</div></section>')
+        found.append(f'<section class="branch" aria-label="branch {_text(name)}"><div class="branch-name">{_text(name)}:</div>'
+                     f'<div class="panels">{inner}</div></section>')
     return found
 
 
@@ -194,10 +196,12 @@ class _Panel:
         bodies = ''.join(self.group(index, group) for index, group in enumerate(all_groups))
         same = self.same()
         button = f'<button type="button" class="same" aria-expanded="false">as {same}</button>' if same else ''
-        return (f'<section class="panel{" closed" if same else ""}" id="s{self.number}" aria-labelledby="h{self.number}">{button}<h2 id="h{self.number}"><span class="number">{self.number}</span> '
-                f'<code>{_text(self.panel.stage.text)}</code></h2><p class="takes">{self.takes()}</p>'
+        return (f'<section class="panel{" closed" if same else ""}" id="s{self.number}" aria-labelledby="h{self.number}">{button}'
+                f'<h2 id="h{self.number}"><span class="number">{self.number}</span> <code>{_text(self.panel.stage.text)}</code></h2>'
+                f'<p class="takes">{self.takes()}</p>'
                 f'<table style="width:calc({sum(self.widths)}ch + 5ch)"><caption>Stage {self.number}, {_text(self.panel.stage.command)}: '
-                f'{count} record{"s" * (count != 1)}</caption><colgroup><col style="width:5ch">{columns}</colgroup>{self.labels()}{bodies}{self.end()}</table></section>')
+                f'{count} record{"s" * (count != 1)}</caption><colgroup><col style="width:5ch">{columns}</colgroup>'
+                f'{self.labels()}{bodies}{self.end()}</table></section>')
 
     def same(self) -> int:
         """The number of an earlier stage that reads the same score, or 0."""
@@ -270,7 +274,8 @@ class _Panel:
         to = self.forward.get(row.line)
         number = f'<a href="#{to}" tabindex="-1">{row.line}</a>' if to else str(row.line)
         if row.kind == 'global comment':
-            cells = (f'<td colspan="{len(self.widths)}" class="{self.style.layout(self.widths, self.layout)}"><span class="over">{_text(row.tokens[0])}</span></td>')
+            across = f'colspan="{len(self.widths)}" class="{self.style.layout(self.widths, self.layout)}"'
+            cells = f'<td {across}><span class="over">{_text(row.tokens[0])}</span></td>'
         else:
             cells = ''.join(self.cell(cell, token, place, place in bad) for place, (cell, token) in enumerate(zip(row.cells, row.tokens)))
             rest = len(self.widths) - len(row.cells)
@@ -289,7 +294,8 @@ class _Panel:
         meaning = CODES.get(fault.rule, '').partition('. ')[0]
         if fault.rule == 'P2' and refused.raw:
             meaning += f': {refused.raw.count(chr(9)) + 1} and {len(self.layout)}'
-        return (f'<tr class="callout" id="{_fault_id(refused)}" style="height:calc(3*var(--h))"><th>✕</th><td colspan="{len(self.widths)}"><div><b>{fault.rule}</b> '
+        return (f'<tr class="callout" id="{_fault_id(refused)}" style="height:calc(3*var(--h))"><th>✕</th>'
+                f'<td colspan="{len(self.widths)}"><div><b>{fault.rule}</b> '
                 f'stage {fault.stage} ({fault.command}) refuses this line: {_with_code(meaning)}.</div></td></tr>')
 
     def end(self) -> str:
@@ -299,7 +305,8 @@ class _Panel:
             return ''
         raw = '<span class="tab">⇥</span>'.join(f'<code{" class=bad" if place in refused.places else ""}>{_text(token)}</code>'
                                                 for place, token in enumerate(refused.raw.split('\t'))) if refused.raw else 'the end'
-        return (f'<tbody><tr class="row refused" tabindex="-1"><th scope="row">{refused.line}</th><td colspan="{len(self.widths) or 1}" class="raw">{raw}</td></tr>'
+        return (f'<tbody><tr class="row refused" tabindex="-1"><th scope="row">{refused.line}</th>'
+                f'<td colspan="{len(self.widths) or 1}" class="raw">{raw}</td></tr>'
                 f'{self.callout(refused)}</tbody>')
 
 

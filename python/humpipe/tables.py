@@ -1,5 +1,4 @@
 """The data of scores as tables: a row for each data record, a column for each spine."""
-import os
 import re
 import warnings
 from functools import lru_cache

@@ -6,6 +6,10 @@ PACKAGES = ('pytest', 'pandas', 'tqdm', 'matplotlib', 'distributed', 'nbclient',
 BARE = 'HUMPIPE_BARE'
 
 
+# with the variable it is said of tests that neither need nor touch these packages that they ran before
+SEEN = os.environ.get(BARE)
+
+
 class _Hidden:
     """Finds none of these packages."""
 
@@ -18,5 +22,5 @@ class _Hidden:
 if os.environ.get('HUMPIPE'):
     # tests go to other folders
     os.environ['HUMPIPE'] = os.path.abspath(os.environ['HUMPIPE'])
-if os.environ.get(BARE):
+if SEEN:
     sys.meta_path.insert(0, _Hidden)

@@ -1,6 +1,6 @@
 #!/usr/bin/env python3
-"""stress.py PROGRAM [SCORES]: a corpus of 10,000 scores, of which 200 are refused, whose run is killed at five moments, by kill -9 of the run, of workers and of
-programs, and goes on each time. In the end each score must be in the table once, and each result what a run of its own gives. Not part of the tests:
+"""stress.py PROGRAM [SCORES]: a corpus of 10,000 scores, of which 200 are refused, whose run is killed at five moments, by kill -9 of the run, of workers and
+of programs, and goes on each time. In the end each score must be in the table once, and each result what a run of its own gives. Not part of the tests:
 it takes some minutes."""
 import os
 import random

@@ -2,10 +2,12 @@
 import json
 import os
 import random
+import shutil
 import signal
 import subprocess
 import sys
 import time
+import unittest
 from collections import Counter
 from concurrent.futures import ProcessPoolExecutor
 from pathlib import Path
@@ -13,6 +15,7 @@ from pathlib import Path
 import humpipe
 from humpipe.folders import shown
 
+from . import SEEN
 from .support import FROM_STDIN, MINT, SCORE, Runs, surroundings
 
 BROKEN = '**kern\n4c4e\n*-\n'
@@ -60,11 +63,15 @@ class Table(Corpora):
         self.assertEqual((self.into / '1/a.krn').read_text(), MINT)
 
     def test_what_isn_t_wanted_is_not_run(self):
-        for words, told in ((self.plan, self.scores, '--into', self.scores), 'lie in each other'), ((self.plan, self.scores, '--into', self.scores / 'new'), 'lie in each other'), \
-                ((self.plan, self.scores / '1', '--into', self.folder), 'lie in each other'), ((self.plan, self.folder / 'gone', '--into', self.into), 'No such file'), \
-                ((self.plan, self.scores / '1', self.scores, '--into', self.into, '--name', 'nothing'), 'no scores'), \
-                ((self.plan, self.scores / '1/a.krn', self.scores / '1', '--into', self.into), 'one result'), \
-                ((self.folder / 'gone', self.scores, '--into', self.into), 'No such file'), ((self.plan, self.scores, '--into', self.folder), 'lie in each other'):
+        for words, told in (
+                ((self.plan, self.scores, '--into', self.scores), 'lie in each other'),
+                ((self.plan, self.scores, '--into', self.scores / 'new'), 'lie in each other'),
+                ((self.plan, self.scores / '1', '--into', self.folder), 'lie in each other'),
+                ((self.plan, self.scores, '--into', self.folder), 'lie in each other'),
+                ((self.plan, self.folder / 'gone', '--into', self.into), 'No such file'),
+                ((self.folder / 'gone', self.scores, '--into', self.into), 'No such file'),
+                ((self.plan, self.scores / '1', self.scores, '--into', self.into, '--name', 'nothing'), 'no scores'),
+                ((self.plan, self.scores / '1/a.krn', self.scores / '1', '--into', self.into), 'one result')):
             status, written, error = self.ends(*words)
             self.assertEqual((status, written), (2, ''), words)
             self.assertIn(told, error)
@@ -116,6 +123,16 @@ class Table(Corpora):
         self.assertEqual(len(results_below(self.into)), 10)
         self.assertEqual(shown('a\u2028b\u202e'), 'a\\u2028b\\u202e')
 
+    def test_a_result_that_can_t_be_made(self):
+        words = self.plan, self.scores, '--into', self.into
+        self.ends(*words)
+        shutil.rmtree(self.into / '1')
+        (self.into / '1').write_text('no folder')
+        status, written, error = self.ends(*words)
+        self.assertEqual((status, written), (2, '4 scores, 2 refused, 3 as before, 1 could not be run\n'))
+        self.assertRegex(error, r'^humpipe: 1/a.krn: its result: .*\n$')
+        self.assertEqual(rows(self.into)['1/a.krn'][:4], ['2', '-', '-', '-'])
+
     def test_what_can_t_be_run_is_told(self):
         os.symlink('nowhere', self.scores / 'dangling.krn')
         os.mkfifo(self.scores / 'pipe.krn')
@@ -123,6 +140,12 @@ class Table(Corpora):
         self.assertEqual((status, written), (2, '6 scores, 2 refused, 2 could not be run\n'))
         self.assertEqual(error, 'humpipe: dangling.krn: No such file or directory\nhumpipe: pipe.krn: is no file\n')
         self.assertEqual(rows(self.into)['pipe.krn'], ['2', '-', '-', '-', 'is no file'])
+
+    @unittest.skipUnless(shutil.which('bash'), 'no bash')
+    def test_a_plan_of_the_shell(self):
+        words = ['bash', '-c', '"$0" -m humpipe corpus <(echo "$1") "$2" --into "$3"', sys.executable, FROM_STDIN, str(self.scores), str(self.into)]
+        ended = subprocess.run(words, env=surroundings(), stdout=subprocess.PIPE, text=True)
+        self.assertEqual((ended.returncode, ended.stdout), (1, '4 scores, 2 refused\n'))
 
     def test_a_program_with_a_blank_in_its_path(self):
         os.symlink(surroundings()['HUMPIPE'], self.write('a b/x', '').parent / 'hum pipe')
@@ -205,13 +228,14 @@ class GoesOn(Corpora):
             self.assertEqual(first.communicate()[0], '104 scores, 2 refused\n')
 
 
+@unittest.skipIf(SEEN, 'run above')
 class Killed(Corpora):
     """Runs that something ends, on a few hundred scores; `stress.py` does the same on many."""
 
     def setUp(self):
         super().setUp()
         self.chance = random.Random(5)
-        for k in range(300):
+        for k in range(200):
             self.write(f'scores/3/{k:03}.krn', SCORE.replace('8a', self.chance.choice(['8a', '8f', '4c4e'])))
         self.words = self.plan, self.scores, '--into', self.into, '--jobs', '2'
 
@@ -254,7 +278,7 @@ class Killed(Corpora):
                 _, told = run.communicate(timeout=30)
             self.assertEqual((run.returncode, told), (128 + number, 'humpipe: stopped; the same command goes on from here\n'))
             table = rows(self.into)
-            self.assertEqual(len(table), 304)
+            self.assertEqual(len(table), 204)
             self.assertEqual(sorted(name for name in table if table[name][0] == '0'), results_below(self.into))
             self.assertIn(['-', '-', '-', '-', 'not run yet'], table.values())
         self.check_all()
@@ -279,9 +303,9 @@ class Killed(Corpora):
         with ProcessPoolExecutor(2) as executor:
             os.kill(executor.submit(os.getpid).result(), signal.SIGKILL)
             summary = humpipe.corpus(self.plan, [self.scores], self.into, executor=executor)
-        self.assertEqual((summary.status, summary.scores), (2, 304))
+        self.assertEqual((summary.status, summary.scores), (2, 204))
         self.assertTrue(summary.failed)
-        self.assertEqual(len(rows(self.into)), 304)
+        self.assertEqual(len(rows(self.into)), 204)
         with ProcessPoolExecutor(2) as executor:
             summary = humpipe.corpus(self.plan, [self.scores], self.into, executor=executor)
         self.assertEqual((summary.status, summary.failed), (1, []))

@@ -14,6 +14,7 @@ from humpipe.following import Story
 from humpipe.scores import PATHS
 from humpipe.show import page
 
+from . import SEEN
 from .support import Runs, made_score, surroundings
 
 CHROMIUM = next((found for found in map(shutil.which, ('chromium', 'chromium-browser', 'google-chrome')) if found), None)
@@ -72,7 +73,7 @@ class Pages(Runs):
     def test_each_cell_is_on_the_spine_that_extract_keeps(self):
         chance = random.Random(2)
         compared = 0
-        for _ in range(40):
+        for _ in range(28):
             score = made_score(chance, 40)
             plan = "out: read /dev/stdin | rid -G | ditto -s x"
             found = Elements(page(plan, self.write('a.krn', score)))
@@ -93,7 +94,7 @@ class Pages(Runs):
     def test_a_thread_goes_from_panel_to_panel_and_so_does_a_record(self):
         chance = random.Random(3)
         followed = 0
-        for _ in range(25):
+        for _ in range(15):
             score = made_score(chance, 40)
             width = score.split('\n')[0].count('\t') + 1
             fields = sorted(chance.sample(range(1, width + 1), chance.randint(1, width)))
@@ -113,7 +114,7 @@ class Pages(Runs):
                         there = tokens[row['to']]
                         self.assertTrue(there <= tokens[row['id']] or number in (3, 6), (row, there))
                         self.assertTrue(there & tokens[row['id']] or not there)
-        self.assertGreater(followed, 2000)
+        self.assertGreater(followed, 1000)
 
     def test_the_last_panel_is_what_the_program_writes(self):
         for name in ('chords', 'leaps', 'editions', 'notes_only', 'quarters'):
@@ -141,6 +142,12 @@ class Pages(Runs):
         self.assertEqual([row['to'] for row in found.panels[1]], [f'r2-{line}' for line in (1, 3, 4, 5, 6, 7)])
         self.assertEqual([row['to'] for row in found.panels[2]], ['r3-1', 'r3-3', 'r3-4', 'r3-5', None, 'r3-7', 'r3-8'])
         self.assertEqual([row['to'] for row in found.panels[5]], ['r6-1', None, None, 'r6-2', 'r6-3', 'r6-4', 'r6-5', 'r6-6'])
+
+    def test_latin_1(self):
+        score = self.write('a.krn', '**text\ncafé\nthé\n*-\n'.encode('latin-1'))
+        text = page("out: read /dev/stdin | yank -o 't' -r 1", score, encoding='latin-1')
+        self.assertIn('>café<', text)
+        self.assertEqual([row['to'] for row in Elements(text).panels[1]], ['r2-1', None, 'r2-2', 'r2-3'])
 
     def test_colours_of_a_cleaved_spine(self):
         score = self.write('a.krn', '**kern\t**text\t**kern\n4c\tla\t4e\n*-\t*-\t*-\n')
@@ -178,7 +185,8 @@ class Pages(Runs):
 
     def test_a_score_that_is_written_to_the_command(self):
         plan = self.write('p.hpl', 'out: read /dev/stdin | mint')
-        shown = subprocess.run([sys.executable, '-m', 'humpipe', 'show', str(plan)], input=FAULTY.encode(), env=surroundings(), stdout=subprocess.PIPE, check=True)
+        words = [sys.executable, '-m', 'humpipe', 'show', str(plan)]
+        shown = subprocess.run(words, input=FAULTY.encode(), env=surroundings(), stdout=subprocess.PIPE, check=True)
         self.assertIn('stage 2 (mint), line 3: K1', shown.stdout.decode())
 
 
@@ -224,7 +232,7 @@ class Faults(Runs):
         self.assertEqual(shown, page(plan, self.score))
 
 
-@unittest.skipUnless(CHROMIUM, 'no chromium')
+@unittest.skipUnless(CHROMIUM and not SEEN, 'run above' if SEEN else 'no chromium')
 class Browser(Runs):
     """What a browser makes of it."""
 
@@ -232,7 +240,8 @@ class Browser(Runs):
       const box = one => { const { left, right, top, bottom } = one.getBoundingClientRect(); return [left, right, top, bottom].map(Math.round); };
       const panels = [...document.querySelectorAll('.panel')].map(panel => [...panel.querySelectorAll('tr.row[id]')].map(row => ({
         id: row.id, to: row.querySelector('th a') ? row.querySelector('th a').getAttribute('href').slice(1) : null, box: box(row),
-        cells: [...row.querySelectorAll('td.t')].map(cell => ({ thread: cell.dataset.thread, colour: getComputedStyle(cell).getPropertyValue('--c'), text: cell.textContent, box: box(cell) })) })));
+        cells: [...row.querySelectorAll('td.t')].map(cell => ({
+          thread: cell.dataset.thread, colour: getComputedStyle(cell).getPropertyValue('--c'), text: cell.textContent, box: box(cell) })) })));
       const row = document.querySelector('tr.row.barline[id]');
       if (row) row.click();
       const press = key => document.activeElement.dispatchEvent(new KeyboardEvent('keydown', { key, bubbles: true }));
@@ -250,7 +259,8 @@ class Browser(Runs):
     def probe(self, plan, score):
         text = page(plan, self.write('a.krn', score)) + self.PROBE
         path = self.write('page.html', text)
-        words = [CHROMIUM, '--headless', '--no-sandbox', '--disable-gpu', f'--user-data-dir={self.folder}/profile', '--window-size=1600,1200', '--dump-dom', f'file://{path}']
+        words = [CHROMIUM, '--headless', '--no-sandbox', '--disable-gpu', f'--user-data-dir={self.folder}/profile', '--window-size=1600,1200',
+                 '--dump-dom', f'file://{path}']
         shown = subprocess.run(words, stdout=subprocess.PIPE, stderr=subprocess.DEVNULL, timeout=120).stdout.decode()
         found = re.search(r'<pre id="probe">(.*?)</pre>', shown, re.S)
         self.assertTrue(found, shown[-2000:])
