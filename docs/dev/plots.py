@@ -16,10 +16,10 @@ TITLES = {
     'intervals': ('Melodic intervals of the soprano', 'Bars from the largest step down to the largest up: 3 minor seconds and 9 major seconds down, '
                   '3 unisons, 1 minor second, 4 major seconds, 1 minor third, 1 major third and 1 fourth up.'),
     'contour': ('The voices of the chorale', 'Four lines as steps over eight bars, with their names at their ends. The soprano is highest where bar 7 '
-                'begins, at d5; the bass lowest in the last bars, at d2.'),
+                'begins, at D5; the bass lowest before bar 8, at D2.'),
     'rhythms': ('Rhythms of the right hand', 'Bars: 4 halves, 6 quarters, 1 eighth, 1 eighth rest, 9 notes of triplets.'),
-    'reach': ('The reach of each hand, bar by bar', 'For each of six bars a box from the lowest to the highest note. The left hand goes from d2 '
-              'to e4, the right hand from e4 to a5.'),
+    'reach': ('The reach of each hand, bar by bar', 'For each of six bars a box from the lowest to the highest note. The left hand goes from D2 '
+              'to E4, the right hand from E4 to A5.'),
 }
 
 
@@ -37,8 +37,9 @@ def drawn(name, folder):
 
 
 def described(picture, title, description):
-    """A picture with its title and description, on white."""
+    """A picture with its title and description, and no other title for a screen reader, on white."""
     picture = re.sub(r'<desc>.*?</desc>\n?', '', picture, flags=re.S)
+    picture = re.sub(r'(<g id="gnuplot_plot_\d+" >)<title>.*?</title>', r'\1', picture)
     picture = re.sub(r'<title>.*?</title>', f'<title>{title}</title>\n<desc>{description}</desc>', picture, count=1, flags=re.S)
     picture = picture.replace('<svg ', '<svg role="img" ', 1)
     if 'gnuplot' not in picture[:2000].lower():

@@ -92,7 +92,7 @@ def bar_rests(text):
             is_first = not any(other.time is not None for other in score.records[first:number])
             for k, token in enumerate(tokens):
                 notes = record.notes(k)
-                if is_first and notes and notes[0].is_rest and notes[0].duration == meter and (meter < 1 or not is_steered):
+                if is_first and notes and notes[0].is_rest and notes[0].duration == meter and (meter < 1 or score.records[first].bar is not None and not is_steered):
                     tokens[k] = token.replace(notes[0].written, '1', 1)
         lines.append('\t'.join(tokens))
     return written(lines)

@@ -1,4 +1,5 @@
 """The recipes of the pages with their answers."""
+import re
 from math import gcd
 
 from . import answers, dirt
@@ -53,7 +54,7 @@ def readme():
 
 
 def questions():
-    step = step_in_command()
+    step, alone = step_in_command(), ['inner exchanges']
     return [
         Recipe('intervals', QUESTIONS, 'soprano.hpl | grep -v', of_part(answers.intervals), part()),
         Recipe('one interval', QUESTIONS, "soprano.hpl | humpipe /dev/stdin", of_part(answers.seconds), part()),
@@ -62,11 +63,11 @@ def questions():
         Recipe('quarters', QUESTIONS, 'quarters.hpl | awk', answers.quarters, on_grid(step), seen=data, told=answers.odd_bars),
         Recipe('chords', QUESTIONS, 'chords.hpl | awk', answers.chords, on_grid(step), told=answers.odd_bars),
         Recipe('outer voices', QUESTIONS, 'outer_voices.hpl | awk', lambda score: answers.outer(score, score.parts()[0], score.parts()[-1]),
-               on_grid(step, part('-f 1', 0), part('-f 4', -1)), told=answers.odd_bars, kerns=(2, 4)),
+               on_grid(step, part('-f 1', 0), part('-f 4', -1)), told=answers.odd_bars, kerns=(2, 4), without=alone),
         Recipe('parallels', QUESTIONS, 'parallels.hpl | awk', answers.parallels, on_grid(), kerns=(2, 4)),
-        Recipe('syllables', QUESTIONS, 'syllables.hpl | awk', sung(answers.syllables), on_grid(step, voice_and_words), words=True),
+        Recipe('syllables', QUESTIONS, 'syllables.hpl | awk', sung(answers.syllables), on_grid(step, voice_and_words), words=True, without=alone),
         Recipe('cadences', QUESTIONS, 'cadences.hpl | awk', answers.cadences, on_grid(step)),
-        Recipe('phrases', QUESTIONS, 'phrases.hpl | awk', of_part(answers.phrases), on_grid(step, part())),
+        Recipe('phrases', QUESTIONS, 'phrases.hpl | awk', of_part(answers.phrases), on_grid(step, part()), without=alone),
         Recipe('bars', QUESTIONS, 'humpipe examples/tenor.hpl', lambda score: answers.passage(score, score.parts()[0], *some_bars(score)),
                lambda score: {'-f 2': f'-f {score.parts()[0]}', '-r 5-6': '-r {}-{}'.format(*some_bars(score))}, seen=data),
         Recipe('section', QUESTIONS, 'humpipe examples/section_b.hpl', lambda score: answers.section(score, score.parts()[-1], 'B'), part(), seen=data),
@@ -74,16 +75,19 @@ def questions():
         Recipe('three durations', QUESTIONS, 'three_durations.hpl | grep', of_part(answers.without_chords), part('-f 1'),
                told=of_part(answers.with_chords)),
         Recipe('reach', QUESTIONS, 'compass.hpl | humpipe /dev/stdin', lambda score: answers.reach(score, score.parts()[0])),
+        Recipe('reach of the right hand', QUESTIONS, "sed 's/$/ | extract -f 2/' examples/compass.hpl", lambda score: answers.reach(score, score.parts()[1]), kerns=(2, 2)),
         Recipe('pitch classes', QUESTIONS, 'pitch_classes.hpl | awk', answers.classes, on_grid(old=24)),
-        Recipe('table', QUESTIONS, 'notes.hpl < examples/carol.krn | awk', of_part(answers.table), part(), output='notes.tsv'),
-        Recipe('notes by bar', QUESTIONS, ['notes.hpl < examples/carol.krn | awk', 'awk -f bars.awk'], of_part(answers.struck_by_bar), part()),
+        Recipe('table', QUESTIONS, 'notes.hpl < examples/carol.krn | awk', of_part(answers.table), part(), output='notes.tsv', without=alone),
+        Recipe('table of exchanged columns', QUESTIONS, 'notes.hpl < examples/carol.krn | awk', lambda score: [], part(), seen=lambda lines: [],
+               heard=without_lines, told=of_part(exchanged)),
+        Recipe('notes by bar', QUESTIONS, ['notes.hpl < examples/carol.krn | awk', 'awk -f bars.awk'], of_part(answers.struck_by_bar), part(), without=alone),
         Recipe('transposed', QUESTIONS, 'humpipe examples/in_e_flat.hpl | head', lambda score: answers.transposed(score, 6, 10)[:12]),
         Recipe('there and back', QUESTIONS, 'examples/there_and_back.hpl >', answers.there_and_back, output='there_and_back.krn'),
-        Recipe('editions', QUESTIONS, 'editions.hpl | awk', edition(answers.editions), on_grid_of_editions(part('-f 1', 0)),
+        Recipe('editions', QUESTIONS, 'editions.hpl | awk', edition(answers.editions), on_grid_of_editions(part('-f 1', 0)), without=alone,
                scores=lambda text, score: {'examples/song_second.krn': second(text, score.parts()[0])}),
         Recipe('words of editions', QUESTIONS, "words.hpl | awk", of_words, lambda score: {'-t 8': f'-t {step_of(score)}', '-f 2': '-f {}'.format(score.parts('**text')[0])},
                scores=lambda text, score: {'examples/song_second.krn': other_words(text)}, words=True),
-        Recipe('where', QUESTIONS, 'steps.hpl', lambda score: answers.where(score, ['examples/chorale.krn', 'examples/carol.krn']), kerns=(1, 4), without=['first is no part']),
+        Recipe('where', QUESTIONS, 'steps.hpl', lambda score: answers.where(score, ['examples/chorale.krn', 'examples/carol.krn']), ),
     ]
 
 
@@ -98,7 +102,8 @@ def cleaning():
                scores=lambda text, score: {'many.krn': score.source + text}),
         Recipe('blanks', CLEANING, 'blanks.krn > tabs.krn', dirt.lines_of, scores=given('blanks.krn', dirt.blanks), output='tabs.krn', without=['chords']),
         Recipe('joins', CLEANING, 'joined.krn > apart.krn', dirt.lines_of, scores=given('joined.krn', dirt.joined), output='apart.krn', kerns=(2, 4)),
-        Recipe('bar rests', CLEANING, 'rests.krn > mended.krn', dirt.lines_of, scores=given('rests.krn', dirt.bar_rests), output='mended.krn', resting=0.6),
+        Recipe('bar rests', CLEANING, 'rests.krn > mended.krn', dirt.lines_of, scores=given('rests.krn', dirt.bar_rests), output='mended.krn', resting=0.6,
+               without=['short bars']),
         Recipe('graces', CLEANING, 'grace.krn > graced.krn', dirt.lines_of, scores=given('grace.krn', dirt.graced), output='graced.krn', kerns=(2, 4)),
         Recipe('proof', CLEANING, 'for file in folder', proofs,
                scores=lambda text, score: {'folder/a.krn': dirt.faulty(text, '04c')[0], 'folder/b.krn': dirt.faulty(text, '4cd')[0], 'folder/c.krn': text}),
@@ -121,13 +126,13 @@ def python():
         Recipe('two voices of a part', PYTHON, 'python3 tenors.py', lambda score: answers.divided(score, score.parts()[0]),
                lambda score: {'spine == 2': f'spine == {score.parts()[0]}'}, without=['Latin-1']),
         Recipe('intervals in pandas', PYTHON, 'python3 intervals.py', of_part(answers.sorted_intervals), part(), without=['Latin-1', 'splits']),
-        Recipe('leaps in pandas', PYTHON, 'python3 bass_leaps.py', of_part(answers.octaves_of_bass, 0), part('-f 1', 0), without=['Latin-1']),
+        Recipe('leaps in pandas', PYTHON, 'python3 bass_leaps.py', of_part(answers.octaves_of_bass, 0), part('-f 1', 0), without=['Latin-1', 'inner exchanges']),
     ]
 
 
 def commands():
     """Two parts that were taken apart, without their null records, are put together in time."""
-    alone = ['held over splits', 'graces', 'exchanges']
+    alone = ['held over splits', 'graces', 'exchanges', 'inner exchanges']
     return [
         Recipe('parts by time', COMMANDS, 'humpipe by_time.hpl', lambda score: answers.together(score, score.parts()[0], score.parts()[-1]),
                lambda score: {'-t 4': f'-t {step_of(score)}'}, seen=data, kerns=(2, 4), without=alone,
@@ -185,3 +190,13 @@ def proofs(score):
     """What is told of a wrong duration, a wrong pitch, and the score itself."""
     duration, pitch = dirt.faulty(score.source, '04c')[1], dirt.faulty(score.source, '4cd')[1]
     return [f'folder/a.krn\thumpipe: stage 4 (recip), line {duration}: K3', f'folder/b.krn\thumpipe: stage 2 (semits), line {pitch}: K1', 'folder/c.krn\tvalid']
+
+
+def exchanged(score, field):
+    """What is told where two columns of a part change places."""
+    is_so = any([own for token, own in zip(record.tokens, record.fields) if token == '*x'] == [field, field] for record in score.records)
+    return 'humpipe: stage N (cleave), line N: C1' if is_so else ''
+
+
+def without_lines(told):
+    return [re.sub(r'(stage|line) \d+', r'\1 N', line) for line in told]

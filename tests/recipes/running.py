@@ -15,13 +15,13 @@ class Recipe:
 
     `sets` makes of a score the texts to be replaced in plans and commands, as a reader would: the field, the step of the grid.
     Each of them must be there. `answer` gives the lines that the last command has to print, or write to `output`; `seen` those of them
-    that count, `told` what it has to tell. `scores` are scores beside the one that is read under every other name."""
+    that count, `told` what it has to tell, as `heard` makes it. `scores` are scores beside the one that is read under every other name."""
 
-    def __init__(self, name, page, parts, answer, sets=None, seen=None, told=None, scores=None, output='out', **wishes):
+    def __init__(self, name, page, parts, answer, sets=None, seen=None, told=None, heard=None, scores=None, output='out', **wishes):
         self.name, self.page = name, page
         self.parts = [parts] if isinstance(parts, str) else parts
         self.answer, self.sets, self.seen = answer, sets or (lambda score: {}), seen or (lambda lines: lines)
-        self.told = told or (lambda score: '')
+        self.told, self.heard = told or (lambda score: ''), heard or (lambda lines: lines)
         self.scores = scores or (lambda text, score: {})
         self.output, self.wishes = output, wishes
         self.replaced = {}
@@ -124,7 +124,7 @@ class Runs:
 
 def differs(recipe, score, found):
     """What is wrong with what a recipe printed, or nothing."""
-    lines, told = found
+    lines, told = found[0], recipe.heard(found[1])
     want, seen, complaint = recipe.answer(score), recipe.seen(lines), recipe.told(score)
     is_told = '\n'.join(told) == complaint
     if seen == want and is_told:

@@ -102,6 +102,9 @@ class Maker:
             bars.append(bar)
             if bar.length > Fraction(1, 4) and self.may('odd barlines', 0.15):
                 bars.append(self.rest_of_bar(bar))
+                if self.may('short bars', 0.3):
+                    number += 1
+                    bars[-1].line = f'={number}:|!'
             number += 0 if self.may('odd barlines', 0.05) else 1
         return bars
 

@@ -112,6 +112,8 @@ class Writer:
                 for stretch in bar.stretches[part]:
                     if stretch.start == time:
                         self.split(part, len(stretch.voices))
+                    elif stretch.start < time < stretch.end and len(stretch.voices) > 1 and self.maker.may('inner exchanges', 0.1):
+                        self.exchange(next(k for k, column in enumerate(self.columns) if column[0] == self.place(part)))
             self.moment(bar, time)
         for part in parts:
             self.late.append((part, len(bar.stretches[part][-1].voices)))

@@ -4,7 +4,8 @@ import copy
 # the recipe, what is replaced in its commands and plans, and why that is wrong
 WRONG = [
     ('one interval', {r"tr '\t' '\n' | grep -c '^[-+]M2$'": 'grep -c M2'}, 'it counts the meter *M2/4'),
-    ('reach', {"grep -v '^[*!=]'": "grep '^[-.0-9]'"}, 'it drops records whose first column is a rest'),
+    ('reach of the right hand', {"sed 's/$/ | extract -f 2/' examples/compass.hpl | humpipe /dev/stdin | grep -v '^[*!=]'":
+                                 "humpipe examples/compass.hpl | grep '^[-.0-9]' | cut -f 2-"}, 'it drops records whose first column is a rest'),
     ('quarters', {'-t 8': '-t 4', ' | awk -v step=8 -v beat=4 -f examples/beats.awk': ''}, 'the grid begins with the upbeat'),
     ('intervals', {r"tr '\t' '\n' | grep '[0-9]'": r"grep -v '^\.'"}, 'it counts a record of a part that divides as one'),
     ('cadences', {'/;/': '/;[^ )]*$/'}, 'it misses a fermata under a slur'),
