@@ -45,12 +45,16 @@ class Function:
         return self.path, self.owner, self.name, self.lines[0]
 
     def is_named(self, told):
-        """Whether a check means it by this name: crate::module::Type::function, where a trait's name may stand behind the type's."""
+        """Whether a check means it by this name: crate::module::function, or crate::module::Type::function, where the module is that of the type, and a
+        trait's name may stand behind the type's."""
         _, *modules = told.split('::')
+        if modules[-1].split('{')[0] != self.name:
+            return False
+        if self.owner:
+            return len(modules) > 1 and modules[-2].startswith(self.owner)
         module = re.sub(r'^src/|\.rt$', '', self.path).split('/')
         module = [it for it in module if it not in ('lib', 'main', 'mod')]
-        begins = modules[: len(module)] == module and modules[-1].split('{')[0] == self.name
-        return begins and (not self.owner or len(modules) < len(module) + 2 or modules[-2].startswith(self.owner))
+        return modules[: len(module)] == module
 
     def holds(self, told, path, line):
         """Whether an error at this place is one of this function, whose name in the check is `told`."""
