@@ -3,6 +3,7 @@ import os
 import threading
 from concurrent.futures import Executor, Future
 from functools import lru_cache, partial
+from multiprocessing.util import Finalize
 from queue import SimpleQueue
 from tempfile import TemporaryDirectory
 from typing import Any, Callable, Dict, Generator, Iterable, Iterator, NamedTuple, Optional, Sized, TypeVar
@@ -129,9 +130,11 @@ def kept_file(text: bytes) -> str:
         return os.path.join(_kept_folder(text).name, 'plan.hpl')
 
 
-@lru_cache(maxsize=256)
+@lru_cache(maxsize=None)
 def _kept_folder(text: bytes) -> 'TemporaryDirectory[str]':
     folder = TemporaryDirectory(prefix='humpipe-')
+    # at the end of this process, be it one of a pool or not
+    Finalize(None, folder.cleanup, exitpriority=0)
     with open(os.path.join(folder.name, 'plan.hpl'), 'xb') as file:
         file.write(text)
     return folder

@@ -145,6 +145,22 @@ class Many(Runs):
         self.assertEqual([outcome.text for outcome in humpipe.map(pipe, [self.score] * 3)], [MINT] * 3)
         writer.wait()
 
+    def test_no_file_is_left(self):
+        code = textwrap.dedent('''
+            import sys, humpipe
+            from concurrent.futures import ProcessPoolExecutor
+            plan = 'out: read /dev/stdin | mint'
+            with ProcessPoolExecutor(2) as executor:
+                list(humpipe.map(plan, [sys.argv[1]] * 20, executor=executor))
+            list(humpipe.map(plan, [sys.argv[1]] * 20))
+            humpipe.run(plan, sys.argv[1])
+            list(humpipe.records(plan=plan, scores={'/dev/stdin': open(sys.argv[1]).read()}))
+        ''')
+        room = self.folder / 'room'
+        room.mkdir()
+        subprocess.run([sys.executable, '-c', code, self.score], env=surroundings(TMPDIR=str(room)), check=True)
+        self.assertEqual(os.listdir(room), [])
+
     def test_a_pipe_can_be_given_up(self):
         pipe = str(self.folder / 'pipe')
         os.mkfifo(pipe)
