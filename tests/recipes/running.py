@@ -64,7 +64,8 @@ class Runs:
     """The folders of scores, one for each, in which recipes are run."""
 
     def __init__(self, program):
-        self.room = tempfile.mkdtemp(prefix='humpipe-recipes-')
+        # many small files: in memory, where there is such a folder
+        self.room = tempfile.mkdtemp(prefix='humpipe-recipes-', dir='/dev/shm' if os.access('/dev/shm', os.W_OK) else None)
         os.mkdir(os.path.join(self.room, 'bin'))
         os.symlink(os.path.abspath(program), os.path.join(self.room, 'bin', 'humpipe'))
         self.surroundings = dict(os.environ, LC_ALL='C.UTF-8', HOME=self.room, PATH=os.path.join(self.room, 'bin') + os.pathsep + os.environ['PATH'],

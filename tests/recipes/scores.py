@@ -93,7 +93,7 @@ class Maker:
         self.first_meter = meter = dice.choice(METERS)
         bars = self.first_bar(Fraction(meter))
         start, number = bars[0].length if bars else Fraction(0), dice.choice([1, 1, 1, 1, 33])
-        for _ in range(dice.randint(1, 5)):
+        for _ in range(dice.randint(1, 4)):
             bar = Bar(start, Fraction(meter), f'={number}' + ('-' if not bars else self.barline(['', '', '', '', '||', ':|!|:'])))
             if bars and self.may('new meter', 0.15):
                 bar.meter = meter = dice.choice(METERS)
