@@ -13,11 +13,11 @@ fn check_moves(rt: &impl Abort, found: &Moves, want: &[Move]) {
     same(rt, found.is_empty(), want.is_empty(), "no spines");
     for (i, from) in want.iter().enumerate() {
         if i < found.len() {
-            same(rt, found.get(i), *from, i);
+            holds(rt, found.get(i) == *from, "where a spine comes from");
         }
     }
     if let Some(listed) = found.as_listed() {
-        same(rt, listed, want, "a list");
+        holds(rt, listed == want, "a list");
     }
 }
 
