@@ -1,4 +1,4 @@
 -- What is said of the program.
 pub mod Files
 pub mod Endings
-pub mod Program
+pub mod Drives

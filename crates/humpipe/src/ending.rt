@@ -1,9 +1,6 @@
 //! How the program ends: its status, and the line that it tells.
 ghost use Rattle.std.specs.Prelude.{◌≡◌, Some};
-ghost use Rattle.hum_turns.specs.declared.result.RunResult.TheVariants as ends;
-ghost use Rattle.hum_net.specs.declared.outcome.Outcome.TheVariants as outcome;
 ghost use Rattle.humpipe.specs.Endings.{status_of, line_of};
-ghost use Rattle.humpipe.specs.declared.ending.Ending.TheVariants.{Outcome};
 
 use hum_net::{Outcome, RunResult};
 use std::fmt;
@@ -21,9 +18,7 @@ pub enum Ending {
 
 impl Ending {
     /// There was no memory.
-    pub fn memory() -> Ending
-        ensures { result ≡ Outcome (outcome.Run ends.Memory) }
-    {
+    pub fn memory() -> Ending {
         Ending::Outcome(Outcome::Run(RunResult::Memory))
     }
 

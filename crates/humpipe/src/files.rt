@@ -1,64 +1,68 @@
-//! Files by their names: plans, and the scores that plans read.
-ghost use Rattle.std.specs.Prelude.{◌≡◌, Bool, ℕ, List, Option, true, false};
-ghost use Rattle.humpipe.specs.Files.{IsOpened};
+//! Runs of plans whose scores are files.
+ghost use Rattle.std.specs.Prelude.{◌≡◌, ◌≤◌, ◌||◌, true, length, IfOk, IfErr};
+ghost use Rattle.hum_turns.specs.Ordering.{order_of};
+ghost use Rattle.hum_plan.specs.Stages.{IsTree, reads_of};
+ghost use Rattle.hum_net.specs.Bundles.{is_refused, is_failed_write};
+ghost use Rattle.humpipe.specs.Files.{IsOneShut, MayCome, Picks};
 
-use hum_net::Scores;
-use hum_text::calls::Marked;
-use std::fs;
-use std::io::{self, Read};
+use hum_net::{Order, Outcome, Plan, PlanError, RunResult, parse_plan, run_stages};
+use hum_text::calls::{Marked, Sink};
+use std::fs::{self, File};
 
-/// Where files are opened by their names.
-pub trait FileSystem {
-    /// What an open file is.
-    type File: Read + Drop;
-
-    // whether it is known which files there are, and what they hold
-    ghost is_known: { Self → Bool };
-    // the bytes of the file of a name, where there is one
-    ghost file: { Self → List ℕ → Option (List ℕ) };
-
-    /// Opens a file to be read.
-    fn open(&self, name: &str) -> io::Result<Self::File>
-        ensures { is_known self.now ≡ true → IsOpened Self.File.remaining (file self.now name.now) result };
-}
-
-/// The files of the machine, of which nothing is known.
-#[derive(Drop)]
-pub struct HostFiles<'a> {
-    pub rt: &'a HostRuntime,
-}
-
-impl<'a> FileSystem for HostFiles<'a> {
-    type File = fs::File;
-
-    ghost use Rattle.std.specs.Prelude.{false, None};
-
-    ghost is_known = { λ _. false };
-
-    ghost file = { λ _ name. None };
-
-    fn open(&self, name: &str) -> io::Result<fs::File> {
-        fs::open(self.rt, name)
-    }
-}
-
-/// The scores that files are.
-#[derive(Drop)]
-pub struct FileScores<'a, F> {
-    pub files: &'a F,
-}
-
-impl<'a, F: FileSystem> Scores for FileScores<'a, F> {
-    type Reader = Marked<F::File>;
-
-    ghost is_known = { λ s. F.is_known s.files.now };
-
-    ghost score = { λ s. F.file s.files.now };
-
-    fn reader(&self, name: &str) -> Option<Marked<F::File>> {
-        match self.files.open(name) {
-            Ok(file) => Some(Marked::new(file)),
-            Err(_) => None,
+/// The opened file of each stage that reads a score, in their order.
+///
+/// # Errors
+/// What the run ends with: the first stage whose file doesn't open, or running out of memory.
+fn open_all(rt: &HostRuntime, plan: &Plan) -> Result<Vec<Marked<File>>, Outcome>
+    requires { IsTree plan.now }
+    ensures count { IfOk result (λ readers. length (reads_of plan.now) ≡ length readers.items) }
+    ensures shut { IfErr result (IsOneShut plan.now) }
+{
+    let mut readers = Vec::new(rt.alloc());
+    for k in 0..plan.reads() {
+        let Ok(file) = fs::open(rt, plan.file(k)) else {
+            return Err(Outcome::NoScore(plan.read_stage(k)));
+        };
+        if readers.push(Marked::new(file)).is_err() {
+            return Err(Outcome::Run(RunResult::Memory));
         }
     }
+    Ok(readers)
+}
+
+/// Runs a plan over files, with links that hold so many records. The writer is handed back with how
+/// it ended.
+pub fn run_files<O: Order, W: Sink + Drop>(
+    rt: &HostRuntime,
+    plan: &[u8],
+    link: u16,
+    order: &mut O,
+    writer: W,
+) -> (Outcome, W)
+    requires link { 1 ≤ link }
+    requires room { link ≤ 4096 }
+
+    // A text that is no plan is refused by its first fault, and else a stage whose file doesn't open;
+    // then the writer and the order are as they were.
+    ensures comes { MayCome plan.now result.0 }
+    ensures refused { is_refused result.0 ≡ true
+        → (result.1 ≡ writer) × (order.new ≡ order.old) }
+
+    // The turns are those that the order picked, over links of this size, to the run's end.
+    ensures picked { Picks (order_of O.Order) plan.now link order.old order.new result.0 }
+
+    // A failed write or flush is told exactly where one set the writer's mark.
+    ensures marked { W.failed result.1 ≡ (W.failed writer || is_failed_write result.0) }
+{
+    let plan = match parse_plan(rt.alloc(), plan) {
+        Ok(plan) => plan,
+        Err(PlanError::Fault(fault)) => return (Outcome::Plan(fault), writer),
+        Err(PlanError::Memory) => return (Outcome::Run(RunResult::Memory), writer),
+    };
+    let readers = match open_all(rt, &plan) {
+        Ok(readers) => readers,
+        Err(outcome) => return (outcome, writer),
+    };
+    let (end, writer) = run_stages(rt.alloc(), plan.into_stages(), readers, link, order, writer);
+    (Outcome::Run(end), writer)
 }
