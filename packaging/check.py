@@ -8,7 +8,6 @@ is left once it is purged; lintian reads it; and the files in dist must be those
 What needs a program that isn't on the machine is left out, and told. The last line is `N passed, M failed`; status 1 if something failed."""
 import contextlib
 import glob
-import importlib.util
 import json
 import os
 import re
@@ -24,16 +23,8 @@ HERE = os.path.dirname(os.path.abspath(__file__))
 TOP = os.path.dirname(HERE)
 PATH = '/usr/sbin:/usr/bin:/sbin:/bin'
 
-
-def docs_check():
-    """The functions of docs/check.py."""
-    spec = importlib.util.spec_from_file_location('docs_check', os.path.join(TOP, 'docs', 'check.py'))
-    module = importlib.util.module_from_spec(spec)
-    spec.loader.exec_module(module)
-    return module
-
-
-DOCS = docs_check()
+sys.path.append(os.path.join(TOP, 'docs'))
+from transcripts import blocks, is_shown, steps  # noqa: E402
 
 
 def run(*words, **more):
@@ -73,9 +64,9 @@ def first_pipeline():
     """The first transcript of the README: the files that it shows, a command line, and what this writes."""
     with open(os.path.join(TOP, 'README.md'), encoding='utf-8') as page:
         lines = page.read().split('\n')
-    first, block = next(found for found in DOCS.blocks(lines) if found[1][0].startswith('$ '))
+    first, block = next(found for found in blocks(lines) if found[1][0].startswith('$ '))
     files, runs = {}, []
-    for _, command, shown in DOCS.steps(first, block):
+    for _, command, shown in steps(first, block):
         words = command.split()
         if words[0] == 'cat':
             files[words[1]] = ''.join(line + '\n' for line in shown)
@@ -97,7 +88,7 @@ def runs_first_pipeline(checks, what, folder, root=None):
         if root:
             words = ['chroot', root, 'sh', '-c', f'cd /{os.path.relpath(folder, root)} && {command}']
         _, text = run(*words, cwd=folder)
-        checks.tell(f'{what}: {command}', DOCS.is_shown(shown, text.split('\n')[:-1]), text)
+        checks.tell(f'{what}: {command}', is_shown(shown, text.split('\n')[:-1]), text)
 
 
 def shows_page(checks, what, *words):

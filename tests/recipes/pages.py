@@ -1,21 +1,13 @@
 """The recipes of the pages: the commands of their transcripts, and the files that these show."""
-import importlib.util
 import os
 import re
+import sys
 
 TOP = os.path.dirname(os.path.dirname(os.path.dirname(os.path.abspath(__file__))))
+sys.path.append(os.path.join(TOP, 'docs'))
+from transcripts import blocks, is_transcript, steps  # noqa: E402
+
 SCORES = {f'examples/{name}' for name in os.listdir(os.path.join(TOP, 'examples')) if name.endswith('.krn')}
-
-
-def docs_check():
-    """The functions of docs/check.py."""
-    spec = importlib.util.spec_from_file_location('docs_check', os.path.join(TOP, 'docs', 'check.py'))
-    module = importlib.util.module_from_spec(spec)
-    spec.loader.exec_module(module)
-    return module
-
-
-DOCS = docs_check()
 
 
 class Page:
@@ -26,8 +18,8 @@ class Page:
         with open(os.path.join(TOP, path), encoding='utf-8') as page:
             lines = page.read().split('\n')
         self.commands, files = [], {}
-        for first, block in DOCS.blocks(lines):
-            for number, command, shown in DOCS.steps(first, block) if DOCS.is_transcript(block) else []:
+        for first, block in blocks(lines):
+            for number, command, shown in steps(first, block) if is_transcript(block) else []:
                 words = command.split()
                 if words[0] == 'cat' and len(words) == 2:
                     files = dict(files, **{words[1]: ''.join(line + '\n' for line in shown)})
