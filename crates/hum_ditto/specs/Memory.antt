@@ -1,5 +1,6 @@
 -- What is remembered of a column.
-use Rattle.std.specs.Prelude.{◌≡◌, ℕ, Bool, List, ◌∷◌, Option, None, Some, if◌then◌else◌}
+use Rattle.std.specs.Prelude.{◌≡◌, ℕ, List, ◌∷◌, Option, None, Some, Vec, if◌then◌else◌}
+use Rattle.std.specs.declared.rc.Rc.{Rc}
 use Rattle.hum_score.specs.Row.{Row}
 use Rattle.hum_score.specs.Sign.{sign_of, is_exclusive}
 use Rattle.hum_score.specs.Spines.{Path}
@@ -16,9 +17,10 @@ last_seen skip token last =
     else if may_repeat skip token then Some token
     else last
 
--- what a memory's fields hold
-abbrev pub held_in : Bool → List ℕ → Option (List ℕ)
-held_in held token = if held then Some token else None
+-- what a memory holds, which several may share
+abbrev pub shown : {Z Y : Type 0} → Option (Rc (Vec ℕ Z) Y) → Option (List ℕ)
+shown None = None
+shown (Some shared) = Some shared.value.items
 
 -- The state decides as the command does, has followed the spines, and remembers each column.
 pub record Follows (options : DittoOptions) (path : Path) (memories : List (Option (List ℕ)))
