@@ -9,3 +9,6 @@ pub mod OnGrid
 pub mod Times
 pub mod OneListing
 pub mod LeastEnds
+pub mod Below
+pub mod Clocked
+pub mod Timed

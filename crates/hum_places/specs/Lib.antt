@@ -2,3 +2,4 @@ pub mod Heirs
 pub mod Above
 pub mod Spreading
 pub mod Grid
+pub mod Clock

@@ -2,6 +2,7 @@
 //! place, as contracts.
 #![tactic(auto)]
 
+pub mod clock;
 pub mod grid;
 pub mod spines;
 pub mod spread;
