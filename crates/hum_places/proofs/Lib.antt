@@ -12,3 +12,7 @@ pub mod LeastEnds
 pub mod Below
 pub mod Clocked
 pub mod Timed
+pub mod Cutting
+pub mod Cleaving
+pub mod Taken
+pub mod Passing
