@@ -7,13 +7,14 @@ fails in turn, and each read or each write moves one byte. By strace each system
 writes fails in turn, and each by which the C library asks for memory, with all after it.
 
 A run must end as it does when nothing fails, or tell the failure by its own line, and what was written is a prefix of
-the right text. What needs a program that isn't there is left out, and told. The last line is `N passed, M failed`,
-runs each."""
+the right text. So run the tests of the libraries in crates/hum_tests/src/memory.rt, which `rt ci` leaves in that crate's out/.
+What needs a program that isn't there is left out, and told. The last line is `N passed, M failed`, runs each."""
 import errno
 import itertools
 import os
 import re
 import shutil
+import signal
 import subprocess
 import sys
 import tempfile
@@ -91,6 +92,26 @@ def settled_faults(program, folder, library):
         yield '' if is_right else f'{folder}: block {read + 1} fails: {len(text)} bytes were settled: {shown(found)[:200]}', True
 
 
+TESTS = f'{HERE}/../crates/hum_tests/out/hum_tests_tests'
+
+
+def memory_faults(folder, library):
+    """What comes of each test of memory.rt while one request for memory after the other fails: it passes, or says that what it needs couldn't be made."""
+    environment = {**os.environ, 'LD_PRELOAD': library, 'COUNTS': f'{folder}/said'}
+
+    def ran(test, number):
+        fault = f'memory {errno.ENOMEM} {number}'
+        return subprocess.run([TESTS, test], cwd=folder, env={**environment, 'FAULT': fault}, timeout=SECONDS, capture_output=True, text=True)
+
+    listed = subprocess.run([TESTS, '--list'], capture_output=True, text=True, timeout=SECONDS).stdout.splitlines()
+    for test in (line.partition(': ')[0] for line in listed if line.startswith('memory::')):
+        yield '' if ran(test, 0).returncode == 0 else f'{test} fails where memory lasts', False
+        for number in range(1, int(open(f'{folder}/said').read().split()[0]) + 1):
+            ended = ran(test, number)
+            is_unmade = ended.returncode == -signal.SIGABRT and ended.stderr.startswith(('memory: ', 'a record: Memory'))
+            yield '' if ended.returncode == 0 or is_unmade else f'{test}, request {number}: {ended.stderr[:200]}', True
+
+
 def line_of(call, error):
     """What may be told of a call that fails by this error."""
     return LINES[call] + ('|' + MEMORY if error == 'ENOMEM' else '')
@@ -163,7 +184,10 @@ def main():
         if library:
             os.mkdir(f'{folder}/settled')
             results += settled_faults(program, f'{folder}/settled', library)
-    for needed, is_there in ('C compiler', library), ('strace', has_strace):
+        if library and os.path.exists(TESTS):
+            os.mkdir(f'{folder}/memory')
+            results += memory_faults(f'{folder}/memory', library)
+    for needed, is_there in ('C compiler', library), ('strace', has_strace), ('hum_tests_tests', os.path.exists(TESTS)):
         print('' if is_there else f'left out: what needs {needed}, which is not here\n', end='')
     if not library and not has_strace:
         print('no failure could be made\n0 passed, 1 failed')

@@ -32,7 +32,7 @@ pub data Asks (t : List ℕ) : Type 0 where
 pub is_text : (t text : List ℕ) → bytes_eq t text ≡ true → t ≡ text
 is_text t text w = (bytes_eq-Decides t text).0 w
 
-no_text : (t text : List ℕ) → t ≢ text → bytes_eq t text ≡ false
+pub no_text : (t text : List ℕ) → t ≢ text → bytes_eq t text ≡ false
 no_text t text h = by_bool (bytes_eq t text) (λ w. absurd (h (is_text t text w))) (λ w. w)
 
 pub other_text : (t text : List ℕ) → bytes_eq t text ≡ false → t ≢ text
@@ -102,7 +102,7 @@ seat_more after (t ∷ ts) zero = omega arith
 seat_more after (t ∷ ts) (suc zero) = let h = seat_more (is_join (sign_of t)) ts zero in omega (arith, h)
 seat_more after (t ∷ ts) (suc (suc q)) = let h = seat_more (is_join (sign_of t)) ts (suc q) in omega (arith, h)
 
-joins_is : (t : List ℕ) → is_join (sign_of t) ≡ bytes_eq t (codes "*v")
+pub joins_is : (t : List ℕ) → is_join (sign_of t) ≡ bytes_eq t (codes "*v")
 joins_is t = by_what (asks t)
   where
     by_what : Asks t → is_join (sign_of t) ≡ bytes_eq t (codes "*v")

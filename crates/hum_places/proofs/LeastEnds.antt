@@ -9,19 +9,19 @@ use Rattle.hum_timebase.proofs.Lasting.{ArePositive}
 use Rattle.hum_places.specs.Grid.{IsLeastAfter}
 use Rattle.hum_places.proofs.Multiples.{before_later}
 
-is_so : (a b : Ratio) → is_before a b ≡ true → IsBefore a b
+pub is_so : (a b : Ratio) → is_before a b ≡ true → IsBefore a b
 is_so a b w = grind (arith, nat_tests, w)
 
-is_not : (a b : Ratio) → is_before a b ≡ false → NotBefore a b
+pub is_not : (a b : Ratio) → is_before a b ≡ false → NotBefore a b
 is_not a b w = grind (arith, nat_tests, w)
 
-not_both : (a b : Ratio) → NotBefore a b → IsBefore a b → ⊥
+pub not_both : (a b : Ratio) → NotBefore a b → IsBefore a b → ⊥
 not_both a b late less = omega (arith, late, less)
 
-not_self : (a : Ratio) → IsBefore a a → ⊥
+pub not_self : (a : Ratio) → IsBefore a a → ⊥
 not_self a less = omega (arith, less)
 
-not_back : (a b : Ratio) → IsBefore a b → IsBefore b a → ⊥
+pub not_back : (a b : Ratio) → IsBefore a b → IsBefore b a → ⊥
 not_back a b less more = omega (arith, less, more)
 
 some_same : {a b : Ratio} → ◌≡◌ {A = Option (Option Ratio)} (Some (Some a)) (Some (Some b)) → a ≡ b

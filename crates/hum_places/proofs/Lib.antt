@@ -9,3 +9,10 @@ pub mod OnGrid
 pub mod Times
 pub mod OneListing
 pub mod LeastEnds
+pub mod Below
+pub mod Clocked
+pub mod Timed
+pub mod Cutting
+pub mod Cleaving
+pub mod Taken
+pub mod Passing

@@ -26,7 +26,7 @@ further t ts k none e =
     let same : suc (k + 1) ≡ suc k + 1 = omega arith in
     none (ap (token_at (t ∷ ts)) same ∙ e)
 
-run_from : (ts : List (List ℕ)) (j : ℕ) → IsJoin ts j → (k : ℕ) × (j ≤ k) × ((i : ℕ) → j ≤ i → i ≤ k → IsJoin ts i) × (¬ IsJoin ts (k + 1))
+pub run_from : (ts : List (List ℕ)) (j : ℕ) → IsJoin ts j → (k : ℕ) × (j ≤ k) × ((i : ℕ) → j ≤ i → i ≤ k → IsJoin ts i) × (¬ IsJoin ts (k + 1))
 run_from [] zero e = let w : [] ≡ codes "*v" = e in cc
 run_from [] (suc j) e = let w : [] ≡ codes "*v" = e in cc
 run_from (t ∷ ts) (suc j) e =
@@ -95,15 +95,15 @@ module _ (names tokens : List (List ℕ)) (sound : fault_of (Spines names) (Spin
       let e : i ≡ place_below tokens j + 1 = omega (arith, over, two, to) in
       rw e (a.1 ∙ sym b.1))
 
-  sized : (j : ℕ) (text : List ℕ) → token_at tokens j ≡ text → width_below tokens j ≡ own (after_at false tokens j) (sign_of text)
+  pub sized : (j : ℕ) (text : List ℕ) → token_at tokens j ≡ text → width_below tokens j ≡ own (after_at false tokens j) (sign_of text)
   sized j text e = width_is tokens j ∙ ap (λ (t : List ℕ). own (after_at false tokens j) (sign_of t)) e
 
-  quiet_one : (after : Bool) (s : Sign) → (s ≡ Exclusive) ⊎ (s ≡ Plain) → own after s ≡ 1
+  pub quiet_one : (after : Bool) (s : Sign) → (s ≡ Exclusive) ⊎ (s ≡ Plain) → own after s ≡ 1
   quiet_one after s (inl e) = ap (own after) e
   quiet_one after s (inr e) = ap (own after) e
 
   -- no join stands to the left of the first
-  alone : (j : ℕ) → after_at false tokens j ≡ false → (i : ℕ) → i + 1 ≡ j → ¬ IsJoin tokens i
+  pub alone : (j : ℕ) → after_at false tokens j ≡ false → (i : ℕ) → i + 1 ≡ j → ¬ IsJoin tokens i
   alone zero w i e = absurd (omega (arith, e))
   alone (suc j) w i e =
       let same : i ≡ j = omega (arith, e) in

@@ -24,6 +24,8 @@ mod lines;
 #[cfg(test)]
 mod links;
 #[cfg(test)]
+mod memory;
+#[cfg(test)]
 mod nets;
 #[cfg(test)]
 mod nodes;

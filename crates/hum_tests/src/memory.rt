@@ -1,0 +1,139 @@
+//! What the libraries do as memory runs out: a call that ran out of it does so once more, and what was given
+//! by then is the front of what is given where memory lasts.
+//!
+//! Where memory lasts these tests end like others. `tests/faults.py` runs them while one request for memory
+//! after the other fails.
+ghost use Rattle.std.specs.Prelude.{◌≡◌};
+ghost use Rattle.hum_score.specs.Spelling.{IsToken};
+ghost use Rattle.hum_score.specs.declared.records.SpinedKind.TheVariants.{Values};
+
+use crate::compared::{holds, same, same_bytes};
+use crate::record::read;
+use crate::sources::Pieces;
+use hum_path::{Moves, Origins, PathFault, Paths};
+use hum_record::{Record, RecordBuilder, RecordFault, SpinedKind};
+use hum_text::calls::Marked;
+use hum_text::reader::{LineReader, Step};
+use hum_text::{Limits, TextFault};
+use std::process::Abort;
+
+const TEXT: &[u8] = b"**kern\t**text\n4c\tla\n.\tlo\n*-\t*-\n";
+
+const LIMITS: Limits = Limits {
+    line: 99,
+    records: 99,
+    bytes: 999,
+};
+
+// What follows a line and its LF in a text.
+fn behind_line<'a>(rt: &impl Abort, text: &'a [u8], line: &[u8]) -> &'a [u8] {
+    if line.len() >= text.len() {
+        panic!(rt; "a line that isn't there");
+    }
+    let (front, rest) = text.split_at(line.len());
+    same_bytes(rt, front, line, "a line");
+    rest.split_at(1).1
+}
+
+#[test]
+fn lines_are_given_until_memory_runs_out(rt: HostRuntime) {
+    let source = Pieces {
+        text: TEXT,
+        size: 5,
+        good: usize::MAX,
+    };
+    let mut reader = LineReader::new(rt.alloc(), Marked::new(source), LIMITS);
+    let mut left = TEXT;
+    for _ in 0..1_000 {
+        match reader.poll() {
+            Ok(Step::Line) => left = behind_line(&rt, left, reader.line()),
+            Ok(Step::More) => {}
+            Ok(Step::End) => {
+                same_bytes(&rt, left, b"", "the end");
+                return;
+            }
+            Err(fault) => {
+                same(&rt, fault, TextFault::Memory, "a poll");
+                same(&rt, reader.poll(), Err(TextFault::Memory), "once more");
+                return;
+            }
+        }
+    }
+    panic!(rt; "no end")
+}
+
+// Whether a token is taken; if not, memory has run out, and the next isn't either.
+fn is_pushed(rt: &impl Abort, builder: &mut RecordBuilder, token: &[u8]) -> bool
+    requires kind { builder.old.kind ≡ Values }
+    requires token { IsToken Values token.now }
+    ensures { builder.new.kind ≡ builder.old.kind }
+{
+    match builder.push(token) {
+        Ok(()) => true,
+        Err(fault) => {
+            same(rt, fault, RecordFault::Memory, "a push");
+            same(
+                rt,
+                builder.push(token),
+                Err(RecordFault::Memory),
+                "once more",
+            );
+            false
+        }
+    }
+}
+
+/// A token that is longer than what a builder has room for at first.
+const LONG: &[u8] =
+    b"4cccccccccccccccccccccccccccccccccccccccccccccccccccccccccccccccccccccccccccccccc";
+
+#[test]
+fn tokens_are_taken_until_memory_runs_out(rt: HostRuntime) {
+    let mut builder = RecordBuilder::new(rt.alloc(), SpinedKind::Values);
+    for _ in 0..9 {
+        if !is_pushed(&rt, &mut builder, LONG) {
+            return;
+        }
+    }
+}
+
+/// Records that lead spines through each kind of step.
+const STEPS: &[&[u8]] = &[
+    b"**kern\t**text",
+    b"*^\t*+",
+    b"*\t*\t*\t**dynam",
+    b"*v\t*v\t*x\t*x",
+    b"*-\t*-\t*-",
+];
+
+// Whether the origins go on; if not, memory has run out, and they don't once more either.
+fn are_followed(rt: &impl Abort, origins: &mut Origins, row: &Record, found: &Moves) -> bool {
+    if origins.follow(row, found).is_ok() {
+        return true;
+    }
+    holds(rt, origins.follow(row, found).is_err(), "once more");
+    false
+}
+
+#[test]
+fn spines_are_followed_until_memory_runs_out(rt: HostRuntime) {
+    let mut paths = Paths::new(rt.alloc());
+    let mut origins = Origins::new(rt.alloc());
+    for line in STEPS {
+        let row = read(&rt, rt.alloc(), *line);
+        match paths.step(&row) {
+            Ok(found) => {
+                if !are_followed(&rt, &mut origins, &row, &found) {
+                    return;
+                }
+            }
+            Err(fault) => {
+                same(&rt, fault, PathFault::Memory, "a step");
+                let again = paths.step(&row).err();
+                same(&rt, again, Some(PathFault::Memory), "once more");
+                return;
+            }
+        }
+    }
+    same(&rt, paths.close(), Ok(()), "no spine is open");
+}
