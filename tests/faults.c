@@ -1,8 +1,8 @@
 /* Calls of the C library of which one fails, or each moves a byte. faults.py builds it and loads it before a program.
 
    FAULT is `CALL ERROR N`: the call of this number, from 1, fails by this error; where ERROR is 0, each moves one byte
-   at most. CALL is `memory`, `read`, `write` or `open`. How many calls of each there were is written to the file that
-   COUNTS names. */
+   at most. CALL is `memory`, `read`, `write` or `open`. How many calls of each there were, and the peak memory in KiB, is
+   written to the file that COUNTS names. */
 #define _GNU_SOURCE
 #include <errno.h>
 #include <fcntl.h>
@@ -32,13 +32,24 @@ __attribute__((constructor)) static void begin(void)
 			;
 }
 
+/* The peak memory of this process in KiB. */
+static long peak(void)
+{
+	char text[4096];
+	int file = syscall(SYS_openat, AT_FDCWD, "/proc/self/status", O_RDONLY);
+	long length = syscall(SYS_read, file, text, sizeof text - 1);
+	text[length > 0 ? length : 0] = 0;
+	const char *found = strstr(text, "VmHWM:");
+	return found ? atol(found + 6) : 0;
+}
+
 __attribute__((destructor)) static void end(void)
 {
 	char text[128];
 	const char *path = getenv("COUNTS");
 	int file = path ? syscall(SYS_openat, AT_FDCWD, path, O_WRONLY | O_CREAT | O_TRUNC, 0600) : -1;
-	int length = snprintf(text, sizeof text, "%ld %ld %ld %ld\n",
-		counts[MEMORY], counts[READ], counts[WRITE], counts[OPEN]);
+	int length = snprintf(text, sizeof text, "%ld %ld %ld %ld %ld\n",
+		counts[MEMORY], counts[READ], counts[WRITE], counts[OPEN], peak());
 	if (file >= 0 && syscall(SYS_write, file, text, length) != length)
 		_exit(127);
 }
