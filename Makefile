@@ -3,7 +3,7 @@
 #   make            proves each crate and builds ./humpipe
 #   make demo       shows the main job on a score of examples/
 #   make test       the merge gate: make lint, the rows of tests/ and the examples of the docs by a program that isn't proved, every proof
-#                   from nothing, the edits that must be refused, tests, runs, and by the proved program the rows, make faults, the Python
+#                   from nothing, the edits that must be refused, tests, runs, and by the proved program the rows, make faults, growth, the Python
 #                   package, a release, the recipes and the examples of the docs; what needs a program that isn't there is left out, and told
 #   make edits      tries the edits alone, over what rt check has proved
 #   make bench      times and peak memory beside other programs on the same score
@@ -12,6 +12,7 @@
 #   make dist-test  installs them in fresh folders, and runs them there
 #   make rows       runs the rows of tests/ with the program
 #   make faults     runs small pipelines with it, while one call for memory, read, write or opened file after the other fails
+#   make growth     counts the instructions of each command and measures its memory, over scores that grow; make test does so over fewer of them
 #   make docs       runs what the README and docs/ print, with it
 #   make python     runs the tests of the Python package, with it
 #   make recipes    tries the recipes of the pages on made-up scores, with it
@@ -50,7 +51,7 @@ there = $${PROGRAM:-$$(ls humpipe crates/humpipe/out/humpipe 2>/dev/null | head 
 export PROGRAM
 needed = $(if $(PROGRAM)$(wildcard humpipe crates/humpipe/out/humpipe),,humpipe)
 
-.PHONY: all demo test early edits bench rows faults docs recipes python plots lint install dist dist-test clean
+.PHONY: all demo test early edits bench rows faults growth docs recipes python plots lint install dist dist-test clean
 
 all: humpipe
 
@@ -116,6 +117,7 @@ test: lint early
 	elif test -n "$$program"; then \
 		for made in "$$program" "$$program.by-rattle"; do test ! -x "$$made" || python3 tests/check.py "$$made" || exit 1; done; \
 		python3 tests/faults.py "$$program" && \
+		python3 tests/growth.py "$$program" && \
 		HUMPIPE=$$(realpath "$$program") && export HUMPIPE && (cd python && python3 -m tests) && \
 		python3 packaging/check.py "$$program" && \
 		python3 tests/recipes.py "$$program" && \
@@ -130,6 +132,9 @@ rows: humpipe
 
 faults: humpipe
 	@python3 tests/faults.py humpipe
+
+growth: humpipe
+	@python3 tests/growth.py humpipe --whole
 
 docs: humpipe
 	@python3 docs/check.py humpipe

@@ -7,8 +7,9 @@ fails in turn, and each read or each write moves one byte. By strace each system
 writes fails in turn, and each by which the C library asks for memory, with all after it.
 
 A run must end as it does when nothing fails, or tell the failure by its own line, and what was written is a prefix of
-the right text. So run the tests of the libraries in crates/hum_tests/src/memory.rt, which `rt ci` leaves in that crate's out/.
-What needs a program that isn't there is left out, and told. The last line is `N passed, M failed`, runs each."""
+the right text. In the runs of settled.py it must be all that was settled, too. So run the tests of the libraries in
+crates/hum_tests/src/memory.rt, which `rt ci` leaves in that crate's out/. What needs a program that isn't there is left
+out, and told. The last line is `N passed, M failed`, runs each."""
 import errno
 import itertools
 import os
@@ -20,10 +21,11 @@ import sys
 import tempfile
 from concurrent.futures import ThreadPoolExecutor
 
+import settled
 import small
 from check import HERE, SECONDS, shown, write
 
-ERRORS = ('EIO', 'ENOSPC', 'EINTR', 'ENOMEM')
+ERRORS = ('EIO', 'ENOSPC', 'EINTR', 'ENOMEM', 'EAGAIN')
 # what is told of a call that fails
 MEMORY = 'out of memory'
 LINES = {
@@ -61,35 +63,6 @@ class Case:
         is_told = status == 3 and self.text.startswith(text) and bool(is_line)
         is_right = is_told or found == (0, self.text, b'')
         return '' if is_right else f'{self.folder}: {" ".join(self.words)}, {fault}: {shown(found)}', is_told
-
-
-SETTLED = b'**kern\n' + b''.join(b'%dc\n' % (k + 1) for k in range(30_000)) + b'*-\n'
-BLOCK = 65_536
-
-
-def settled_faults(program, folder, library):
-    """What comes of a score of several blocks of which a read fails. From the right, over links of one record, whatever its blocks said
-    before is written: their whole lines. So each written text is compared, and not only that it is a prefix."""
-    write(f'{folder}/plan', b'out: read a | rid -G\n')
-    write(f'{folder}/a', SETTLED)
-    environment = {**os.environ, 'LD_PRELOAD': library, 'COUNTS': f'{folder}/said'}
-
-    def ran(**fault):
-        ended = subprocess.run([program, '--link', '1', '--order', 'right', 'plan'], cwd=folder, env={**environment, **fault},
-                               timeout=SECONDS, stdin=subprocess.DEVNULL, capture_output=True)
-        return ended.returncode, ended.stdout, ended.stderr
-
-    wrong = [] if ran() == (0, SETTLED, b'') else [f'{folder}: without a fault another text']
-    # (the last reads are those of the score: a block each, and one that finds its end)
-    blocks = -(-len(SETTLED) // BLOCK)
-    last = int(open(f'{folder}/said').read().split()[1])
-    yield ''.join(wrong), False
-    for read in range(blocks + 1):
-        text = SETTLED[:read * BLOCK]
-        text = text[:text.rfind(b'\n') + 1]
-        found = ran(FAULT=f'read {errno.EIO} {last - blocks + read}')
-        is_right = found == (3, text, b'humpipe: stage 1 (read): read failed\n')
-        yield '' if is_right else f'{folder}: block {read + 1} fails: {len(text)} bytes were settled: {shown(found)[:200]}', True
 
 
 TESTS = f'{HERE}/../crates/hum_tests/out/hum_tests_tests'
@@ -182,8 +155,8 @@ def main():
         told = pool.map(lambda case: faults_of(case, library, has_strace), cases)
         results = [result for results in told for result in results]
         if library:
-            os.mkdir(f'{folder}/settled')
-            results += settled_faults(program, f'{folder}/settled', library)
+            told = pool.map(settled.settled_faults, settled.cases(program, f'{folder}/settled', library))
+            results += [result for results in told for result in results]
         if library and os.path.exists(TESTS):
             os.mkdir(f'{folder}/memory')
             results += memory_faults(f'{folder}/memory', library)

@@ -154,11 +154,16 @@ def lines_in(text: Source, encoding: str = 'utf-8') -> Iterator[str]:
         yield from whole_lines(text, encoding)
 
 
+def whole_text(text: Source, encoding: str = 'utf-8') -> str:
+    """A text, or that of a file."""
+    if isinstance(text, os.PathLike):
+        return ''.join(lines_in(text, encoding))
+    return text if isinstance(text, str) else bytes(text).decode(encoding, ERRORS)
+
+
 def whole_lines(text: Source, encoding: str = 'utf-8') -> List[str]:
     """The lines of a text or of a file, all at once and without their ends."""
-    if isinstance(text, os.PathLike):
-        return [without_end(line) for line in lines_in(text, encoding)]
-    whole = text if isinstance(text, str) else bytes(text).decode(encoding, ERRORS)
+    whole = whole_text(text, encoding)
     parts = whole.split('\n')
     if not parts[-1]:
         parts.pop()

@@ -16,6 +16,8 @@ if TYPE_CHECKING:
 BAR = re.compile(r'(?:^|\t)=+([0-9]+)')
 REFERENCE = re.compile(r'^!!!([^:\n]*):[ \t]*(.*?)[ \t]*\r?$', re.M)
 Cells = List[Optional[str]]
+# the field of the opening record, the thread, and the number among the columns of the thread
+Place = Tuple[int, int, int]
 
 # what a line that isn't plain data begins with
 OTHERS = frozenset('!*=')
@@ -29,14 +31,47 @@ class Grid(NamedTuple):
     columns: Dict[str, Cells]
 
 
-class _Gatherer:
-    """Gathers the data records between two interpretations, and puts their tokens under the thread of their column, and the number of that column among
-    those of its thread."""
+class Spines:
+    """The columns of a score, and where their tokens go: under the thread of their column, and the number of that column among those of its thread."""
 
     def __init__(self) -> None:
         self.columns = Columns()
         self.named: List[Column] = []
-        self.cells: Dict[Tuple[int, int, int], Cells] = {}
+
+    def interpret(self, line: int, tokens: Sequence[str]) -> None:
+        columns = self.columns
+        if not columns.now:
+            columns.open(len(tokens))
+        if len(tokens) != len(columns.now):
+            raise ValueError(f'line {line} has {len(tokens)} tokens, and there are {len(columns.now)} spines')
+        if any(token.startswith('**') for token in tokens):
+            columns.name(tokens)
+            self.named += columns.now
+        columns.step(tokens)
+
+    def places(self) -> List[Place]:
+        """The places of the columns that have data now."""
+        self.named += [column for column in self.columns.now if not column.name]
+        parts: Dict[int, int] = {}
+        places = []
+        for spine, thread, _ in self.columns.now:
+            part = parts[thread] = parts.get(thread, 0) + 1
+            places.append((spine, thread, part))
+        return places
+
+    def labelled(self, places: Iterable[Place]) -> Dict[str, Place]:
+        """The labels of these places, and of the first of each column that was named, in their order."""
+        names = labels(self.named)
+        first = [(spine, thread, 1) for spine, thread, _ in self.named]
+        return {names[thread] + (f'/{part}' if part > 1 else ''): (spine, thread, part) for spine, thread, part in sorted({*places, *first})}
+
+
+class _Gatherer:
+    """Gathers the data records between two interpretations, and puts their tokens into their places."""
+
+    def __init__(self) -> None:
+        self.spines = Spines()
+        self.cells: Dict[Place, Cells] = {}
         self.rows: List[str] = []
         self.lines: List[int] = []
         self.bars: List[int] = []
@@ -54,25 +89,14 @@ class _Gatherer:
             begin = place + 1
             line = whole_lines[place] if place < len(whole_lines) else '!'
             if line[0] == '*':
-                self.interpret(place + 1, line.split('\t'))
+                self.flush()
+                self.spines.interpret(place + 1, line.split('\t'))
             elif line[0] != '!':
                 if line[0] == '=' and line.count('\t=') == line.count('\t') or is_barline(line.split('\t')):
                     found = BAR.search(line)
                     bar = int(found[1]) if found else bar
                 else:
                     begin = place
-
-    def interpret(self, line: int, tokens: Sequence[str]) -> None:
-        self.flush()
-        columns = self.columns
-        if not columns.now:
-            columns.open(len(tokens))
-        if len(tokens) != len(columns.now):
-            raise ValueError(f'line {line} has {len(tokens)} tokens, and there are {len(columns.now)} spines')
-        if any(token.startswith('**') for token in tokens):
-            columns.name(tokens)
-            self.named += columns.now
-        columns.step(tokens)
 
     def flush(self) -> None:
         """Puts the records since the last interpretation into their columns. Where there are no names any more, as after `rid -I`, each stretch of
@@ -84,38 +108,32 @@ class _Gatherer:
             return
         for width, stretch in groupby(rows, lambda row: row.count('\t') + 1):
             some = list(stretch)
-            if width != len(self.columns.now):
-                if any(column.name for column in self.columns.now):
-                    raise ValueError(f'line {self.lines[begin]} has {width} tokens, and there are {len(self.columns.now)} spines')
-                self.columns.open(width)
+            columns = self.spines.columns
+            if width != len(columns.now):
+                if any(column.name for column in columns.now):
+                    raise ValueError(f'line {self.lines[begin]} has {width} tokens, and there are {len(columns.now)} spines')
+                columns.open(width)
             self.put(some, begin)
             begin += len(some)
 
     def put(self, rows: List[str], begin: int) -> bool:
         """Puts records into their columns, if each has as many tokens as there are columns."""
-        columns = self.columns.now
-        width = len(columns)
+        width = len(self.spines.columns.now)
         # a line end, which is in no token, behind each record says whether all are of this width
         tokens = '\t\n\t'.join(rows).split('\t')
         if len(tokens) != len(rows) * (width + 1) - 1 or tokens[width::width + 1].count('\n') != len(rows) - 1:
             return False
-        self.named += [column for column in columns if not column.name]
-        parts: Dict[int, int] = {}
-        for place, column in enumerate(columns):
-            part = parts[column.thread] = parts.get(column.thread, 0) + 1
-            cells = self.cells.setdefault((column.spine, column.thread, part), [])
+        for number, place in enumerate(self.spines.places()):
+            cells = self.cells.setdefault(place, [])
             cells += [None] * (begin - len(cells))
-            cells += tokens[place::width + 1]
+            cells += tokens[number::width + 1]
         return True
 
     def grid(self) -> Grid:
         self.flush()
-        names = labels(self.named)
-        for column in self.named:
-            self.cells.setdefault((column.spine, column.thread, 1), [])
         count = len(self.lines)
-        return Grid(self.lines, self.bars, {names[thread] + (f'/{part}' if part > 1 else ''): cells + [None] * (count - len(cells))
-                                            for (_, thread, part), cells in sorted(self.cells.items())})
+        columns = {label: self.cells.get(place, []) for label, place in self.spines.labelled(self.cells).items()}
+        return Grid(self.lines, self.bars, {label: cells + [None] * (count - len(cells)) for label, cells in columns.items()})
 
 
 def grid(text: Source, encoding: str = 'utf-8') -> Grid:
@@ -132,19 +150,8 @@ def frame(text: Source, *, encoding: str = 'utf-8') -> 'pandas.DataFrame':
     and not of the score that it read. Barlines themselves are left out, and null tokens are `None`. A column is called as its exclusive
     interpretation, with a number behind it where several spines have the same: `**kern 1`, `**kern 2`. An added spine is called by its own, and
     numbered behind those of the opening record. Where a spine is split, its second column is `**kern 2/2`."""
-    import numpy
-    import pandas
-
-    found = grid(text, encoding)
-    count = len(found.lines)
-    bars = numpy.fromiter(found.bars, int, count)
-    levels, codes = numpy.unique(bars, return_inverse=True)
-    index = pandas.MultiIndex([levels, numpy.fromiter(found.lines, int, count)], [codes, numpy.arange(count)], names=['bar', 'line'], verify_integrity=False)
-    block = numpy.empty((len(found.columns), count), object)
-    for place, cells in enumerate(found.columns.values()):
-        block[place] = numpy.fromiter(cells, object, count)
-    block[block == '.'] = None
-    return pandas.DataFrame(block.T, index, list(found.columns))
+    from . import frames
+    return frames.frame(text, encoding)
 
 
 class Table:

@@ -1,13 +1,15 @@
 """Frames and tables."""
 import contextlib
+import random
 import sys
 import unittest
+import unittest.mock
 import warnings
 
 import humpipe
 from humpipe import frame, tables
 
-from .support import SCORE, Runs
+from .support import SCORE, Runs, made_score
 
 try:
     import pandas
@@ -109,3 +111,102 @@ class Frames(Runs):
         path = self.write('latin.krn', '**text\ncafé\n*-\n'.encode('latin-1'))
         frame(path, encoding='latin-1').to_csv(self.folder / 'out.csv')
         self.assertIn('café', (self.folder / 'out.csv').read_text(encoding='utf-8'))
+
+
+TOKENS = ['.', '4c', '8dd#', '1', '1.0', '-0', '1e5', 'NA', 'nan', 'null', 'None', '', ' ', '"', '"4c', "'", 'a"b"', '4c 4e', '#', '\\', '..', 'é', '=', '=3',
+          '*', '!', 'true', '\udce9', 'a\rb', ',', 'x' * 300]
+BARS = ['=1', '=2', '=2', '==', '=', '=10-', '==11', '=12a', '=:|!', '=x=4', '=007', '=99999999999999999']
+
+
+def plain_frame(text):
+    """The frame as lists of tokens give it."""
+    from humpipe import frames
+
+    with unittest.mock.patch.object(frames, '_read', side_effect=ValueError):
+        return frame(text)
+
+
+def varied(chance, text):
+    """A score with other tokens, with barlines, and now and then with another odd thing."""
+    lines = []
+    for line in text.splitlines():
+        width = line.count('\t') + 1
+        if line[0] in '!*':
+            lines.append(line)
+            continue
+        lines.append('\t'.join('.' if chance.random() < 0.2 else chance.choice(TOKENS) for _ in range(width)))
+        if chance.random() < 0.3:
+            bar = chance.choice(BARS)
+            lines.append('\t'.join(chance.choice([bar, bar, bar, '.', '=']) for _ in range(width)))
+        if chance.random() < 0.1:
+            lines.append('\t'.join(['*k[]'] * width))
+    return ''.join(line + chance.choice(['\n'] * 9 + ['\r\n']) for line in lines)
+
+
+def broken(chance, text):
+    """A text in which something isn't as it should be."""
+    lines = text.split('\n')
+    place = chance.randrange(len(lines))
+    return chance.choice([
+        lambda: '\n'.join(lines[:place] + [chance.choice(['', '\t', '4c', '4c\t4d\t4e', '=1\t=1', '*', '**x\t**y', '*-', '\r', '\ufeff4c'])] + lines[place:]),
+        lambda: '\n'.join(lines[:place] + lines[place + 1:]),
+        lambda: '\n'.join(line for line in lines if line[:1] != '*'),
+        lambda: text[:chance.randrange(len(text) + 1)],
+        lambda: text + text,
+        lambda: '\ufeff' + text,
+        lambda: '4c\t4d\n' * place + '\n',
+        lambda: '\ufeff4c\t\ufeff\n' + '4d\t4c\n' * place,
+        lambda: text.replace('=1', '=123456789012345678'),
+        lambda: text.replace('=10', '=' + '9' * 30)])()
+
+
+@unittest.skipUnless(pandas, 'no pandas')
+class FrameByTheReader(unittest.TestCase):
+    """pandas' reader of tables gives the frames that lists of tokens give."""
+
+    def outcome(self, make, text):
+        try:
+            found = make(text)
+        except (ValueError, OverflowError) as error:
+            return type(error), str(error)
+        index = found.index
+        return (found.columns.tolist(), found.to_numpy().tolist(), [level.tolist() for level in index.levels], [list(codes) for codes in index.codes],
+                index.names, [str(dtype) for dtype in [*found.dtypes, *index.dtypes]])
+
+    def check(self, text):
+        self.assertEqual(self.outcome(frame, text), self.outcome(plain_frame, text), text)
+
+    def test_texts_made_by_chance(self):
+        from humpipe import frames
+
+        for seed in range(120):
+            chance = random.Random(seed)
+            text = varied(chance, made_score(chance, chance.randrange(1, 60)))
+            # by the reader however few and long they are, as well
+            few, long = chance.choice([(0, 1000), (frames.FEW, frames.LONG)])
+            with self.subTest(seed=seed), unittest.mock.patch.multiple(frames, FEW=few, LONG=long):
+                self.check(text)
+                frames._read(text)
+                for _ in range(3):
+                    self.check(broken(chance, text))
+
+    def test_long_texts(self):
+        for seed in range(3):
+            chance = random.Random(seed)
+            text = varied(chance, made_score(chance, 60)) * 20
+            self.check(text)
+            self.check(text[:-1])
+
+    def test_many_records(self):
+        record = '4c\t"\tNA\t.\n'
+        for count in (62, 63, 64, 65, 5000):
+            self.check('**a\t**a\t**b\t**c\n' + record * count + '*^\t*\t*\t*\n' + ('1\t' + record) * count + '*-\t*-\t*-\t*-\t*-\n')
+            self.check(record * count + '4c\t4d\n' * count)
+        for token in [*TOKENS, '\0', '4\0c', '\ufeff', '\ufeff4c']:
+            self.check('**a\t**b\n' + f'{token}\t4c\n4d\t{token}\n' * 100 + '*-\t*-\n')
+            self.check('**a\n' + f'{token}\n' * 200 + '*-\n')
+
+    def test_small_texts(self):
+        for text in ('', '\n', '\r', '\r\n', '**a', '**a\n*-\n', '**a\n.\n*-\n', '=1\n', '!!x\n', '**a\n\n\n*-\n', '**a\n\n\n4c\n*-', '4c\t4e\n4d\n', '4c\n\r',
+                     '*\t*\n1\t2\n', '**a\n*-\n**b\t**c\n1\t2\n*-\t*-\n', '**a\n*-\n4c\t4d\n'):
+            self.check(text)
