@@ -1,13 +1,11 @@
 -- What was read of a line.
-use Rattle.std.proofs.Common.{◌≡◌, ◌∙◌, refl, ap, sym, subst, true, arith, List, [], inl, inr}
+use Rattle.std.proofs.Common.{◌≡◌, ◌∙◌, refl, ap, sym, subst, true, arith, List, []}
 use Rattle.std.specs.Prelude.{ℕ, ◌≤◌, Option, None, Some, option_map, codes}
 use Rattle.std.specs.Borrow.{Bor}
 use Rattle.clap.proofs.WalkLemmas.{first_value-rows}
 use Rattle.hum_turns.specs.declared.order.Side.{Side}
-use Rattle.clap.specs.Words.{App, Text, fault_of, first_value, first_of, kind_of, matches_of, HasMatchesOf, HasKind, rows_of, found_of, is_simple, is_simple_and_free}
+use Rattle.clap.specs.Words.{App, Text, fault_of, first_value, first_of, matches_of, HasMatchesOf, rows_of, found_of, is_simple, is_simple_and_free}
 use Rattle.clap.specs.declared.parser.matches.ArgMatches.{ArgMatches}
-use Rattle.clap.specs.declared.error.Error.{Error}
-use Rattle.clap.specs.declared.error.ErrorKind.TheVariants.{OutOfMemory}
 use Rattle.clap.proofs.OnLiterals.{clap_on_literals}
 use Rattle.hum_line.specs.Line.{line, Says, Asks, AskNothing, IsLink, IsOrder}
 use Rattle.hum_line.specs.declared.Choice.{Choice}
@@ -71,15 +69,3 @@ asks_nothing words m is has none choice h =
     let rows : rows_of (found_of m) ≡ matches_of line words =
     (has (ap is_simple is ∙ line_is_simple)).0 ∙ ap (λ a. matches_of a words) is in
     none choice (subst (λ rs. Says (λ name. first_of name rs) choice) (sym rows) h.says)
-
--- An error that isn't running out of memory comes where the words are no line.
-pub no_line : {app : App} (words : List Text) (e : Error) → app ≡ line
-    → (is_simple_and_free app ≡ true → HasKind (fault_of app words) e) → (kind_of e ≡ OutOfMemory → ⊥)
-    → AskNothing words
-no_line words e is kinds other choice h =
-    let none = ap (λ a. fault_of a words) is ∙ h.is_line in
-    let kind = subst (λ ks. HasKind ks e) none (kinds (ap is_simple_and_free is ∙ line_is_free)) in
-    elim kind [
-      | inl memory ↦ other memory
-      | inr among ↦ among
-    ]
