@@ -108,7 +108,7 @@ impl Decides for ExtractColumns {
             }
             open(self.alloc, &self.choice, &mut self.columns, &next)?;
         }
-        keep(self.columns.selection(), next, out);
+        keep(self.columns.selection(), next, out)?;
         Ok(())
     }
 }

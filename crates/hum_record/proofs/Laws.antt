@@ -273,7 +273,7 @@ lawful_at k [] j h below = absurd (omega arith)
 lawful_at k (t ∷ ts) zero h below = h.0
 lawful_at k (t ∷ ts) (suc j) h below = lawful_at k ts j h.1 (omega arith)
 
-text_is : (row : Row) (text : List ℕ) → IsTextOf row text → text ≡ text_of row
+pub text_is : (row : Row) (text : List ℕ) → IsTextOf row text → text ≡ text_of row
 text_is (Comment comment) text h = h.0
 text_is (Spined kind tokens) text h = h.0
 

@@ -8,3 +8,4 @@ pub mod RecordDraft
 pub mod Selecting
 pub mod Contents
 pub mod Nulls
+pub mod Room

@@ -1,32 +1,30 @@
 //! The text of a record, and where its tokens end in it.
 ghost use Rattle.std.specs.Prelude.{◌≡◌, ◌≤◌, ◌<◌, ◌+◌, ◌-◌, ◌*◌, ◌^◌, ◌++◌, ◌∷◌, [], length, take};
 ghost use Rattle.std.specs.Prelude.{bit_and, slice_index};
-ghost use Rattle.std.specs.Prelude.{ℕ, OnOk, IfErr, Ok, true, false, vec_len};
+ghost use Rattle.std.specs.Prelude.{ℕ, OnOk, IfErr, IfSome, Ok, true, false, vec_len};
 ghost use Rattle.hum_record.specs.Building.{tab_between, spelled};
 ghost use Rattle.hum_record.specs.Contents.{filled_from};
 ghost use Rattle.hum_record.specs.Cutting.{set_places};
 ghost use Rattle.hum_record.specs.Fields.{AreFields, ends_from, row_in, written};
 ghost use Rattle.hum_record.specs.Lines.{IsLine};
 ghost use Rattle.hum_record.specs.Plain.{HasPlaces};
+ghost use Rattle.hum_record.specs.Room.{IsRoomOf, most_places, most_room};
 ghost use Rattle.hum_score.specs.Row.{chosen};
 ghost use Rattle.hum_score.specs.Spelling.{has_byte, reading, parts, Fails};
 
 use crate::filling::{WHOLE, put_filled};
+use crate::holding::{fit, hold_copy, hold_far, hold_line};
 use crate::leaving::move_in_front;
 use crate::near::{FEW, NEAR, copy_near, copy_places, put_places};
 use crate::putting::put_behind;
-use crate::reading::cut;
+use crate::room::{
+    SHORT_BYTES, SHORT_PLACES, fill_bytes, fill_places, give_bytes, give_places, is_within, shorten,
+};
 use crate::selection::Selection;
-use crate::wide::{copy_groups, copy_words, put_line};
+use crate::wide::{copy_groups, copy_words};
 use crate::{MOST_BYTES, RecordFault};
 use std::alloc::{AllocError, Global};
 use std::marker::Model;
-
-/// How many bytes and places there are at least once there are some, so that a short record finds
-/// room in what another one left.
-const LEAST_BYTES: usize = NEAR + WHOLE;
-
-const LEAST_PLACES: usize = 32;
 
 /// No token is empty, so no more end among the bytes that are looked at at once.
 const MOST_NEAR: usize = NEAR / 2;
@@ -63,72 +61,60 @@ impl Model for Body {
     ghost view = { λ b. written (take b.len b.held.items) (take b.count b.places.items) };
 
     ghost use Rattle.hum_record.specs.Lines.{IsEnded};
+    ghost use Rattle.hum_record.specs.Room.{most_bytes, most_places};
 
     ghost invariant = { λ b. (b.len ≤ vec_len b.held) × (b.count ≤ vec_len b.places)
-        × IsEnded b.held.items b.len };
+        × IsEnded b.held.items b.len
+        × (vec_len b.held ≤ most_bytes b.len) × (vec_len b.places ≤ most_places b.count) };
 }
 
-/// Fills up a list to this length, where it is shorter.
-#[inline(never)]
-pub fn fill_bytes(held: &mut Vec<u8>, count: usize) -> Result<(), AllocError>
-    ensures kept { take (vec_len held.old) held.new.items ≡ held.old.items }
-    ensures more { vec_len held.old ≤ vec_len held.new }
-    ensures room { OnOk result (count ≤ vec_len held.new) }
+/// Puts the tokens of a row in place of what is held, and for a null one what stands above it in another row,
+/// and answers how long they are, if all of them are short and there is memory for them.
+#[inline(always)]
+fn hold_filled(held: &mut Vec<u8>, places: &mut Vec<u32>, row: &Body, above: &Body) -> Option<usize>
+    requires cut { row.now.ends ≡ ends_from 0 (parts row.now.text) }
+    requires above_cut { above.now.ends ≡ ends_from 0 (parts above.now.text) }
+    requires as_wide { length row.now.ends ≡ length above.now.ends }
+    ensures text { IfSome result (λ len. take len held.new.items
+        ≡ spelled (filled_from (parts above.now.text) (parts row.now.text))) }
+    ensures ends { IfSome result (λ _. take (length row.now.ends) places.new.items
+        ≡ ends_from 0 (filled_from (parts above.now.text) (parts row.now.text))) }
+    ensures at_most { IfSome result (λ len. len ≤ 1048576) }
+    ensures bytes { IfSome result (λ len. IsRoomOf held.new len) }
+    ensures places { IfSome result (λ _. (length row.now.ends ≤ vec_len places.new)
+        × (vec_len places.new ≤ most_places (length row.now.ends))) }
 {
-    let count = count.max(LEAST_BYTES);
-    if held.len() < count {
-        held.resize(count, 0)?;
+    let most = row.len + above.len;
+    if most >= MOST_BYTES
+        || row.held.len() - row.len < WHOLE
+        || above.held.len() - above.len < WHOLE
+    {
+        return None;
     }
-    Ok(())
-}
-
-#[inline(never)]
-fn fill_places(places: &mut Vec<u32>, count: usize) -> Result<(), AllocError>
-    ensures kept { take (vec_len places.old) places.new.items ≡ places.old.items }
-    ensures more { vec_len places.old ≤ vec_len places.new }
-    ensures room { OnOk result (count ≤ vec_len places.new) }
-{
-    let count = count.max(LEAST_PLACES);
-    if places.len() < count {
-        places.resize(count, 0)?;
+    let Ok(()) = give_bytes(held, most + 2 * WHOLE) else {
+        return None;
+    };
+    let count = row.width();
+    let Ok(()) = give_places(places, count) else {
+        return None;
+    };
+    let len = put_filled(
+        held,
+        places,
+        &row.held,
+        row.len,
+        row.ends(),
+        &above.held,
+        above.len,
+        above.ends(),
+    )?;
+    if held.len() <= SHORT_BYTES && places.len() <= SHORT_PLACES {
+        return Some(len);
     }
-    Ok(())
-}
-
-/// The same, but most often it is as long already.
-fn give_bytes(held: &mut Vec<u8>, count: usize) -> Result<(), AllocError>
-    ensures kept { take (vec_len held.old) held.new.items ≡ held.old.items }
-    ensures more { vec_len held.old ≤ vec_len held.new }
-    ensures room { OnOk result (count ≤ vec_len held.new) }
-{
-    if held.len() < count {
-        return fill_bytes(held, count);
+    if !is_within(held.len(), SHORT_BYTES, len) || !is_within(places.len(), SHORT_PLACES, count) {
+        return None;
     }
-    Ok(())
-}
-
-pub fn give_places(places: &mut Vec<u32>, count: usize) -> Result<(), AllocError>
-    ensures kept { take (vec_len places.old) places.new.items ≡ places.old.items }
-    ensures more { vec_len places.old ≤ vec_len places.new }
-    ensures room { OnOk result (count ≤ vec_len places.new) }
-{
-    if places.len() < count {
-        return fill_places(places, count);
-    }
-    Ok(())
-}
-
-/// Puts a text in place of what is held, and LF behind it.
-fn hold(held: &mut Vec<u8>, text: &[u8]) -> Result<(), AllocError>
-    ensures text { OnOk result (take (length text.now) held.new.items ≡ text.now) }
-    ensures room { OnOk result (length text.now < vec_len held.new) }
-    ensures ended { OnOk result (slice_index held.new.items (length text.now) ≡ 10) }
-{
-    held.clear();
-    held.extend_from_slice(text)?;
-    fill_bytes(held, text.len() + 1)?;
-    held[text.len()] = b'\n';
-    Ok(())
+    Some(len)
 }
 
 impl Body {
@@ -173,9 +159,18 @@ impl Body {
         self.count
     }
 
-    /// How much room there is for a text, without more memory.
-    pub fn room(&self) -> usize {
-        self.held.len()
+    /// How many bytes it takes beside its own size.
+    pub fn room(&self) -> usize
+        ensures { result ≤ most_room (length self.now.text) (length self.now.ends) }
+    {
+        self.held
+            .len()
+            .saturating_add(self.places.len().saturating_mul(4))
+    }
+
+    /// The allocator of its memory.
+    pub fn alloc(&self) -> Global {
+        *self.held.allocator()
     }
 
     /// Leaves nothing but room.
@@ -184,6 +179,7 @@ impl Body {
     {
         self.len = 0;
         self.count = 0;
+        shorten(&mut self.held, &mut self.places);
     }
 
     /// Puts the first `len` bytes of what is held in place of the text, and the places of bits in place
@@ -198,7 +194,10 @@ impl Body {
         ensures text { result ≡ true → self.new.text ≡ take len held.now }
         ensures ends { result ≡ true → self.new.ends ≡ set_places 64 0 ends }
     {
-        if self.held.len() < NEAR || self.places.len() < MOST_NEAR {
+        if self.held.len() < NEAR || self.held.len() > SHORT_BYTES {
+            return false;
+        }
+        if self.places.len() < MOST_NEAR || self.places.len() > SHORT_PLACES {
             return false;
         }
         copy_near::<N>(&mut self.held, held);
@@ -217,14 +216,10 @@ impl Body {
     {
         self.len = 0;
         self.count = 0;
-        let Some(line) = put_line(&mut self.places, held) else {
+        let Some(line) = hold_far(&mut self.held, &mut self.places, held) else {
+            shorten(&mut self.held, &mut self.places);
             return false;
         };
-        let Ok(()) = give_bytes(&mut self.held, NEAR * line.words) else {
-            return false;
-        };
-        copy_words(&mut self.held, held, line.words);
-        self.held[line.len] = b'\n';
         self.len = line.len;
         self.count = line.count;
         true
@@ -242,13 +237,17 @@ impl Body {
     {
         self.len = 0;
         self.count = 0;
-        cut(&mut self.places, text)?;
-        let count = self.places.len();
-        fill_places(&mut self.places, count)?;
-        hold(&mut self.held, text)?;
-        self.len = text.len();
-        self.count = count;
-        Ok(())
+        match hold_line(&mut self.held, &mut self.places, text) {
+            Ok(count) => {
+                self.len = text.len();
+                self.count = count;
+                Ok(())
+            }
+            Err(fault) => {
+                shorten(&mut self.held, &mut self.places);
+                Err(fault)
+            }
+        }
     }
 
     /// Puts what another one is in place of this where that is short, as most are, or else nothing; and
@@ -257,8 +256,16 @@ impl Body {
         ensures copied { result ≡ true → self.new ≡ other.now }
         ensures kept { result ≡ false → self.new ≡ self.old }
     {
-        if other.len < NEAR && other.held.len() >= NEAR && self.held.len() >= NEAR {
-            if other.count <= FEW && other.places.len() >= FEW && self.places.len() >= FEW {
+        if other.len < NEAR
+            && other.held.len() >= NEAR
+            && self.held.len() >= NEAR
+            && self.held.len() <= SHORT_BYTES
+        {
+            if other.count <= FEW
+                && other.places.len() >= FEW
+                && self.places.len() >= FEW
+                && self.places.len() <= SHORT_PLACES
+            {
                 copy_near::<NEAR>(&mut self.held, &other.held);
                 self.len = other.len;
                 copy_places(&mut self.places, &other.places);
@@ -283,6 +290,11 @@ impl Body {
         if other.places.len() / FEW < groups || self.places.len() / FEW < groups {
             return false;
         }
+        if !is_within(self.held.len(), SHORT_BYTES, other.len)
+            || !is_within(self.places.len(), SHORT_PLACES, other.count)
+        {
+            return false;
+        }
         copy_words(&mut self.held, &other.held, words);
         self.len = other.len;
         copy_groups(&mut self.places, &other.places, groups);
@@ -305,34 +317,12 @@ impl Body {
     {
         self.len = 0;
         self.count = 0;
-        let most = row.len + above.len;
-        if most >= MOST_BYTES
-            || row.held.len() - row.len < WHOLE
-            || above.held.len() - above.len < WHOLE
-        {
-            return false;
-        }
-        let Ok(()) = give_bytes(&mut self.held, most + 2 * WHOLE) else {
-            return false;
-        };
-        let count = row.width();
-        let Ok(()) = give_places(&mut self.places, count) else {
-            return false;
-        };
-        let Some(len) = put_filled(
-            &mut self.held,
-            &mut self.places,
-            &row.held,
-            row.len,
-            row.ends(),
-            &above.held,
-            above.len,
-            above.ends(),
-        ) else {
+        let Some(len) = hold_filled(&mut self.held, &mut self.places, row, above) else {
+            shorten(&mut self.held, &mut self.places);
             return false;
         };
         self.len = len;
-        self.count = count;
+        self.count = row.count;
         true
     }
 
@@ -352,25 +342,36 @@ impl Body {
     {
         self.len = 0;
         self.count = 0;
-        hold(&mut self.held, other.text())?;
-        self.places.clear();
-        self.places.extend_from_slice(other.ends())?;
-        fill_places(&mut self.places, other.count)?;
-        self.len = other.len;
-        self.count = other.count;
-        Ok(())
+        match hold_copy(&mut self.held, &mut self.places, other.text(), other.ends()) {
+            Ok(()) => {
+                self.len = other.len;
+                self.count = other.count;
+                Ok(())
+            }
+            Err(refused) => {
+                shorten(&mut self.held, &mut self.places);
+                Err(refused)
+            }
+        }
     }
 
-    /// Leaves the selected tokens alone.
-    pub fn leave(&mut self, selection: &Selection)
+    /// Leaves the selected tokens alone where it has no more room than a short one, or else nothing; and tells
+    /// which.
+    pub fn leave(&mut self, selection: &Selection) -> bool
         requires cut { self.old.ends ≡ ends_from 0 (parts self.old.text) }
         requires as_wide { length selection.now ≡ length self.old.ends }
         requires at_most { length self.old.text ≤ 1048576 }
         requires some { 0 < length self.old.text }
-        ensures text { self.new.text ≡ spelled (chosen selection.now (parts self.old.text)) }
-        ensures ends { self.new.ends ≡ ends_from 0 (chosen selection.now (parts self.old.text)) }
-        ensures short { length self.new.text ≤ length self.old.text }
+        ensures text { result ≡ true
+            → self.new.text ≡ spelled (chosen selection.now (parts self.old.text)) }
+        ensures ends { result ≡ true
+            → self.new.ends ≡ ends_from 0 (chosen selection.now (parts self.old.text)) }
+        ensures short { result ≡ true → length self.new.text ≤ length self.old.text }
+        ensures kept { result ≡ false → self.new ≡ self.old }
     {
+        if self.held.len() > SHORT_BYTES || self.places.len() > SHORT_PLACES {
+            return false;
+        }
         let (len, count) = move_in_front(
             &mut self.held,
             self.len,
@@ -381,6 +382,42 @@ impl Body {
         self.held[len] = b'\n';
         self.len = len;
         self.count = count;
+        true
+    }
+
+    /// Leaves the selected tokens alone, in memory of their own where there is too much room for them.
+    pub fn leave_long(&mut self, selection: &Selection) -> Result<(), AllocError>
+        requires cut { self.old.ends ≡ ends_from 0 (parts self.old.text) }
+        requires as_wide { length selection.now ≡ length self.old.ends }
+        requires at_most { length self.old.text ≤ 1048576 }
+        requires some { 0 < length self.old.text }
+        ensures text { OnOk result
+            (self.new.text ≡ spelled (chosen selection.now (parts self.old.text))) }
+        ensures ends { OnOk result
+            (self.new.ends ≡ ends_from 0 (chosen selection.now (parts self.old.text))) }
+        ensures short { OnOk result (length self.new.text ≤ length self.old.text) }
+    {
+        let (len, count) = move_in_front(
+            &mut self.held,
+            self.len,
+            &mut self.places,
+            self.count,
+            selection,
+        );
+        self.held[len] = b'\n';
+        self.len = 0;
+        self.count = 0;
+        match fit(&mut self.held, len, &mut self.places, count) {
+            Ok(()) => {
+                self.len = len;
+                self.count = count;
+                Ok(())
+            }
+            Err(refused) => {
+                shorten(&mut self.held, &mut self.places);
+                Err(refused)
+            }
+        }
     }
 
     /// Adds a token behind the others, and a tab before it if there are any.
@@ -392,11 +429,11 @@ impl Body {
         ensures ends { OnOk result
             (self.new.ends ≡ self.old.ends ++ length self.new.text ∷ []) }
     {
-        if self.held.len() - self.len <= token.len() + 1 {
-            fill_bytes(&mut self.held, 2 * (self.len + 1 + token.len()))?;
-        }
         if self.places.len() == self.count {
             fill_places(&mut self.places, 2 * self.count + 1)?;
+        }
+        if self.held.len() - self.len <= token.len() + 1 {
+            fill_bytes(&mut self.held, 2 * (self.len + 1 + token.len()))?;
         }
         let end = put_behind(&mut self.held, self.len, self.count, token);
         self.len = end;

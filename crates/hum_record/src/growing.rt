@@ -1,12 +1,12 @@
 //! A text that grows by short parts.
 ghost use Rattle.std.specs.Prelude.{◌≡◌, ◌≤◌, ◌+◌, ◌++◌, ◌==◌, [], OnOk, OnErr, length, take, vec_len};
 
-use crate::body::fill_bytes;
 use crate::putting::put_token;
+use crate::room::fill_bytes;
 use std::alloc::{AllocError, Global};
 use std::marker::Model;
 
-/// How many bytes more there is room for where there was too little.
+/// How many bytes more there is room for where there was too little, or as many as there are.
 const MORE_BYTES: usize = 256;
 
 /// A text that grows by parts, most of them short, in memory that is used again.
@@ -35,7 +35,8 @@ fn widen(held: &mut Vec<u8>, len: usize, part: &[u8]) -> Result<(), AllocError>
     ensures more { vec_len held.old ≤ vec_len held.new }
     ensures room { OnOk result (len + length part.now ≤ vec_len held.new) }
 {
-    let count = len.saturating_add(part.len()).saturating_add(MORE_BYTES);
+    let more = len.max(MORE_BYTES);
+    let count = len.saturating_add(part.len()).saturating_add(more);
     fill_bytes(held, count)
 }
 

@@ -78,6 +78,7 @@ fn front_len(ends: &[u32], front: usize) -> usize
 
 /// Moves the selected tokens of a text to its front, by where each token ends in it, and answers how
 /// many bytes and tokens these are. Those in front stay where they stand.
+#[inline(always)]
 fn move_to_front(text: &mut [u8], ends: &mut [u32], selection: &Selection) -> (usize, usize)
     requires cut { ends.old ≡ ends_from 0 (parts text.old) }
     requires as_wide { length selection.now ≡ length ends.old }
@@ -102,6 +103,7 @@ fn move_to_front(text: &mut [u8], ends: &mut [u32], selection: &Selection) -> (u
 
 /// The same of a text that is the first `len` bytes, of whose tokens the first `count` places say where
 /// they end.
+#[inline(always)]
 pub fn move_in_front(
     text: &mut [u8],
     len: usize,

@@ -1,11 +1,12 @@
 //! A record, and how a line is read as one.
-ghost use Rattle.std.specs.Prelude.{◌≡◌, ◌≢◌, ◌<◌, ◌≤◌, true, false, Ok, IfOk, IfErr, OnOk, MatchResult};
+ghost use Rattle.std.specs.Prelude.{◌≡◌, ◌≢◌, ◌<◌, ◌≤◌, true, false, Ok, IfOk, IfErr, OnOk, OnErr, MatchResult};
 ghost use Rattle.std.specs.Prelude.{IfSome, length, take, ◌++◌, ◌∷◌, []};
 ghost use Rattle.hum_score.specs.Spelling.{IsTokenOf, IsTextOf, has_byte, is_comment, reading};
 ghost use Rattle.hum_score.specs.Spelling.{Gives, Fails, Breaks};
 ghost use Rattle.hum_record.specs.Fields.{AreFields, row_in};
 ghost use Rattle.hum_record.specs.Lines.{IsRead, IsReadTo};
 ghost use Rattle.hum_record.specs.Plain.{EndsLine};
+ghost use Rattle.hum_record.specs.Room.{most_room};
 ghost use Rattle.hum_score.specs.Row.{Row, kind_of, row_of, tokens_of, width_of, token_at, text_of};
 ghost use Rattle.hum_score.specs.Row.{Spined, with_chosen};
 ghost use Rattle.hum_record.specs.Contents.{filled_from};
@@ -251,8 +252,11 @@ impl Record {
         body
     }
 
-    /// How long a text fits into the memory of this one.
-    pub(crate) fn capacity(&self) -> usize {
+    /// How many bytes it takes, beside its own size: no more than a short text has room for, and twice what it
+    /// says.
+    pub fn room(&self) -> usize
+        ensures { result ≤ most_room (length (text_of self.now)) (width_of self.now) }
+    {
         self.body.room()
     }
 
@@ -310,13 +314,35 @@ impl Record {
         None
     }
 
-    /// Leaves the selected tokens alone, at least one of which there is, in the record's own memory.
-    pub fn retain(&mut self, selection: &Selection)
+    /// Leaves the selected tokens alone, at least one of which there is, in the record's own memory where that
+    /// hasn't too much room for them.
+    ///
+    /// # Errors
+    /// Out of memory. Then it is as it was.
+    pub fn retain(&mut self, selection: &Selection) -> Result<(), AllocError>
         requires as_wide { length selection.now ≡ width_of self.old }
         requires some { list_any (λ b. b) selection.now ≡ true }
-        ensures { self.new ≡ with_chosen selection.now self.old }
+        ensures left { OnOk result (self.new ≡ with_chosen selection.now self.old) }
+        ensures kept { OnErr result (self.new ≡ self.old) }
     {
-        self.body.leave(selection);
+        if self.body.leave(selection) {
+            return Ok(());
+        }
+        self.retain_long(selection)
+    }
+
+    /// The same of a longer one, in other memory.
+    #[inline(never)]
+    fn retain_long(&mut self, selection: &Selection) -> Result<(), AllocError>
+        requires as_wide { length selection.now ≡ width_of self.old }
+        requires some { list_any (λ b. b) selection.now ≡ true }
+        ensures left { OnOk result (self.new ≡ with_chosen selection.now self.old) }
+        ensures kept { OnErr result (self.new ≡ self.old) }
+    {
+        let mut copy = self.copy(self.body.alloc())?.into_body();
+        copy.leave_long(selection)?;
+        self.body = copy;
+        Ok(())
     }
 
     /// What the record is.

@@ -6,11 +6,11 @@ use crate::reading::Record;
 use std::alloc::{AllocError, Global};
 use std::marker::Model;
 
-/// How many bodies wait behind the first, and how much text may fit in each of them: what is kept
-/// takes little memory, however long the records are.
+/// How many bodies wait behind the first, and how many bytes each of them may take: what is kept takes
+/// little memory, however long the records are.
 const MOST_OTHERS: usize = 32;
 
-const MOST_TEXT: usize = 4096;
+const MOST_ROOM: usize = 8192;
 
 /// What is left of records that are done with: the next that are made in it need no memory of their
 /// own.
@@ -54,7 +54,8 @@ impl Spare {
         self.first.is_some()
     }
 
-    /// Keeps a record that is done with, behind the first one where it is short and not too many are.
+    /// Keeps a record that is done with: in front where none is there, or behind where it isn't too large and
+    /// not too many are.
     #[inline]
     pub fn keep(&mut self, row: Record) {
         let _refused = self.offer(row);
@@ -71,7 +72,7 @@ impl Spare {
 
     #[inline(never)]
     fn offer_behind(&mut self, row: Record) -> Option<Record> {
-        if self.others.len() >= MOST_OTHERS || row.capacity() > MOST_TEXT {
+        if self.others.len() >= MOST_OTHERS || row.room() > MOST_ROOM {
             return Some(row);
         }
         // without memory for its place it is let go

@@ -5,8 +5,8 @@ ghost use Rattle.hum_record.specs.Plain.{HasPlaces};
 
 use crate::MOST_BYTES;
 use crate::bits::bits_at;
-use crate::body::give_places;
 use crate::near::{FEW, NEAR, is_apart, line_end, put_places, stop_bits};
+use crate::room::give_places;
 use std::simd::prelude::*;
 
 /// How many words are looked at: a record has no more.
@@ -29,6 +29,7 @@ pub fn put_line(places: &mut Vec<u32>, held: &[u8]) -> Option<FarLine>
         HasPlaces (take line.len held.now) (take line.count places.new.items)) }
     ensures words { IfSome result (λ line. 64 * line.words ≤ length held.now) }
     ensures last { IfSome result (λ line. line.len < 64 * line.words) }
+    ensures few { IfSome result (λ line. 64 * line.words ≤ line.len + 64) }
     ensures at_most { IfSome result (λ line. line.len ≤ 1048576) }
 {
     let mut count = 0;

@@ -103,7 +103,7 @@ fn retains_marked_tokens(rt: HostRuntime) {
         let mut record = read(&rt, alloc, text);
         assert!(rt; marks.len() == record.width() && marks.contains(&true));
         let selection = Selection::new(alloc, marks).expect(&rt, "memory");
-        record.retain(&selection);
+        record.retain(&selection).expect(&rt, "memory");
         same_bytes(&rt, record.text(), left, text);
         check_alike(&rt, &record, &read(&rt, alloc, left));
     }

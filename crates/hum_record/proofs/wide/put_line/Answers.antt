@@ -40,20 +40,21 @@ returns-then-stops-ne0 c =
       plain = last.plain;
       words = search rules;
       last = search rules;
+      few = let place = c.in_ok-end.ensures.ends.place in omega (arith, place);
       at_most = search rules;
     }
 
 pub returns-in_default : goal.returns-in_default
-returns-in_default c = record { line = tt; within = tt; plain = tt; words = tt; last = tt; at_most = tt }
+returns-in_default c = record { line = tt; within = tt; plain = tt; words = tt; last = tt; few = tt; at_most = tt }
 
 pub returns-then-not-is_apart : goal.returns-then-not-is_apart
-returns-then-not-is_apart c = record { line = tt; within = tt; plain = tt; words = tt; last = tt; at_most = tt }
+returns-then-not-is_apart c = record { line = tt; within = tt; plain = tt; words = tt; last = tt; few = tt; at_most = tt }
 
 pub returns-else-held-words-ge-NEAR : goal.returns-else-held-words-ge-NEAR
-returns-else-held-words-ge-NEAR c = record { line = tt; within = tt; plain = tt; words = tt; last = tt; at_most = tt }
+returns-else-held-words-ge-NEAR c = record { line = tt; within = tt; plain = tt; words = tt; last = tt; few = tt; at_most = tt }
 
 pub returns-after-loop-words : goal.returns-after-loop-words
-returns-after-loop-words c = record { line = tt; within = tt; plain = tt; words = tt; last = tt; at_most = tt }
+returns-after-loop-words c = record { line = tt; within = tt; plain = tt; words = tt; last = tt; few = tt; at_most = tt }
 
 pub loop-words-preserved : goal.loop-words-preserved
 loop-words-preserved c =

@@ -40,4 +40,6 @@ invariant_of-self c =
       omega (arith, size, lf_within new end ended),
       omega (arith, most, some, len),
       ended_back held.len end new held.items size (λ _. ended),
+      (let room = c.self.invariant.3 in let more = c.put_behind-end.ensures.end in omega (arith, room, more)),
+      (let room = c.self.invariant.4 in omega (arith, room)),
     )

@@ -1,4 +1,4 @@
-use Rattle.std.proofs.Common.{◌≡◌, ◌∙◌, ◌*◌, ◌+◌, ◌/◌, ◌++◌, length, take, drop, ap, arith}
+use Rattle.std.proofs.Common.{◌≡◌, ◌∙◌, ◌*◌, ◌+◌, ◌/◌, ◌++◌, length, take, drop, ap, arith, rules}
 use Rattle.hum_record.specs.Fields.{written}
 use Rattle.hum_record.proofs.Held.{front_written, fronts, same_place, ended_back}
 use Rattle.hum_record.proofs.body.Body.copy_far.Goals as goal
@@ -31,4 +31,6 @@ invariant_of-self c =
       omega arith,
       omega arith,
       ended_back held.len other.len bytes held.items size (λ some. same ∙ (c.other.invariant.2 some).1),
+      search rules,
+      search rules,
     )

@@ -7,7 +7,7 @@ use Rattle.hum_record.proofs.body.Body.put_near.Goals as goal
 pub put_places-count-requires-clause-room : goal.put_places-count-requires-clause-room
 put_places-count-requires-clause-room g c =
     let few = apart_places 64 0 1 c.args.ends (omega arith) c.requires.apart in
-    omega (arith, few, c.if-len-lt-MOST_NEAR.false, c.len-else-len-lt-NEAR.ensures, c.deref_mut-2.ensures.len)
+    omega (arith, few, c.if-len-lt-MOST_NEAR.false, c.len-2.ensures, c.deref_mut-2.ensures.len)
 
 pub returns-clause-text : goal.returns-clause-text
 returns-clause-text g c _ =
@@ -34,6 +34,8 @@ invariant_of-self g c =
     let size : length new ≡ held.len = omega (arith, c.copy_near.auto.text, c.deref_mut.ensures.len) in
     let room : c.args.len < held.len = omega (arith, c.if-len-lt-NEAR.false, c.len.ensures, c.requires.few, c.requires.short) in (
       omega (arith, room),
-      omega (arith, few, c.put_places-count.ensures.count, c.if-len-lt-MOST_NEAR.false, c.len-else-len-lt-NEAR.ensures),
+      omega (arith, few, c.put_places-count.ensures.count, c.if-len-lt-MOST_NEAR.false, c.len-2.ensures),
       ended_set held.len c.args.len new held.items size room,
+      omega (arith, c.if-len-gt-SHORT_BYTES.false, c.len-else-len-lt-NEAR.ensures),
+      omega (arith, c.if-len-gt-SHORT_PLACES.false, c.len-else-len-lt-MOST_NEAR.ensures),
     )

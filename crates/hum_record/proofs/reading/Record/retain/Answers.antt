@@ -15,12 +15,14 @@ pub invariant_of-self : goal.invariant_of-self
 invariant_of-self c =
     let left = c.leave.ensures in
     let e = c.deref_mut.ensures.value in
+    let yes = c.if-leave.true in
     (retained c.args.self.now _ _ c.args.selection.now c.self.invariant c.self.view_is c.requires.as_wide c.requires.some
-    c.leave.new.self.text c.leave.new.self.ends (rw e at left.text) (rw e at left.ends) (rw e at left.short)).fields
+    c.leave.new.self.text c.leave.new.self.ends (rw e at left.text yes) (rw e at left.ends yes) (rw e at left.short yes)).fields
 
-pub returns : goal.returns
-returns c =
+pub returns-then-leave-clause-left : goal.returns-then-leave-clause-left
+returns-then-leave-clause-left c =
     let left = c.leave.ensures in
     let e = c.deref_mut.ensures.value in
+    let yes = c.if-leave.true in
     (retained c.args.self.now _ _ c.args.selection.now c.self.invariant c.self.view_is c.requires.as_wide c.requires.some
-    c.leave.new.self.text c.leave.new.self.ends (rw e at left.text) (rw e at left.ends) (rw e at left.short)).is
+    c.leave.new.self.text c.leave.new.self.ends (rw e at left.text yes) (rw e at left.ends yes) (rw e at left.short yes)).is
