@@ -1,0 +1,2 @@
+-- What is said of the command line.
+pub mod Line
