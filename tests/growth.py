@@ -118,8 +118,9 @@ def of_memory():
         yield Case(f'nulls below a long token, and rid -l {stages} times', 'out: read a | ditto | extract -f 2' + ' | rid -l' * stages, nulls,
                    None, 125, many)
     yield Case('a long token in many spines', 'out: read a | ditto', splits_of_token, None, 256, many)
-    yield Case('context -n 1000', 'out: read a | context -n 1000', lambda size: '**x\n' + 'a\n' * size + '*-\n', 1500, 2000,
-               lambda size: SMALL + waiting(1000, 1))
+    short = lambda size: '**x\n' + 'a\n' * size + '*-\n'
+    yield Case('context -n 1000', 'out: read a | context -n 1000', short, None, 2000, lambda size: SMALL + waiting(1000, 1))
+    yield Case('context -n 100', 'out: read a | context -n 100', short, 400, 2000)
 
 
 def of_time():
@@ -135,7 +136,7 @@ def of_time():
 
 
 def run(case, size, room, program, library, before=()):
-    """A run of a case: what is told on standard error, and what faults.c says of it."""
+    """Runs a case over a score of a size, behind the words of a program before it: what is told on standard error."""
     write(f'{room}/plan', case.plan.encode() + b'\n')
     write(f'{room}/a', case.made(size).encode())
     loaded = {'LD_PRELOAD': library, 'COUNTS': f'{room}/said'} if library and (case.of_bytes or not before) else {}

@@ -115,12 +115,12 @@ fn retains_marked_tokens(rt: HostRuntime) {
 }
 
 /// How long a token is beside a short one; with the last it is the longest record that there is.
-const LONG: &[usize] = &[400, 510, 600, 5_000, MOST_BYTES - 2];
+const BESIDE_A_SHORT_ONE: &[usize] = &[400, 510, 600, 5_000, MOST_BYTES - 2];
 
 #[test]
 fn retains_tokens_of_long_records(rt: HostRuntime) {
     let alloc = rt.alloc();
-    for len in LONG {
+    for len in BESIDE_A_SHORT_ONE {
         assert!(&rt; *len > 0);
         let token = long_token(alloc, *len).expect(&rt, "memory");
         let mut text = token.as_slice().to_vec(alloc).expect(&rt, "memory");
