@@ -38,6 +38,8 @@ mod pattern;
 #[cfg(test)]
 mod pitch;
 #[cfg(test)]
+mod programs;
+#[cfg(test)]
 mod read;
 #[cfg(test)]
 mod record;

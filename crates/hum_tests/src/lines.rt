@@ -56,6 +56,21 @@ fn words_are_read(rt: HostRuntime) {
     asks(&rt, &["humpipe", "--link", "4096", "x"], 4_096, true, "x");
     asks(&rt, &["humpipe", "--order", "left"], 16, true, "");
     asks(&rt, &["humpipe", "--order", "right", "x"], 16, false, "x");
+    asks(&rt, &["humpipe", "x", "--link=7"], 7, true, "x");
+    asks(
+        &rt,
+        &["humpipe", "--order=right", "--link", "+007"],
+        7,
+        false,
+        "",
+    );
+    asks(
+        &rt,
+        &["humpipe", "--link", "8", "--", "--order"],
+        8,
+        true,
+        "--order",
+    );
 }
 
 #[test]

@@ -1,0 +1,5 @@
+-- What is said of the program.
+pub mod Reads
+pub mod Endings
+pub mod Runs
+pub mod Program
