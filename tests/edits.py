@@ -298,6 +298,7 @@ def read(file):
 
 
 def write(file, text):
+    os.makedirs(os.path.dirname(os.path.abspath(file)), exist_ok=True)
     with open(file, 'w', encoding='utf-8') as it:
         it.write(text)
 
