@@ -85,6 +85,15 @@ fn check_alike(rt: &impl Abort, record: &Record, other: &Record) {
 /// A text, which of its tokens are marked, and the text of these alone.
 type Marked = (&'static [u8], &'static [bool], &'static [u8]);
 
+/// A token of 600 bytes, and a short one.
+const LONG_AND_SHORT: &[u8] =
+    b"aaaaaaaaaaaaaaaaaaaaaaaaaaaaaaaaaaaaaaaaaaaaaaaaaaaaaaaaaaaaaaaaaaaaaaaaaaaaaaaaaaaaaaaaaaaaaaaaaaaa\
+    aaaaaaaaaaaaaaaaaaaaaaaaaaaaaaaaaaaaaaaaaaaaaaaaaaaaaaaaaaaaaaaaaaaaaaaaaaaaaaaaaaaaaaaaaaaaaaaaaaaa\
+    aaaaaaaaaaaaaaaaaaaaaaaaaaaaaaaaaaaaaaaaaaaaaaaaaaaaaaaaaaaaaaaaaaaaaaaaaaaaaaaaaaaaaaaaaaaaaaaaaaaa\
+    aaaaaaaaaaaaaaaaaaaaaaaaaaaaaaaaaaaaaaaaaaaaaaaaaaaaaaaaaaaaaaaaaaaaaaaaaaaaaaaaaaaaaaaaaaaaaaaaaaaa\
+    aaaaaaaaaaaaaaaaaaaaaaaaaaaaaaaaaaaaaaaaaaaaaaaaaaaaaaaaaaaaaaaaaaaaaaaaaaaaaaaaaaaaaaaaaaaaaaaaaaaa\
+    aaaaaaaaaaaaaaaaaaaaaaaaaaaaaaaaaaaaaaaaaaaaaaaaaaaaaaaaaaaaaaaaaaaaaaaaaaaaaaaaaaaaaaaaaaaaaaaaaaaa\tb";
+
 const MARKED: &[Marked] = &[
     (b"4c\t2e\t1g", &[true, false, true], b"4c\t1g"),
     (b"4c\t2e\t1g", &[false, true, true], b"2e\t1g"),
@@ -93,41 +102,22 @@ const MARKED: &[Marked] = &[
     (b"4c\t2e", &[true, true], b"4c\t2e"),
     (b"*^\t*\t*-", &[true, false, true], b"*^\t*-"),
     (b"!a\t!", &[false, true], b"!"),
+    (LONG_AND_SHORT, &[true, false], &[b'a'; 600]),
+    (LONG_AND_SHORT, &[false, true], b"b"),
+    (LONG_AND_SHORT, &[true, true], LONG_AND_SHORT),
 ];
-
-// What is left of a record with the marked tokens alone, and that it has little room for more.
-fn check_retained(rt: &impl Abort, alloc: Global, text: &[u8], marks: &[bool], left: &[u8]) {
-    let mut record = read(rt, alloc, text);
-    assert!(rt; marks.len() == record.width() && marks.contains(&true));
-    let selection = Selection::new(alloc, marks).expect(rt, "memory");
-    record.retain(&selection).expect(rt, "memory");
-    same_bytes(rt, record.text(), left, marks);
-    check_alike(rt, &record, &read(rt, alloc, left));
-    assert!(rt; record.room() / 2 <= 900 + left.len());
-}
 
 #[test]
 fn retains_marked_tokens(rt: HostRuntime) {
+    let alloc = rt.alloc();
     for row in MARKED {
         let (text, marks, left) = *row;
-        check_retained(&rt, rt.alloc(), text, marks, left);
-    }
-}
-
-/// How long a token is beside a short one; with the last it is the longest record that there is.
-const BESIDE_A_SHORT_ONE: &[usize] = &[400, 510, 600, 5_000, MOST_BYTES - 2];
-
-#[test]
-fn retains_tokens_of_long_records(rt: HostRuntime) {
-    let alloc = rt.alloc();
-    for len in BESIDE_A_SHORT_ONE {
-        assert!(&rt; *len > 0);
-        let token = long_token(alloc, *len).expect(&rt, "memory");
-        let mut text = token.as_slice().to_vec(alloc).expect(&rt, "memory");
-        text.extend_from_slice(b"\tb").expect(&rt, "memory");
-        check_retained(&rt, alloc, &text, &[true, false], &token);
-        check_retained(&rt, alloc, &text, &[false, true], b"b");
-        check_retained(&rt, alloc, &text, &[true, true], &text);
+        let mut record = read(&rt, alloc, text);
+        assert!(rt; marks.len() == record.width() && marks.contains(&true));
+        let selection = Selection::new(alloc, marks).expect(&rt, "memory");
+        record.retain(&selection).expect(&rt, "memory");
+        same_bytes(&rt, record.text(), left, text);
+        check_alike(&rt, &record, &read(&rt, alloc, left));
     }
 }
 
