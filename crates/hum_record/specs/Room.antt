@@ -1,5 +1,7 @@
 -- How much room a record has: that of a short one, and twice what its text and its tokens need.
-use Rattle.std.specs.Prelude.{◌≡◌, ◌<◌, ◌≤◌, ◌+◌, ◌*◌, ℕ, Vec, slice_index, vec_len}
+use Rattle.std.specs.Prelude.{◌≡◌, ◌<◌, ◌≤◌, ◌+◌, ◌-◌, ◌*◌, ◌^◌, min, ℕ, Vec, List, [], ◌∷◌, length}
+use Rattle.std.specs.Prelude.{slice_index, vec_len}
+use Rattle.hum_score.specs.Row.{Row, text_of, width_of}
 
 -- for the bytes of its text
 abbrev pub most_bytes : ℕ → ℕ
@@ -12,6 +14,18 @@ most_places count = 288 + 2 * count
 -- for both, in bytes: a place takes four
 abbrev pub most_room : ℕ → ℕ → ℕ
 most_room len count = most_bytes len + 4 * most_places count
+
+-- the most that a record takes which says this, and that several take
+abbrev pub room_for : Row → ℕ
+room_for row = most_room (length (text_of row)) (width_of row)
+
+abbrev pub rooms_for : List Row → ℕ
+rooms_for [] = 0
+rooms_for (row ∷ rows) = room_for row + rooms_for rows
+
+-- what a text and the places where its tokens end take at least, as far as a number goes
+abbrev pub least_room : ℕ → ℕ → ℕ
+least_room len count = min (len + 4 * count) (2 ^ 64 - 1)
 
 -- A list of bytes has room for so many and LF behind them, which stands there, and not too much.
 pub record IsRoomOf {Z : Type 0} (held : Vec ℕ Z) (len : ℕ) : Type 0 where

@@ -8,7 +8,7 @@ ghost use Rattle.hum_record.specs.Cutting.{set_places};
 ghost use Rattle.hum_record.specs.Fields.{AreFields, ends_from, row_in, written};
 ghost use Rattle.hum_record.specs.Lines.{IsLine};
 ghost use Rattle.hum_record.specs.Plain.{HasPlaces};
-ghost use Rattle.hum_record.specs.Room.{IsRoomOf, most_places, most_room};
+ghost use Rattle.hum_record.specs.Room.{IsRoomOf, most_places, most_room, least_room};
 ghost use Rattle.hum_score.specs.Row.{chosen};
 ghost use Rattle.hum_score.specs.Spelling.{has_byte, reading, parts, Fails};
 
@@ -161,7 +161,8 @@ impl Body {
 
     /// How many bytes it takes beside its own size.
     pub fn room(&self) -> usize
-        ensures { result ≤ most_room (length self.now.text) (length self.now.ends) }
+        ensures most { result ≤ most_room (length self.now.text) (length self.now.ends) }
+        ensures least { least_room (length self.now.text) (length self.now.ends) ≤ result }
     {
         self.held
             .len()

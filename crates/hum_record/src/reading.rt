@@ -6,7 +6,7 @@ ghost use Rattle.hum_score.specs.Spelling.{Gives, Fails, Breaks};
 ghost use Rattle.hum_record.specs.Fields.{AreFields, row_in};
 ghost use Rattle.hum_record.specs.Lines.{IsRead, IsReadTo};
 ghost use Rattle.hum_record.specs.Plain.{EndsLine};
-ghost use Rattle.hum_record.specs.Room.{most_room};
+ghost use Rattle.hum_record.specs.Room.{room_for, least_room};
 ghost use Rattle.hum_score.specs.Row.{Row, kind_of, row_of, tokens_of, width_of, token_at, text_of};
 ghost use Rattle.hum_score.specs.Row.{Spined, with_chosen};
 ghost use Rattle.hum_record.specs.Contents.{filled_from};
@@ -255,7 +255,8 @@ impl Record {
     /// How many bytes it takes, beside its own size: no more than a short text has room for, and twice what it
     /// says.
     pub fn room(&self) -> usize
-        ensures { result ≤ most_room (length (text_of self.now)) (width_of self.now) }
+        ensures most { result ≤ room_for self.now }
+        ensures least { least_room (length (text_of self.now)) (width_of self.now) ≤ result }
     {
         self.body.room()
     }
