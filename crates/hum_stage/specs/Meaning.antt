@@ -1,5 +1,5 @@
 -- What a stage means, over whole lists.
-use Rattle.std.specs.Prelude.{◌≡◌, ℕ, ◌+◌, ◌<◌, ◌≤◌, nat_lt, List, [], ◌∷◌}
+use Rattle.std.specs.Prelude.{◌≡◌, ℕ, ◌+◌, ◌-◌, ◌<◌, ◌≤◌, nat_lt, nat_le, List, [], ◌∷◌}
 use Rattle.std.specs.Prelude.{◌++◌, length}
 use Rattle.std.specs.Prelude.{if◌then◌else◌, Option, Some, None, is_some, drop}
 use Rattle.std.specs.Prelude.{MatchOption, slice_get}
@@ -14,6 +14,7 @@ use Rattle.hum_stage.specs.declared.faults.Readiness.{Readiness}
 use Rattle.hum_stage.specs.declared.faults.Readiness.TheVariants as ready
 use Rattle.hum_score.specs.Row.{Row}
 use Rattle.hum_score.specs.InOrder.{IsScore, IsClosed}
+use Rattle.hum_record.specs.Room.{rooms_for}
 use Rattle.hum_stage.specs.Lag.{LagsAtMost, ArePutAtWants, HoldsByLag}
 use Rattle.hum_stage.specs.Outcome.{Outcome, Becomes, Refused, Undecided, AllDecided, settled, refusal, held_of}
 use Rattle.hum_stage.specs.declared.TheConstants.{MOST_RECORDS}
@@ -89,6 +90,20 @@ readiness_by (Done end) = ready.Done
 abbrev pub held_at : Moment → ℕ
 held_at t = held_of t.given (is_some t.ended) (t.meaning.outcomes t.put)
 
+-- Of the records that were put those that aren't served: from the first on whose whole list isn't among the g
+-- given; none once one was refused.
+abbrev pub unserved : ℕ → List Outcome → List Row → List Row
+unserved g [] rows = []
+unserved g (o ∷ os) [] = []
+unserved g (Becomes made ∷ os) (row ∷ rows) =
+    if nat_le (length made) g then unserved (g - length made) os rows else row ∷ rows
+unserved g (Refused rule ∷ os) (row ∷ rows) = []
+unserved g (Undecided ∷ os) (row ∷ rows) = row ∷ rows
+
+-- the records that wait: what is settled and wasn't given, and what isn't served
+abbrev pub waiting_rows : Moment → List Row
+waiting_rows t = drop t.given (all_of t) ++ unserved t.given (t.meaning.outcomes t.put) t.put
+
 -- No record lags more than n; and at each moment where every record was put when the stage wanted
 -- it, n + 1 are held at most.
 pub record IsWithinLag (n : ℕ) (m : Meaning) : Type 0 where
@@ -155,6 +170,10 @@ ShowsReadiness stands is = (t : Moment) → stands t → is ≡ readiness_by (st
 
 abbrev pub ShowsHeld : (Moment → Type 0) → ℕ → Type 0
 ShowsHeld stands held = (t : Moment) → stands t → held ≡ held_at t
+
+-- what waits takes no more than what it says needs
+abbrev pub ShowsRoom : (Moment → Type 0) → ℕ → Type 0
+ShowsRoom stands room = (t : Moment) → stands t → room ≤ rooms_for (waiting_rows t)
 
 -- with one record more, what was settled stays
 abbrev pub Goes : List Outcome → List Outcome → Type 0

@@ -1,8 +1,8 @@
 //! The stage round a command that decides each record at once.
-ghost use Rattle.std.specs.Prelude.{◌≡◌, ◌<◌, ◌⊎◌, true, length, [], None, Some, Ok, is_some};
-ghost use Rattle.std.specs.Prelude.{MatchOption, IsSomeAnd, IfOk, OnOk, OnErr, IsErr};
+ghost use Rattle.std.specs.Prelude.{◌≡◌, ◌<◌, ◌⊎◌, true, false, length, [], None, Some, Ok, is_some};
+ghost use Rattle.std.specs.Prelude.{IsSomeAnd, IfOk, OnOk, OnErr, IsErr};
 ghost use Rattle.hum_stage.specs.declared.faults.Rule.TheVariants.{L2};
-ghost use Rattle.hum_stage.specs.Meaning.{Moment, opening, MayPut, HasPut, HasPutAndTaken, TookFirst, ShowsReadiness};
+ghost use Rattle.hum_stage.specs.Meaning.{Moment, opening, MayPut, HasPut, HasPutAndTaken, ShowsReadiness};
 ghost use Rattle.hum_stage.specs.Refusals.{rule_in};
 ghost use Rattle.hum_stage.specs.Decided.{at_once, Leaves};
 ghost use Rattle.hum_stage.specs.Standing.{Standing, StandsCounted, fault_in, is_out};
@@ -18,6 +18,7 @@ use std::mem::{forget, replace};
 
 /// A command that decides each record at once, as a stage.
 pub struct AtOnce<C: Decides> {
+    alloc: Global,
     memory: C,
     stage: u8,
     command: Command,
@@ -33,6 +34,7 @@ pub struct AtOnce<C: Decides> {
 impl<C: Decides + Drop> Drop for AtOnce<C> {
     fn drop(self) {
         let AtOnce {
+            alloc: _,
             memory: _memory,
             stage: _,
             command: _,
@@ -62,6 +64,7 @@ impl<C: Decides> AtOnce<C> {
         ensures within { IsWithinLag 0 (at_once stage C.command (C.decide options)) }
     {
         AtOnce {
+            alloc,
             memory: C::begin(alloc, options),
             stage,
             command: C::command(),
@@ -139,10 +142,11 @@ impl<C: Decides> AtOnce<C> {
         self.refuse(Rule::L2);
     }
 
-    /// Counts what is due, and breaks L2 where there is no room for it.
-    fn count(&mut self)
+    /// Counts what is due, and breaks L2 where there is no room for it. Tells what it is ready for then.
+    #[inline(never)]
+    fn count(&mut self) -> Readiness
         requires { self.old.stopped ≡ None }
-        ensures { (t : Moment) → StandsCounted (C.follows self.old.memory) (record {
+        ensures stands { (t : Moment) → StandsCounted (C.follows self.old.memory) (record {
           stage = self.old.stage;
           command = self.old.command;
           line = self.old.line;
@@ -150,6 +154,7 @@ impl<C: Decides> AtOnce<C> {
           due = C.Due.rows self.old.due;
           fault = None;
         }) self.old.ended t → ⟦<AtOnce<C> as Stage>⟧.stands self.new t }
+        ensures ready { ShowsReadiness (⟦<AtOnce<C> as Stage>⟧.stands self.new) result }
     {
         let room = (u32::MAX - self.total) as u64;
         let count = self.due.count();
@@ -158,33 +163,18 @@ impl<C: Decides> AtOnce<C> {
         } else {
             self.total += count as u32;
         }
+        self.readiness()
     }
 
-    /// Counts what is due, takes the first of it, if there is any, and tells what it is ready for then.
-    #[inline(never)]
-    fn count_and_take(
-        &mut self,
-        pool: &mut Spare,
-        first: &mut Option<Record>,
-    ) -> Result<Readiness, AllocError>
-        requires going { self.old.stopped ≡ None }
-        requires empty { first.old ≡ None }
-        ensures ok { OnOk result ((t : Moment) → StandsCounted (C.follows self.old.memory) (record {
-          stage = self.old.stage;
-          command = self.old.command;
-          line = self.old.line;
-          total = self.old.total;
-          due = C.Due.rows self.old.due;
-          fault = None;
-        }) self.old.ended t → MatchOption first.new (⟦<AtOnce<C> as Stage>⟧.stands self.new t)
-            (λ row. TookFirst (⟦<AtOnce<C> as Stage>⟧.stands self.new) t row)) }
-        ensures ready { IfOk result (ShowsReadiness (⟦<AtOnce<C> as Stage>⟧.stands self.new)) }
-        ensures err { OnErr result (⟦<AtOnce<C> as Stage>⟧.spent self.new) }
+    /// What it is ready for.
+    fn readiness(&self) -> Readiness
+        ensures { ShowsReadiness (⟦<AtOnce<C> as Stage>⟧.stands self.now) result }
     {
-        self.count();
-        let (taken, behind) = self.take_and_ask(pool)?;
-        *first = taken;
-        Ok(behind)
+        match self.ended {
+            _ if !self.due.is_empty() => Readiness::Gives,
+            None => Readiness::Wants,
+            Some(_) => Readiness::Done,
+        }
     }
 
     /// Its own fault.
@@ -237,13 +227,14 @@ impl<C: Decides> AtOnce<C> {
         self.memory.leaves(next) && self.stopped.is_none() && self.total < u32::MAX
     }
 
-    /// Puts one record more, as [`Stage::put_and_take`] does, whatever becomes of it.
+    /// Puts one record more, as [`Stage::put_with`] does, whatever becomes of it.
     // What happens seldom is a call, so that a record that becomes one other pays for none of it. The place is
     // empty, so that nothing in it has to be dropped.
     fn put_any(
         &mut self,
         next: Record,
         pool: &mut Spare,
+        may_take: bool,
         first: &mut Option<Record>,
     ) -> Result<Readiness, AllocError>
         requires may { ⟦<AtOnce<C> as Stage>⟧.spent self.old
@@ -251,6 +242,7 @@ impl<C: Decides> AtOnce<C> {
         requires empty { first.old ≡ None }
         ensures ok { OnOk result (HasPutAndTaken (⟦<AtOnce<C> as Stage>⟧.stands self.old)
             (⟦<AtOnce<C> as Stage>⟧.stands self.new) next first.new) }
+        ensures none { may_take ≡ false → OnOk result (first.new ≡ None) }
         ensures ready { IfOk result (ShowsReadiness (⟦<AtOnce<C> as Stage>⟧.stands self.new)) }
         ensures err { OnErr result (⟦<AtOnce<C> as Stage>⟧.spent self.new) }
         ensures stays_spent { ⟦<AtOnce<C> as Stage>⟧.spent self.old → IsErr result }
@@ -262,16 +254,18 @@ impl<C: Decides> AtOnce<C> {
         }
         self.line += 1;
         let room = (u32::MAX - self.total) as u64;
-        match self.memory.step(next, room, &mut self.due) {
+        match self.memory.step(next, room, pool, &mut self.due) {
             Ok(()) => {}
             Err(why) => {
                 self.stop(why)?;
                 return Ok(Readiness::Wants);
             }
         }
+        if !may_take {
+            return Ok(self.count());
+        }
         let Some(row) = self.due.take_lone(pool) else {
-            let is = self.count_and_take(pool, first)?;
-            return Ok(is);
+            return Ok(self.count());
         };
         self.total = self.total.wrapping_add(1);
         if self.total == 0 {
@@ -304,73 +298,40 @@ impl<C: Decides> Stage for AtOnce<C> {
 
     ghost lawful = { λ s t h. standing_lawful _ _ _ _ t h };
 
-    fn put(&mut self, next: Record) -> Result<(), AllocError> {
-        if self.stopped.is_some() {
-            self.put_in_vain(&next)?;
-            return Ok(());
-        }
-        self.line += 1;
-        let room = (u32::MAX - self.total) as u64;
-        match self.memory.step(next, room, &mut self.due) {
-            Ok(()) => {}
-            Err(why) => {
-                self.stop(why)?;
-                return Ok(());
-            }
-        }
-        self.count();
-        Ok(())
-    }
-
-    fn end(&mut self, end: End) {
-        self.ended = Some(end);
-    }
-
-    fn take(&mut self) -> Result<Option<Record>, AllocError> {
-        if self.is_out() {
-            return Err(AllocError);
-        }
-        match self.due.next() {
-            Ok(next) => Ok(next),
-            Err(_) => {
-                self.stopped = Some(Err(AllocError));
-                Err(AllocError)
-            }
-        }
-    }
-
     // Inlined, so that a record that becomes itself costs no call.
     #[inline(always)]
-    fn put_and_take(
+    fn put_with(
         &mut self,
         next: Record,
         pool: &mut Spare,
+        may_take: bool,
         first: &mut Option<Record>,
     ) -> Result<Readiness, AllocError> {
-        if self.leaves(&next) {
+        if may_take && self.leaves(&next) {
             self.line += 1;
             self.total += 1;
             forget(replace(first, Some(next)));
             return Ok(Readiness::Wants);
         }
-        self.put_any(next, pool, first)
+        self.put_any(next, pool, may_take, first)
     }
 
     #[inline(always)]
-    fn take_and_ask(
-        &mut self,
-        pool: &mut Spare,
-    ) -> Result<(Option<Record>, Readiness), AllocError> {
+    fn take_with(&mut self, pool: &mut Spare) -> Result<(Option<Record>, Readiness), AllocError> {
         if self.is_out() {
             return Err(AllocError);
         }
-        match self.due.next_with(pool) {
+        match self.due.next(pool) {
             Ok(next) => Ok((next, self.readiness())),
             Err(_) => {
                 self.stopped = Some(Err(AllocError));
                 Err(AllocError)
             }
         }
+    }
+
+    fn end(&mut self, end: End) {
+        self.ended = Some(end);
     }
 
     fn state(&self) -> State {
@@ -380,15 +341,15 @@ impl<C: Decides> Stage for AtOnce<C> {
         resting(self.ended, self.fault())
     }
 
-    fn readiness(&self) -> Readiness {
-        match self.ended {
-            _ if !self.due.is_empty() => Readiness::Gives,
-            None => Readiness::Wants,
-            Some(_) => Readiness::Done,
-        }
-    }
-
     fn held(&self) -> usize {
         if self.due.is_empty() { 0 } else { 1 }
+    }
+
+    fn room(&self) -> usize {
+        self.due.room()
+    }
+
+    fn alloc(&self) -> Global {
+        self.alloc
     }
 }

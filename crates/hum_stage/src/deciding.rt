@@ -8,7 +8,7 @@ ghost use Rattle.hum_stage.specs.Refusals.{IfTold};
 
 use crate::due::DueRecords;
 use crate::faults::Refusal;
-use hum_record::Record;
+use hum_record::{Record, Spare};
 use hum_words::Command;
 use std::alloc::Global;
 
@@ -53,11 +53,17 @@ pub trait Decides {
     }
 
     /// Puts what the next record becomes where nothing is due. There is room for so many records: a
-    /// command that would give more may stop and refuse by L2.
+    /// command that would give more may stop and refuse by L2. A record that it is done with goes to the pool.
     ///
     /// # Errors
     /// The rule by which the record is refused; or out of memory.
-    fn step(&mut self, next: Record, room: u64, out: &mut Self::Due) -> Result<(), Refusal>
+    fn step(
+        &mut self,
+        next: Record,
+        room: u64,
+        pool: &mut Spare,
+        out: &mut Self::Due,
+    ) -> Result<(), Refusal>
         requires score { MayStep (follows self.old) next }
         requires empty { Self.Due.rows out.old ≡ [] }
         ensures { IfTold result

@@ -1,14 +1,14 @@
 //! Records that are due.
-ghost use Rattle.std.specs.Prelude.{◌≡◌, [], ◌∷◌, ◌==◌, ◌<◌, List, length, IfOk};
+ghost use Rattle.std.specs.Prelude.{◌≡◌, ◌≤◌, [], ◌∷◌, ◌==◌, ◌<◌, List, length, IfOk};
 ghost use Rattle.std.specs.Option.{option_to_list};
 ghost use Rattle.hum_score.specs.Row.{Row};
+ghost use Rattle.hum_record.specs.Room.{rooms_for};
 ghost use Rattle.hum_stage.specs.Dues.{IsNext, IsLone};
 
 use hum_record::{Record, Spare};
 use std::alloc::{AllocError, Global};
 use std::collections::VecDeque;
 use std::marker::Model;
-use std::mem::{forget, replace};
 
 /// Records that are due, in their order.
 ///
@@ -23,17 +23,10 @@ pub trait DueRecords: Drop {
     fn none(alloc: Global) -> Self
         ensures { rows result ≡ [] };
 
-    /// Takes the next, if there is one.
-    fn next(&mut self) -> Result<Option<Record>, AllocError>
+    /// Takes the next, if there is one. A record that has yet to be made is made in what the pool has left of
+    /// one that is done with.
+    fn next(&mut self, pool: &mut Spare) -> Result<Option<Record>, AllocError>
         ensures { IfOk result (IsNext (rows self.old) (rows self.new)) };
-
-    /// The same, but a record that has yet to be made is made in what the pool has left of one that is
-    /// done with.
-    fn next_with(&mut self, _pool: &mut Spare) -> Result<Option<Record>, AllocError>
-        ensures { IfOk result (IsNext (rows self.old) (rows self.new)) }
-    {
-        self.next()
-    }
 
     /// Takes the one record that is due, where there is just one and it is easily had. Else it leaves them
     /// as they are.
@@ -51,6 +44,10 @@ pub trait DueRecords: Drop {
     fn is_empty(&self) -> bool
         ensures { result ≡ (length (rows self.now) == 0) };
 
+    /// How many bytes they take, beside their own size: no more than what they say needs.
+    fn room(&self) -> usize
+        ensures { result ≤ rooms_for (rows self.now) };
+
     /// Drops them all.
     fn clear(&mut self)
         ensures { rows self.new ≡ [] };
@@ -63,7 +60,7 @@ impl DueRecords for VecDeque<Record> {
         VecDeque::new(alloc)
     }
 
-    fn next(&mut self) -> Result<Option<Record>, AllocError> {
+    fn next(&mut self, _pool: &mut Spare) -> Result<Option<Record>, AllocError> {
         Ok(self.pop_front())
     }
 
@@ -82,6 +79,14 @@ impl DueRecords for VecDeque<Record> {
         VecDeque::is_empty(self)
     }
 
+    fn room(&self) -> usize {
+        let mut room: usize = 0;
+        for row in self {
+            room = room.saturating_add(row.room());
+        }
+        room
+    }
+
     fn clear(&mut self) {
         VecDeque::clear(self)
     }
@@ -94,7 +99,7 @@ impl DueRecords for Option<Record> {
         None
     }
 
-    fn next(&mut self) -> Result<Option<Record>, AllocError> {
+    fn next(&mut self, _pool: &mut Spare) -> Result<Option<Record>, AllocError> {
         Ok(self.take())
     }
 
@@ -110,90 +115,15 @@ impl DueRecords for Option<Record> {
         self.is_none()
     }
 
-    fn clear(&mut self) {
-        *self = None;
-    }
-}
-
-/// At most one record that is due, and the last one that was dropped: where nothing is due, that goes to
-/// the pool.
-#[derive(Drop)]
-pub struct AtMostOne {
-    one: Option<Record>,
-    // it became nothing
-    gone: Option<Record>,
-}
-
-impl Model for AtMostOne {
-    ghost use Rattle.std.specs.Prelude.{List};
-    ghost use Rattle.std.specs.Option.{option_to_list};
-    ghost use Rattle.hum_score.specs.Row.{Row};
-
-    ghost Value = { List Row };
-
-    ghost view = { λ due. option_to_list due.one };
-}
-
-impl AtMostOne {
-    /// This record is due.
-    pub fn put(&mut self, row: Record)
-        requires { self.old ≡ [] }
-        ensures { self.new ≡ row ∷ [] }
-    {
-        forget(replace(&mut self.one, Some(row)));
-    }
-
-    /// This record is dropped.
-    pub fn let_go(&mut self, row: Record)
-        ensures { self.new ≡ self.old }
-    {
-        self.gone = Some(row);
-    }
-
-    // Not inlined: a record that is due comes with none that was dropped.
-    #[inline(never)]
-    fn give_back(&mut self, pool: &mut Spare)
-        ensures { self.new ≡ self.old }
-    {
-        if let Some(gone) = self.gone.take() {
-            pool.keep(gone);
+    fn room(&self) -> usize {
+        match self {
+            Some(row) => row.room(),
+            None => 0,
         }
-    }
-}
-
-impl DueRecords for AtMostOne {
-    ghost rows = { λ s. s };
-
-    fn none(_alloc: Global) -> Self {
-        AtMostOne {
-            one: None,
-            gone: None,
-        }
-    }
-
-    fn next(&mut self) -> Result<Option<Record>, AllocError> {
-        Ok(self.one.take())
-    }
-
-    fn next_with(&mut self, pool: &mut Spare) -> Result<Option<Record>, AllocError> {
-        self.give_back(pool);
-        Ok(self.one.take())
-    }
-
-    fn take_lone(&mut self, _pool: &mut Spare) -> Option<Record> {
-        self.one.take()
-    }
-
-    fn count(&self) -> u64 {
-        if self.one.is_some() { 1 } else { 0 }
-    }
-
-    fn is_empty(&self) -> bool {
-        self.one.is_none()
     }
 
     fn clear(&mut self) {
-        self.one = None;
+        *self = None;
     }
 }
 
@@ -254,7 +184,7 @@ impl DueRecords for UpToTwo {
         }
     }
 
-    fn next(&mut self) -> Result<Option<Record>, AllocError> {
+    fn next(&mut self, _pool: &mut Spare) -> Result<Option<Record>, AllocError> {
         if self.first.is_some() {
             return Ok(self.first.take());
         }
@@ -274,6 +204,10 @@ impl DueRecords for UpToTwo {
 
     fn is_empty(&self) -> bool {
         self.first.is_none() && self.second.is_none()
+    }
+
+    fn room(&self) -> usize {
+        self.first.room().saturating_add(self.second.room())
     }
 
     fn clear(&mut self) {

@@ -1,7 +1,7 @@
 //! The stage round a command whose records wait for later ones.
 ghost use Rattle.std.specs.Prelude.{◌≡◌, ◌-◌, true};
 ghost use Rattle.std.specs.VecDeque.{deque_len};
-ghost use Rattle.hum_stage.specs.Meaning.{opening};
+ghost use Rattle.hum_stage.specs.Meaning.{opening, ShowsReadiness};
 ghost use Rattle.hum_stage.specs.Look.{looking};
 ghost use Rattle.hum_stage.specs.Lagging.{Lags};
 ghost use Rattle.hum_stage.specs.Settles.{with_due};
@@ -24,6 +24,7 @@ use std::mem::{forget, replace};
 /// behind it is refused by H1, at its own line. Those that are undecided when the input ends are
 /// never given.
 pub struct Lagging<C: LooksAhead> {
+    alloc: Global,
     memory: C,
     stage: u8,
     command: Command,
@@ -39,6 +40,7 @@ pub struct Lagging<C: LooksAhead> {
 impl<C: LooksAhead + Drop> Drop for Lagging<C> {
     fn drop(self) {
         let Lagging {
+            alloc: _,
             memory: _memory,
             stage: _,
             command: _,
@@ -74,6 +76,7 @@ impl<C: LooksAhead> Lagging<C> {
             (looking MOST_WAITING stage C.command (C.look options)) }
     {
         Lagging {
+            alloc,
             memory: C::begin(alloc, options),
             stage,
             command: C::command(),
@@ -109,6 +112,30 @@ impl<C: LooksAhead> Lagging<C> {
             rule,
         });
     }
+
+    /// Lets those go that wait, up to the first that becomes a record, which is due then; or one is refused.
+    fn look_on(&mut self, pool: &mut Spare) -> Result<(), AllocError>
+    {
+        self.spent = true;
+        match settle_next(&mut self.memory, pool, &mut self.waiting) {
+            Ok(due) => self.due = due,
+            Err(Refusal::Rule(rule)) => self.refuse(rule),
+            Err(Refusal::Memory) => return Err(AllocError),
+        }
+        self.spent = false;
+        Ok(())
+    }
+
+    /// What it is ready for.
+    fn readiness(&self) -> Readiness
+        ensures { ShowsReadiness (⟦<Lagging<C> as Stage>⟧.stands self.now) result }
+    {
+        match self.ended {
+            _ if self.due.is_some() => Readiness::Gives,
+            None => Readiness::Wants,
+            Some(_) => Readiness::Done,
+        }
+    }
 }
 
 impl<C: LooksAhead> Stage for Lagging<C> {
@@ -133,72 +160,46 @@ impl<C: LooksAhead> Stage for Lagging<C> {
 
     ghost lawful = { λ s t h. lags_lawful _ _ _ _ _ t h };
 
-    fn put(&mut self, next: Record) -> Result<(), AllocError> {
+    // Where no more wait, the record that is due is all that is held, and none is looked at once it is taken. The
+    // place is empty, so that nothing in it has to be dropped.
+    #[inline(never)]
+    fn put_with(
+        &mut self,
+        next: Record,
+        pool: &mut Spare,
+        may_take: bool,
+        first: &mut Option<Record>,
+    ) -> Result<Readiness, AllocError> {
         if self.spent {
             return Err(AllocError);
         }
         self.line += 1;
         if self.fault.is_some() {
-            return Ok(());
+            pool.keep(next);
+            return Ok(self.readiness());
         }
         self.spent = true;
-        self.memory.put(next, &mut self.waiting)?;
-        match settle_next(&mut self.memory, &mut self.waiting) {
-            Ok(due) => {
-                self.spent = false;
-                self.due = due;
-            }
-            Err(Refusal::Rule(rule)) => {
-                self.spent = false;
-                self.refuse(rule);
-            }
-            Err(Refusal::Memory) => return Err(AllocError),
+        self.memory.put(next, pool, &mut self.waiting)?;
+        self.look_on(pool)?;
+        if may_take && self.waiting.is_empty() {
+            forget(replace(first, self.due.take()));
         }
-        Ok(())
+        Ok(self.readiness())
+    }
+
+    fn take_with(&mut self, pool: &mut Spare) -> Result<(Option<Record>, Readiness), AllocError> {
+        if self.spent {
+            return Err(AllocError);
+        }
+        let taken = self.due.take();
+        if taken.is_some() {
+            self.look_on(pool)?;
+        }
+        Ok((taken, self.readiness()))
     }
 
     fn end(&mut self, end: End) {
         self.ended = Some(end);
-    }
-
-    fn take(&mut self) -> Result<Option<Record>, AllocError> {
-        if self.spent {
-            return Err(AllocError);
-        }
-        let Some(row) = self.due.take() else {
-            return Ok(None);
-        };
-        self.spent = true;
-        match settle_next(&mut self.memory, &mut self.waiting) {
-            Ok(due) => {
-                self.spent = false;
-                self.due = due;
-            }
-            Err(Refusal::Rule(rule)) => {
-                self.spent = false;
-                self.refuse(rule);
-            }
-            Err(Refusal::Memory) => return Err(AllocError),
-        }
-        Ok(Some(row))
-    }
-
-    // Where no more wait, the record that is due is all that is held, and none is looked at once it is taken. The
-    // place is empty, so that nothing in it has to be dropped.
-    #[inline(never)]
-    fn put_and_take(
-        &mut self,
-        next: Record,
-        pool: &mut Spare,
-        first: &mut Option<Record>,
-    ) -> Result<Readiness, AllocError> {
-        self.put(next)?;
-        self.memory.give_back(pool);
-        if !self.waiting.is_empty() {
-            return Ok(self.readiness());
-        }
-        forget(replace(first, self.due.take()));
-        Ok(self.readiness())
     }
 
     // Inlined, its answer would be taken to pieces as small as a fault's fields.
@@ -208,14 +209,6 @@ impl<C: LooksAhead> Stage for Lagging<C> {
             return State::Gives;
         }
         resting(self.ended, self.fault)
-    }
-
-    fn readiness(&self) -> Readiness {
-        match self.ended {
-            _ if self.due.is_some() => Readiness::Gives,
-            None => Readiness::Wants,
-            Some(_) => Readiness::Done,
-        }
     }
 
     fn held(&self) -> usize {
@@ -228,5 +221,18 @@ impl<C: LooksAhead> Stage for Lagging<C> {
             return lasting.saturating_add(1);
         }
         lasting
+    }
+
+    fn room(&self) -> usize {
+        if self.fault.is_some() {
+            return 0;
+        }
+        self.due
+            .room()
+            .saturating_add(self.memory.room(&self.waiting))
+    }
+
+    fn alloc(&self) -> Global {
+        self.alloc
     }
 }

@@ -29,7 +29,7 @@ pub const MOST_WAITING: usize = 65_536;
 pub use at_once::AtOnce;
 pub use contract::Stage;
 pub use deciding::Decides;
-pub use due::{AtMostOne, DueRecords, UpToTwo};
+pub use due::{DueRecords, UpToTwo};
 pub use faults::{End, Fault, Readiness, Refusal, Rule, State};
 pub use hum_words::Command;
 pub use lagging::Lagging;

@@ -1,7 +1,8 @@
 //! A command that decides a record by some of those behind it.
-ghost use Rattle.std.specs.Prelude.{◌≡◌, ◌<◌, List, [], OnOk, length};
+ghost use Rattle.std.specs.Prelude.{◌≡◌, ◌<◌, ◌≤◌, List, [], OnOk, length};
 ghost use Rattle.std.specs.VecDeque.{deque_len};
 ghost use Rattle.hum_score.specs.Row.{Row};
+ghost use Rattle.hum_record.specs.Room.{rooms_for};
 ghost use Rattle.hum_words.specs.declared.commands.Command.{Command};
 ghost use Rattle.hum_stage.specs.Meaning.{KeepsScore};
 ghost use Rattle.hum_stage.specs.Look.{Look, IsSteady, looking};
@@ -61,32 +62,41 @@ pub trait LooksAhead {
         ensures keeps { KeepsScore (looking MOST_WAITING 0 command (look options)).outcomes };
 
     /// Takes one record more, behind those that wait, of which there are 65,536 at most.
-    fn put(&mut self, next: Record, held: &mut VecDeque<Self::Held>) -> Result<(), AllocError>
+    fn put(
+        &mut self,
+        next: Record,
+        pool: &mut Spare,
+        held: &mut VecDeque<Self::Held>,
+    ) -> Result<(), AllocError>
         requires { MayWait MOST_WAITING (follows self.old held.old.items) next }
         ensures { OnOk result (HasWaited
             (follows self.old held.old.items) (follows self.new held.new.items) next) };
 
     /// Lets the first record that waits go, if it is decided. What is kept of it is then gone from
-    /// the queue.
+    /// the queue. A record that is dropped goes to the pool.
     ///
     /// # Errors
     /// The rule by which that record is refused; or out of memory.
-    fn settle(&mut self, held: &mut VecDeque<Self::Held>) -> Result<Verdict, Refusal>
+    fn settle(
+        &mut self,
+        pool: &mut Spare,
+        held: &mut VecDeque<Self::Held>,
+    ) -> Result<Verdict, Refusal>
         requires filled { 0 < deque_len held.old }
         ensures fewer { IfAnswered result (λ v. deque_len held.old
             ≡ left_by v (deque_len held.new)) }
         ensures settles { IfAnswered result (HasSettled
             (follows self.old held.old.items) (follows self.new held.new.items)) };
 
-    /// Gives the pool what is left of a record that was dropped, if there is any.
-    fn give_back(&mut self, _pool: &mut Spare)
-        ensures { (held : List Self.Held) (look : Look) (past rows : List Row)
-            → follows self.old held look past rows → follows self.new held look past rows }
-    {}
-
     /// How many of those that wait stand before the first that is known to be refused.
     fn lasting(&self, held: &VecDeque<Self::Held>) -> usize
         ensures { Lasts (follows self.now held.now.items) result };
+
+    /// How many bytes what is kept of those that wait takes, beside its own size: no more than what they say
+    /// needs.
+    fn room(&self, held: &VecDeque<Self::Held>) -> usize
+        ensures { (look : Look) (past rows : List Row) → follows self.now held.now.items look past rows
+            → result ≤ rooms_for rows };
 
     /// Something is kept of each record that waits.
     ghost each: { (s : Self) (held : List Self.Held) (look : Look) (past rows : List Row)

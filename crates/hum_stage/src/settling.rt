@@ -7,7 +7,7 @@ ghost use Rattle.hum_stage.specs.Settles.{HasSettledNext, with_next};
 use crate::MOST_WAITING;
 use crate::faults::{Refusal, Rule};
 use crate::looks_ahead::{LooksAhead, Verdict};
-use hum_record::Record;
+use hum_record::{Record, Spare};
 use std::collections::VecDeque;
 
 /// Lets the first records that wait go, up to one that becomes a record, and answers that record;
@@ -18,6 +18,7 @@ use std::collections::VecDeque;
 /// memory.
 pub fn settle_next<C: LooksAhead>(
     memory: &mut C,
+    pool: &mut Spare,
     waiting: &mut VecDeque<C::Held>,
 ) -> Result<Option<Record>, Refusal>
     ensures fewer { IfAnswered result (λ next. with_next next (deque_len waiting.new)
@@ -27,7 +28,7 @@ pub fn settle_next<C: LooksAhead>(
         (deque_len waiting.new) next) }
 {
     while !waiting.is_empty() {
-        match memory.settle(waiting)? {
+        match memory.settle(pool, waiting)? {
             Verdict::Waits => {
                 if waiting.len() > MOST_WAITING {
                     return Err(Refusal::Rule(Rule::H1));
