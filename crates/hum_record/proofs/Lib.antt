@@ -13,7 +13,8 @@ pub mod Moved
 pub mod Held
 pub mod Left
 mod Alike
-pub mod Selected
+pub mod Rooms
+mod Selected
 mod Picked
 mod Added
 mod Words

@@ -1,13 +1,16 @@
 //! The stage round a command whose records wait for later ones.
-ghost use Rattle.std.specs.Prelude.{◌≡◌, ◌-◌, true};
+ghost use Rattle.std.specs.Prelude.{◌≡◌, ◌-◌, true, false, Some, Err, IfOk, IsErr, OnOk, OnErr};
 ghost use Rattle.std.specs.VecDeque.{deque_len};
 ghost use Rattle.hum_stage.specs.Meaning.{opening, ShowsReadiness};
 ghost use Rattle.hum_stage.specs.Look.{looking};
 ghost use Rattle.hum_stage.specs.Lagging.{Lags};
 ghost use Rattle.hum_stage.specs.Settles.{with_due};
+ghost use Rattle.hum_stage.specs.declared.faults.Rule.{Rule};
+ghost use Rattle.hum_stage.specs.declared.faults.Refusal.TheVariants as refusals;
 
 use crate::MOST_WAITING;
 use crate::contract::Stage;
+use crate::due::DueRecords;
 use crate::faults::{End, Fault, Readiness, Refusal, Rule, State, resting};
 use crate::looks_ahead::LooksAhead;
 use crate::settling::settle_next;
@@ -113,11 +116,24 @@ impl<C: LooksAhead> Lagging<C> {
         });
     }
 
-    /// Lets those go that wait, up to the first that becomes a record, which is due then; or one is refused.
-    fn look_on(&mut self, pool: &mut Spare) -> Result<(), AllocError>
+    /// Takes note of what comes next of those that wait: that is due, or its record is refused.
+    fn note(&mut self, next: Result<Option<Record>, Refusal>) -> Result<(), AllocError>
+        ensures due { IfOk next (λ due. self.new ≡ record self.old { due = due; spent = false }) }
+        ensures refused { (rule : Rule) → next ≡ Err (refusals.Rule rule) → self.new ≡ record self.old {
+          waiting = self.new.waiting;
+          fault = Some (record {
+            stage = self.old.stage;
+            command = self.old.command;
+            line = self.old.line - (deque_len self.old.waiting - 1);
+            rule = rule;
+          });
+          spent = false;
+        } }
+        ensures none { IsErr next → OnOk result (deque_len self.new.waiting ≡ 0) }
+        ensures out { next ≡ Err refusals.Memory → IsErr result }
+        ensures same { OnErr result (self.new ≡ self.old) }
     {
-        self.spent = true;
-        match settle_next(&mut self.memory, pool, &mut self.waiting) {
+        match next {
             Ok(due) => self.due = due,
             Err(Refusal::Rule(rule)) => self.refuse(rule),
             Err(Refusal::Memory) => return Err(AllocError),
@@ -180,7 +196,8 @@ impl<C: LooksAhead> Stage for Lagging<C> {
         }
         self.spent = true;
         self.memory.put(next, pool, &mut self.waiting)?;
-        self.look_on(pool)?;
+        let due = settle_next(&mut self.memory, pool, &mut self.waiting);
+        self.note(due)?;
         if may_take && self.waiting.is_empty() {
             forget(replace(first, self.due.take()));
         }
@@ -191,11 +208,13 @@ impl<C: LooksAhead> Stage for Lagging<C> {
         if self.spent {
             return Err(AllocError);
         }
-        let taken = self.due.take();
-        if taken.is_some() {
-            self.look_on(pool)?;
-        }
-        Ok((taken, self.readiness()))
+        let Some(row) = self.due.take() else {
+            return Ok((None, self.readiness()));
+        };
+        self.spent = true;
+        let due = settle_next(&mut self.memory, pool, &mut self.waiting);
+        self.note(due)?;
+        Ok((Some(row), self.readiness()))
     }
 
     fn end(&mut self, end: End) {

@@ -26,7 +26,15 @@ returns-in_default-clause-ok g c = λ t h e s.
     let none = no_fault _ (sym c.is_some.ensures ∙ c.if-is_some.false) in
     let empty = wants_empty _ _ _ _ c.args.next (ap is_out none) c.requires.may in
     let kept = c.in-Ok.ensures h.decide _ (h.at.memory (ap fault_in none)) (open_score t.put c.args.next s) in
-    c.in_ok-is-2.ensures.ok _ (rw c.in_default.ensures
+    rw c.requires.empty (c.count-in_default.ensures.stands _ (rw c.in_default.ensures
+    (put_counted _ _ _ _ _ t c.args.next _ h empty (ap fault_in none) kept.0 kept.1)))
+
+pub returns-then-not-may_take-clause-ok : goal.returns-then-not-may_take-clause-ok
+returns-then-not-may_take-clause-ok g c = λ t h e s.
+    let none = no_fault _ (sym c.is_some.ensures ∙ c.if-is_some.false) in
+    let empty = wants_empty _ _ _ _ c.args.next (ap is_out none) c.requires.may in
+    let kept = c.in-Ok.ensures h.decide _ (h.at.memory (ap fault_in none)) (open_score t.put c.args.next s) in
+    rw c.requires.empty (c.count.ensures.stands _
     (put_counted _ _ _ _ _ t c.args.next _ h empty (ap fault_in none) kept.0 kept.1))
 
 pub returns-then-self-eq0-clause-ok : goal.returns-then-self-eq0-clause-ok

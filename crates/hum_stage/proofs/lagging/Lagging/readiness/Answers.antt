@@ -1,7 +1,7 @@
 use Rattle.std.proofs.Common.{◌∙◌, sym, ap}
 use Rattle.hum_stage.specs.Meaning.{readiness_by, resting_state}
 use Rattle.hum_stage.proofs.Lags.{lags_rests, lags_gives, due_none, due_some}
-use Rattle.hum_stage.proofs.lagging.LaggingStage.readiness.Goals as goal
+use Rattle.hum_stage.proofs.lagging.Lagging.readiness.Goals as goal
 
 pub returns-then-is_some : goal.returns-then-is_some
 returns-then-is_some g c t h =

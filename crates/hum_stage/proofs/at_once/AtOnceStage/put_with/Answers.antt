@@ -2,7 +2,7 @@ use Rattle.std.proofs.Common.{ap, refl}
 use Rattle.hum_stage.specs.Order.{open_score}
 use Rattle.hum_stage.specs.Standing.{fault_in, is_out}
 use Rattle.hum_stage.proofs.Moves.{put_lone, wants_again, wants_empty}
-use Rattle.hum_stage.proofs.at_once.AtOnceStage.put_and_take.Goals as goal
+use Rattle.hum_stage.proofs.at_once.AtOnceStage.put_with.Goals as goal
 
 pub returns-then-leaves-clause-ok : goal.returns-then-leaves-clause-ok
 returns-then-leaves-clause-ok g c = λ t h e s.
