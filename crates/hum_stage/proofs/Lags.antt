@@ -357,41 +357,6 @@ pub due_some : (due : Option Row) → is_some due ≡ true → (row : Row) × (d
 due_some None e = cc
 due_some (Some row) e = (row, refl)
 
--- A memory that goes on standing for what it stood for.
-pub lags_same : (room : ℕ) (follows follows' : Look → List Row → List Row → Type 0) (x : Lagged)
-    (ended : Option End) (spent : Bool) (t : Moment)
-    → ((look : Look) (past rows : List Row) → follows look past rows → follows' look past rows)
-    → Lags room follows x ended spent t → Lags room follows' x ended spent t
-lags_same room follows follows' x ended spent t same h = record {
-  look = h.look;
-  steady = h.steady;
-  meaning = h.meaning;
-  alive = h.alive;
-  ending = h.ending;
-  rests = h.rests;
-  at = record {
-    line = h.at.line;
-    gone = h.at.gone;
-    rest = h.at.rest;
-    outcomes = h.at.outcomes;
-    counted = h.at.counted;
-    stopped = h.at.stopped;
-    fault = h.at.fault;
-    faultless = h.at.faultless;
-    ahead = λ ok.
-        let a = h.at.ahead ok in
-        record {
-          front = a.front;
-          waits = a.waits;
-          split = a.split;
-          counted = a.counted;
-          memory = same h.look (passed [] a.front) a.waits a.memory;
-          few = a.few;
-          outcomes = a.outcomes;
-        };
-  };
-}
-
 -- where none waits, none comes next
 none_next_waits : (room n : ℕ) (follows : Look → List Row → List Row → Type 0)
     → ((look : Look) (past rows : List Row) → follows look past rows → rows ≡ [])

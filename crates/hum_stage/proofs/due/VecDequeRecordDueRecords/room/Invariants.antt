@@ -1,4 +1,4 @@
-use Rattle.std.specs.Prelude.{◌≤◌, List, map}
+use Rattle.std.specs.Prelude.{◌≤◌, map}
 use Rattle.hum_record.specs.Room.{rooms_for}
 use Rattle.hum_stage.proofs.due.VecDequeRecordDueRecords.room.Given as goal
 
