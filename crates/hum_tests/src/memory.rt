@@ -3,18 +3,27 @@
 //!
 //! Where memory lasts these tests end like others. `tests/faults.py` runs them while one request for memory
 //! after the other fails.
-ghost use Rattle.std.specs.Prelude.{◌≡◌};
+ghost use Rattle.std.specs.Prelude.{◌≡◌, ◌≤◌, length};
+ghost use Rattle.hum_score.specs.InOrder.{IsClosed};
 ghost use Rattle.hum_score.specs.Spelling.{IsToken};
 ghost use Rattle.hum_score.specs.declared.records.SpinedKind.TheVariants.{Values};
+ghost use Rattle.hum_stage.specs.Meaning.{Meaning, opening};
 
 use crate::compared::{holds, same, same_bytes};
 use crate::record::read;
+use crate::scores::{check_lines, score};
 use crate::sources::Pieces;
+use crate::stages::{ROWS, lines, stage};
+use hum_net::{Outcome, Rightmost, run_bundle};
 use hum_path::{Moves, Origins, PathFault, Paths};
-use hum_record::{Record, RecordBuilder, RecordFault, SpinedKind};
+use hum_record::{Record, RecordBuilder, RecordFault, Spare, SpinedKind};
+use hum_stage::{MOST_RECORDS, Stage, drain};
 use hum_text::calls::Marked;
 use hum_text::reader::{LineReader, Step};
 use hum_text::{Limits, TextFault};
+use hum_turns::RunResult;
+use std::alloc::{AllocError, Global};
+use std::collections::VecDeque;
 use std::process::Abort;
 
 const TEXT: &[u8] = b"**kern\t**text\n4c\tla\n.\tlo\n*-\t*-\n";
@@ -136,4 +145,113 @@ fn spines_are_followed_until_memory_runs_out(rt: HostRuntime) {
         }
     }
     same(&rt, paths.close(), Ok(()), "no spine is open");
+}
+
+// Puts the records of a closed score into a stage, and takes what it gives, until memory runs out.
+fn put_all<S: Stage>(
+    alloc: Global,
+    stage: &mut S,
+    records: Vec<Record>,
+    given: &mut Vec<Record>,
+) -> Result<(), AllocError>
+    requires fresh { (m : Meaning) × S.stands stage.old (opening m) }
+    requires closed { IsClosed records.items }
+    requires few { length records.items ≤ MOST_RECORDS }
+{
+    let mut pool = Spare::none(alloc);
+    let mut rest = VecDeque::from_vec(records);
+    while let Some(next) = rest.pop_front() {
+        stage.put(next)?;
+        drain(stage, &mut pool, given)?;
+    }
+    Ok(())
+}
+
+/// More records than a test puts or takes, so that a list of them finds memory at once.
+const MANY: usize = 32;
+
+#[test]
+fn stages_give_until_memory_runs_out(rt: HostRuntime) {
+    for row in ROWS {
+        let (plan, puts) = *row;
+        let (put, want) = lines(&rt, rt.alloc(), puts);
+        let records = score(&rt, rt.alloc(), &put);
+        let mut stage = stage(&rt, rt.alloc(), plan);
+        let mut given = Vec::with_capacity(rt.alloc(), MANY).expect(&rt, "memory");
+        let told = put_all(rt.alloc(), &mut stage, records, &mut given);
+        let front = given.len().min(want.len());
+        check_lines(&rt, &given, &want[..front]);
+        match told {
+            Ok(()) => same(&rt, given.len(), want.len(), plan),
+            Err(_) => holds(&rt, stage.take().is_err(), "once more"),
+        }
+    }
+}
+
+/// Bundles, and what is written of each.
+const RUNS: &[(&[u8], &[u8])] = &[
+    (
+        b"out: read a | extract -f 1,2 | ditto | context -n 2 -o '^=' | rid -G
+--- a
+**kern\t**kern\t**text
+4c\t.\tla
+*^\t*\t*
+8d\t8e\t4f\tlo
+=2\t=2\t=2\t=2
+.\t8g\t.\t.
+*v\t*v\t*\t*
+4a\t4b\tlu
+*-\t*-\t*-
+",
+        b"**kern\t**kern
+*^\t*
+4c 8d\t4c 8e\t.
+=2\t=2\t=2
+.\t.\t.
+",
+    ),
+    (
+        b"p: read a
+q: read b
+out: assemble p q | yank -o '^=' -r 1
+--- a
+**kern
+4c
+=1
+*^
+4d\t4e
+*v\t*v
+*-
+--- b
+**text
+la
+=1
+lo
+*-
+",
+        b"**kern\t**text
+=1\t=1
+*^\t*
+4d\t4e\tlo
+*v\t*v\t*
+*-\t*-
+",
+    ),
+];
+
+#[test]
+fn runs_write_until_memory_runs_out(rt: HostRuntime) {
+    for &(bundle, want) in RUNS {
+        for link in [1, 16] {
+            let mut page = Vec::with_capacity(rt.alloc(), 1_024).expect(&rt, "memory");
+            let (outcome, _writer) =
+                run_bundle(rt.alloc(), bundle, link, &mut Rightmost, Marked::new(&mut page));
+            if let Outcome::Run(RunResult::Finished) = outcome {
+                same_bytes(&rt, &page, want, "all is written");
+            } else {
+                same(&rt, outcome, Outcome::Run(RunResult::Memory), "how it ends");
+                holds(&rt, want.starts_with(&page), "the front is written");
+            }
+        }
+    }
 }

@@ -7,19 +7,19 @@ use crate::compared::{holds, same};
 use crate::scores::{Lines, check_lines, score};
 use hum_commands::CommandStage;
 use hum_plan::{Options, parse_plan};
-use hum_record::Record;
+use hum_record::{Record, Spare};
 use hum_stage::{End, MOST_RECORDS, Stage, State, drain, whole};
 use std::alloc::Global;
 use std::collections::VecDeque;
 use std::process::Abort;
 
 /// A line that is put, the lines that are given then, and how many records wait after them.
-type Put = (&'static [u8], Lines, usize);
+pub type Put = (&'static [u8], Lines, usize);
 
 /// A plan with one command, and the lines of a closed score.
-type Row = (&'static [u8], &'static [Put]);
+pub type Row = (&'static [u8], &'static [Put]);
 
-const ROWS: &[Row] = &[
+pub const ROWS: &[Row] = &[
     (
         b"out: read a | rid -Tid",
         &[
@@ -146,7 +146,7 @@ const ROWS: &[Row] = &[
 ];
 
 // The stage of the command of a plan, to which nothing was put yet.
-fn stage(rt: &impl Abort, alloc: Global, plan: &[u8]) -> CommandStage
+pub fn stage(rt: &impl Abort, alloc: Global, plan: &[u8]) -> CommandStage
     ensures { (m : Meaning) × ⟦<CommandStage as Stage>⟧.stands result (opening m) }
 {
     let plan = parse_plan(alloc, plan).expect(rt, "a plan");
@@ -162,7 +162,7 @@ fn stage(rt: &impl Abort, alloc: Global, plan: &[u8]) -> CommandStage
 }
 
 // The lines that are put, and those that are given.
-fn lines(rt: &impl Abort, alloc: Global, puts: &[Put]) -> (Vec<&'static [u8]>, Vec<&'static [u8]>) {
+pub fn lines(rt: &impl Abort, alloc: Global, puts: &[Put]) -> (Vec<&'static [u8]>, Vec<&'static [u8]>) {
     let mut put = Vec::new(alloc);
     let mut given = Vec::new(alloc);
     for (line, lines, _held) in puts {
@@ -192,7 +192,7 @@ fn check_given<S: Stage>(rt: &impl Abort, alloc: Global, stage: &mut S, put: &Pu
     let gives = matches!(stage.state(), State::Gives);
     same(rt, gives, !lines.is_empty(), text);
     let mut given = Vec::new(alloc);
-    drain(stage, &mut given).expect(rt, "memory");
+    drain(stage, &mut Spare::none(alloc), &mut given).expect(rt, "memory");
     check_lines(rt, &given, lines);
     holds(rt, matches!(stage.state(), State::Wants), text);
     same(rt, stage.held(), held, text);
