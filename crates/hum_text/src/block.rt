@@ -14,6 +14,9 @@ use std::alloc::{AllocError, Global};
 use std::io;
 use std::marker::Model;
 
+/// How much room is left behind the bytes of a source that tells how many it has.
+const SLACK: usize = 64;
+
 /// The bytes that were read and not yet handed out, and in front of them the line that was handed
 /// out last, until the next read.
 #[derive(Drop)]
@@ -122,7 +125,7 @@ impl Block {
     {
         self.line_start = 0;
         self.line_len = 0;
-        let Ok(from) = make_room(&mut self.bytes, self.start, self.end) else {
+        let Ok(from) = make_room(&mut self.bytes, self.start, self.end, reader.hint()) else {
             return Err(TextFault::Memory);
         };
         self.end = from + (self.end - self.start);
@@ -155,8 +158,14 @@ fn read_at<R: Source>(bytes: &mut Vec<u8>, at: usize, reader: &mut R) -> io::Res
     reader.read(&mut bytes[at..to])
 }
 
-// Makes room behind the window, and says where it begins then.
-fn make_room(bytes: &mut Vec<u8>, start: usize, end: usize) -> Result<usize, AllocError>
+// Makes room behind the window, and says where it begins then: at first for as many bytes as are left, if they
+// are few.
+fn make_room(
+    bytes: &mut Vec<u8>,
+    start: usize,
+    end: usize,
+    hint: usize,
+) -> Result<usize, AllocError>
     requires order { start ≤ end }
     requires within { end ≤ vec_len bytes.old }
     ensures room { IfOk result (λ from. (from ≤ start)
@@ -166,6 +175,10 @@ fn make_room(bytes: &mut Vec<u8>, start: usize, end: usize) -> Result<usize, All
     ensures err { OnErr result (bytes.new.items ≡ bytes.old.items) }
 {
     let len = bytes.len();
+    if len == 0 && hint < 2 * LARGEST_READ {
+        bytes.resize(hint + SLACK, 0)?;
+        return Ok(0);
+    }
     if start == end && len > 0 {
         return Ok(0);
     }

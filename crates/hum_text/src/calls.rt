@@ -21,6 +21,11 @@ pub trait Source {
     // whether a call failed
     ghost failed: { Self → Bool };
 
+    /// How many bytes it has left, as far as it knows: room for them is made at once. More may come.
+    fn hint(&self) -> usize {
+        2 * LARGEST_READ
+    }
+
     /// Reads into `buf`, which has room for 1 to 65,536 bytes. 0 bytes are the end.
     fn read(&mut self, buf: &mut [u8]) -> io::Result<usize>
         requires some { 0 < length buf.old }

@@ -11,5 +11,5 @@ pub returns-clause-kept : goal.returns-clause-kept
 returns-clause-kept c =
     let bytes = c.args.bytes.now in
     let room : length bytes.items ≤ c.max.result = omega (arith, c.max.ensures, c.saturating_mul.ensures, c.len-len.ensures, bytes.ok.0) in
-    rw c.in_ok-resize.ensures.items
+    rw c.in_ok-resize-2.ensures.items
     (wider-window bytes.items _ c.args.start c.args.end _ c.requires.order (omega (arith, c.requires.within, bytes.ok.0)) room)
