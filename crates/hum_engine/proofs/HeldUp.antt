@@ -72,7 +72,7 @@ module _ {R : Type 0} (plan : Plan R) (ok : IsPlan plan) (k : ℕ) where
   turns_own Reads old new e none t = ⊎_elim
       (λ stays. ap view (stays.1 k))
       (λ does. does_own (state plan t.between k) t.between new
-      (λ i is. source_takes plan ok t.between k i (reads_source plan ok old k e) is) does)
+      (λ i is. source_takes plan ok t.between k i (reads_source plan ok old k e) is) does.1)
       t.does
       ∙ ap view t.reads.becomes.here
 
