@@ -1,5 +1,5 @@
 -- What the calls of an assembler need of what it stands for.
-use Rattle.std.proofs.Common.{◌≡◌, ◌∙◌, refl, sym, ap, ℕ, zero, suc, ◌+◌, ◌<◌, ◌⊎◌}
+use Rattle.std.proofs.Common.{◌≡◌, ◌∙◌, refl, sym, ap, subst, ℕ, zero, suc, ◌+◌, ◌<◌, ◌⊎◌}
 use Rattle.std.proofs.lemmas.Bool.{leb-false}
 use Rattle.std.proofs.Common.{inl, inr, Bool, true, false, cond, List, [], ◌∷◌, ◌++◌, length}
 use Rattle.std.proofs.Common.{arith, map, get_or, set, take, replicate}
@@ -19,8 +19,9 @@ use Rattle.hum_assemble.specs.Head.{AllLawful}
 use Rattle.hum_assemble.specs.Change.{IsOpenInput}
 use Rattle.hum_assemble.specs.Source.{untouched}
 use Rattle.hum_assemble.specs.Standing.{IsTold, state_by}
-use Rattle.hum_assemble.specs.Meaning.{state_of, held_at, held_by, HasGrown}
-use Rattle.hum_assemble.proofs.Standings.{state_stands, held_stands}
+use Rattle.hum_stage.specs.Meaning.{readiness_by}
+use Rattle.hum_assemble.specs.Meaning.{state_of, held_at, held_by, waiting_at, waiting_by, HasGrown}
+use Rattle.hum_assemble.proofs.Standings.{state_stands, held_stands, waiting_stands}
 use Rattle.hum_assemble.proofs.Reaching.{output_grows}
 use Rattle.hum_assemble.specs.Change.{Change, More, Ends, changed_at, IsOpenAt, Input}
 use Rattle.hum_assemble.specs.Merge.{Merge, ahead, ahead_at, given_row, given_on, moved}
@@ -205,13 +206,15 @@ pub empty_ahead : (ss : List Source) (given k : ℕ) (s : Source)
     → ahead (record { sources = ss; given = given }) ≡ Wants k → s ≡ get_or ss k s → s.coming ≡ []
 empty_ahead ss given k s e g = waits_empty k ss s (waits_at (record { sources = ss; given = given }) k e) g
 
--- the source that is waited for is the wanted one
-pub wanted_waits : (stage : ℕ) (kept : Merge) (spent : Bool) (j k : ℕ) (row : Row) → spent ≡ false
-    → ((spent ≡ true) ⊎ MayPut (λ t. Standing stage kept spent t) j row)
-    → ahead kept ≡ Wants k → ahead kept ≡ Wants j
-wanted_waits stage kept spent j k row f r e =
-    let may = not_spent stage kept spent j row f r in
-    e ∙ ap Wants (wanted_is stage kept false may.at j k may.stand e may.wants)
+-- it may be put to the source that is waited for
+pub may_here : (stage : ℕ) (kept : Merge) (spent : Bool) (k : ℕ) (row : Row) → spent ≡ false
+    → ((spent ≡ true) ⊎ ((j : ℕ) × MayPut (λ t. Standing stage kept spent t) j row))
+    → ahead kept ≡ Wants k → MayPut (λ t. Standing stage kept false t) k row
+may_here stage kept spent k row f (inl t) e = cc
+may_here stage kept spent k row f (inr m) e =
+    let may = rw f at m.1 in
+    subst (λ (i : ℕ). MayPut (λ t. Standing stage kept false t) i row)
+    (sym (wanted_is stage kept false may.at m.0 k may.stand e may.wants)) may
 
 -- one record is put where it is waited for
 pub put_here : (stage : ℕ) (sources : List Source) (given : ℕ) (t : Moment) (j : ℕ) (row : Row)
@@ -223,6 +226,19 @@ pub put_here : (stage : ℕ) (sources : List Source) (given : ℕ) (t : Moment) 
 put_here stage sources given t j row s s' h e w f g =
     let x = set_more j sources s s' row (waits_at (record { sources = sources; given = given }) j e) f g in
     rw x (put_kept stage (record { sources = sources; given = given }) t j j (More row) h e w)
+
+-- which is at the source that is wanted
+pub put_wanted : (stage : ℕ) (sources : List Source) (given : ℕ) (spent : Bool) (t : Moment) (j k : ℕ) (row : Row)
+    (s s' : Source) → spent ≡ false
+    → Standing stage (record { sources = sources; given = given }) spent t
+    → ahead (record { sources = sources; given = given }) ≡ Wants k → wants_of t ≡ Some j
+    → s ≡ get_or sources k s → s' ≡ record s { coming = row ∷ [] } →
+    Standing stage (record { sources = set sources k s'; given = given }) spent (after j (More row) t)
+put_wanted stage sources given spent t j k row s s' a h e w f g =
+    let h' = alive stage _ spent t a h in
+    let same = wanted_is stage _ false t j k h' e w in
+    subst (λ (i : ℕ). Standing stage (record { sources = set sources k s'; given = given }) spent (after i (More row) t))
+    same (with_spent stage _ spent _ a (put_here stage sources given t k row s s' h' e (w ∙ ap Some (sym same)) f g))
 
 -- an end is set
 pub end_here : (stage : ℕ) (sources : List Source) (given : ℕ) (spent : Bool) (t : Moment)
@@ -329,6 +345,20 @@ pub told_held : (stage : ℕ) (ss : List Source) (given : ℕ) (going : Bool) (t
 told_held stage ss given going told spent t k h =
     ap (held_by ss) (told_ahead ss given going told spent k h.alive)
     ∙ held_stands stage (record { sources = ss; given = given }) spent t h
+
+pub told_ready : (stage : ℕ) (ss : List Source) (given : ℕ) (going : Bool) (told : next.Next)
+    (spent : Bool) (t : Moment) → IsTold ss given going told spent
+    → Standing stage (record { sources = ss; given = given }) spent t
+    → readiness_by (state_by stage (record { sources = ss; given = given }) told) ≡ readiness_by (state_of t)
+told_ready stage ss given going told spent t k h = ap readiness_by (told_state stage ss given going told spent t k h)
+
+pub told_waiting : (stage : ℕ) (ss : List Source) (given : ℕ) (going : Bool) (told : next.Next)
+    (spent : Bool) (t : Moment) → IsTold ss given going told spent
+    → Standing stage (record { sources = ss; given = given }) spent t
+    → waiting_by ss told ≡ waiting_at t
+told_waiting stage ss given going told spent t k h =
+    ap (waiting_by ss) (told_ahead ss given going told spent k h.alive)
+    ∙ waiting_stands stage (record { sources = ss; given = given }) spent t h
 
 -- What was settled stays.
 open_input : (j : ℕ) (xs : List Input) → OpenIn j (ends xs) → IsOpenInput j xs

@@ -1,19 +1,21 @@
 -- What is counted over some sources is what the first of them has, and what the others have.
 use Rattle.std.proofs.Common.{inl, inr, ◌≡◌, ◌∙◌, refl, sym, ap, ℕ, ◌+◌, ◌-◌, ◌<◌, ◌≤◌, ◌==◌, nat_lt, nat_le}
 use Rattle.std.proofs.Common.{subst, map, Option, None, Some}
-use Rattle.std.proofs.Common.{Bool, true, false, not, ◌&&◌, ◌||◌, if◌then◌else◌, List, [], ◌∷◌, length, take, drop, get_or, arith}
+use Rattle.std.proofs.Common.{Bool, true, false, not, ◌&&◌, ◌||◌, if◌then◌else◌, List, [], ◌∷◌, ◌++◌, length, take, drop, get_or, arith}
 use Rattle.std.specs.List.{list_any}
 use Rattle.std.proofs.lemmas.List.{drop_more, drop_all}
 use Rattle.std.proofs.lemmas.Bool.{ne_eqb, cases_lt, lt-ltb, le-ltb, lt-leb, le-leb}
 use Rattle.std.proofs.Math.Seq.{take-length}
 use Rattle.hum_score.specs.Spines.{width}
+use Rattle.hum_score.specs.Row.{Row}
+use Rattle.hum_record.specs.Room.{rooms_for}
 use Rattle.hum_stage.specs.declared.faults.End as end
 use Rattle.hum_assemble.specs.declared.places.Place.{Place}
 use Rattle.hum_assemble.specs.Source.{Source}
 use Rattle.hum_assemble.specs.Places.{is_shared, earlier}
 use Rattle.hum_assemble.specs.Round.{takes, place_at, earliest}
 use Rattle.hum_assemble.specs.Merge.{part_given, moved, spines, all_moved, text_of_first, comment_given}
-use Rattle.hum_assemble.specs.Meaning.{lower, with_end, inputs_end, total}
+use Rattle.hum_assemble.specs.Meaning.{lower, with_end, inputs_end, total, heads}
 use Rattle.hum_assemble.specs.Standing.{HoldOneEach}
 use Rattle.hum_assemble.specs.Sizes.{tokens_len}
 use Rattle.hum_assemble.specs.Taking.{bytes_given, parts_given}
@@ -190,6 +192,20 @@ pub first_total : (ss : List Source) (s d : Source) (own behind : ℕ) → 1 ≤
     → own ≡ length s.coming → behind ≡ total (take (length ss - 1) (drop 1 ss)) → own + behind ≡ total ss
 first_total [] s d own behind some is o b = absurd (omega (arith, some))
 first_total (x ∷ xs) s d own behind some is o b = rw (o, b, is, others x xs) refl
+
+rooms_both : (xs ys : List Row) → rooms_for (xs ++ ys) ≡ rooms_for xs + rooms_for ys
+rooms_both [] ys = omega arith
+rooms_both (x ∷ xs) ys = let e = rooms_both xs ys in omega (arith, e)
+
+pub first_room : (ss : List Source) (s d : Source) (own behind all : ℕ) → 1 ≤ length ss → s ≡ get_or ss 0 d
+    → own ≤ rooms_for s.coming → behind ≤ rooms_for (heads (take (length ss - 1) (drop 1 ss))) → all ≤ own + behind
+    → all ≤ rooms_for (heads ss)
+first_room [] s d own behind all some is o b a = absurd (omega (arith, some))
+first_room (x ∷ xs) s d own behind all some is o b a =
+    let both = rooms_both x.coming (heads xs) in
+    let mine : own ≤ rooms_for x.coming = subst (λ (y : Source). own ≤ rooms_for y.coming) is o in
+    let rest : behind ≤ rooms_for (heads xs) = subst (λ (ys : List Source). behind ≤ rooms_for (heads ys)) (others x xs) b in
+    omega (arith, both, mine, rest, a)
 
 pub first_most : (ss : List Source) (own behind : ℕ) → 1 ≤ length ss → own ≤ 1
     → behind ≤ length (take (length ss - 1) (drop 1 ss)) → own + behind ≤ length ss

@@ -28,7 +28,7 @@ use Rattle.hum_assemble.specs.Places.{is_over}
 use Rattle.hum_assemble.specs.Meaning.{goes_on, opening, begun}
 use Rattle.hum_assemble.specs.Meaning.{ends, Moment, all_of, after, after_take, state_of, wants_of}
 use Rattle.hum_assemble.specs.Meaning.{wanted, own_fault, refusal, inputs_end, with_end, is_stopped}
-use Rattle.hum_assemble.specs.Meaning.{held_in, held_at}
+use Rattle.hum_assemble.specs.Meaning.{held_in, held_at, waiting_in, waiting_at}
 use Rattle.hum_stage.specs.Meaning.{resting_state, fault_at}
 use Rattle.hum_assemble.specs.Standing.{Reaches, Standing, ends_in, state_by, wants_by}
 use Rattle.hum_assemble.proofs.Growing.{changed_in, ahead_kept, is_waiting}
@@ -309,6 +309,15 @@ held_stands stage kept spent t h =
     let g = reached_on t.given (opening t.inputs) h.at h.reached in
     (elim h.keeps [
       | inl e ↦ ap held_in (e ∙ sym g)
+      | inr d ↦ let s = d.stopped in let s' : is_stopped (ahead kept) ≡ true = ap is_stopped d.same ∙ s in rw (g, s, s') refl
+    ])
+
+pub waiting_stands : (stage : ℕ) (kept : Merge) (spent : Bool) (t : Moment)
+    → Standing stage kept spent t → waiting_in kept ≡ waiting_at t
+waiting_stands stage kept spent t h =
+    let g = reached_on t.given (opening t.inputs) h.at h.reached in
+    (elim h.keeps [
+      | inl e ↦ ap waiting_in (e ∙ sym g)
       | inr d ↦ let s = d.stopped in let s' : is_stopped (ahead kept) ≡ true = ap is_stopped d.same ∙ s in rw (g, s, s') refl
     ])
 

@@ -147,6 +147,21 @@ held_in m = held_by m.sources (ahead m)
 abbrev pub held_at : Moment → ℕ
 held_at t = held_in (goes_on t.given (opening t.inputs))
 
+-- the records that wait, of each source one at most
+abbrev pub heads : List Source → List Row
+heads [] = []
+heads (s ∷ ss) = s.coming ++ heads ss
+
+abbrev pub waiting_by : List Source → next.Next → List Row
+waiting_by sources step = if is_stopped step then [] else heads sources
+
+abbrev pub waiting_in : Merge → List Row
+waiting_in m = waiting_by m.sources (ahead m)
+
+-- Those of the records that were put that stand in no record given, as long as more can be given.
+abbrev pub waiting_at : Moment → List Row
+waiting_at t = waiting_in (goes_on t.given (opening t.inputs))
+
 abbrev pub put_of : ℕ → List Input → List Row
 put_of j [] = []
 put_of zero (x ∷ xs) = x.put

@@ -1,5 +1,5 @@
 -- Sources side by side: the record that they give next, and how they go on.
-use Rattle.std.specs.Prelude.{ℕ, ◌+◌, nat_lt, nat_le, Bool, true, if◌then◌else◌}
+use Rattle.std.specs.Prelude.{ℕ, ◌+◌, nat_lt, Bool, true, if◌then◌else◌}
 use Rattle.std.specs.Prelude.{List, [], ◌∷◌, ◌++◌, length, replicate, Option, None, Some}
 use Rattle.std.specs.List.{list_any, position_from}
 use Rattle.hum_score.specs.declared.records.SpinedKind.{SpinedKind}

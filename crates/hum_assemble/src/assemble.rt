@@ -1,23 +1,25 @@
 //! Several scores side by side, record by record.
 ghost use Rattle.std.specs.Prelude.{◌≡◌, ◌≤◌, ◌<◌, ◌+◌, ◌⊎◌, ℕ, true, false, List, [], length, map};
-ghost use Rattle.std.specs.Prelude.{is_none, None, Some, IfSome, IfOk, OnOk, OnErr, IsErr};
+ghost use Rattle.std.specs.Prelude.{is_none, None, Some, Option, IfSome, IfOk, OnOk, OnErr, IsErr};
 ghost use Rattle.std.specs.List.{position_from};
 ghost use Rattle.hum_words.specs.declared.commands.Command.TheVariants.{Assemble as AssembleCommand};
-ghost use Rattle.hum_stage.specs.Meaning.{fault_at, resting_state};
+ghost use Rattle.hum_record.specs.Room.{rooms_for};
+ghost use Rattle.hum_stage.specs.declared.faults.Fault.{Fault};
+ghost use Rattle.hum_stage.specs.Meaning.{fault_at, resting_state, readiness_by};
 ghost use Rattle.hum_assemble.specs.Change.{Input, More, Ends, IsOpenInput};
 ghost use Rattle.hum_assemble.specs.{Merge.ahead, Groups.GivesByGroups, Groups.IsTakenByGroups};
 ghost use Rattle.hum_assemble.specs.Meaning.{Moment, MayPut, MayEnd, HasChanged, HasTaken};
 ghost use Rattle.hum_assemble.specs.Meaning.{state_of, wants_of, held_at, lower, inputs_end};
+ghost use Rattle.hum_assemble.specs.Meaning.{heads, waiting_by, waiting_at};
 ghost use Rattle.hum_assemble.specs.Meaning.{HasGrown, held_by, total, empty_moment, KeepsScores};
 ghost use Rattle.hum_assemble.specs.Meaning.{all_of, output, GivesOneAsItIs};
 ghost use Rattle.hum_assemble.specs.Standing.{Stands, HoldOneEach, state_by, wants_by};
 
-use crate::done::Done;
 use crate::places::Next;
 use crate::round::{ahead, ahead_open, any_due, give};
 use crate::source_head::SourceHead;
 use hum_record::{Record, Spare};
-use hum_stage::{Command, End, Fault, MOST_RECORDS, Rule, State};
+use hum_stage::{Command, End, Fault, MOST_RECORDS, Readiness, Rule, State};
 use std::alloc::{AllocError, Global};
 use std::marker::Model;
 
@@ -34,8 +36,6 @@ pub struct Assemble {
     // whether a round goes on, and what can be done next
     going: bool,
     next: Next,
-    // records of the sources that were done with, of two rounds at most
-    done: Done,
     spent: bool,
 }
 
@@ -116,6 +116,16 @@ fn refused(end: Option<End>, stage: u8, given: u64, rule: Rule) -> State
     }
 }
 
+/// What an assembler is ready for that gives no more.
+fn resting(end: Option<End>) -> Readiness
+    ensures { (own : Option Fault) → result ≡ readiness_by (resting_state own end) }
+{
+    match end {
+        None => Readiness::Wants,
+        Some(_) => Readiness::Done,
+    }
+}
+
 /// What an assembler is ready for, by what can be done next.
 fn state_by(sources: &[SourceHead], stage: u8, given: u64, next: Next) -> State
     requires { given ≤ MOST_RECORDS }
@@ -130,6 +140,19 @@ fn state_by(sources: &[SourceHead], stage: u8, given: u64, next: Next) -> State
             Some(end) => State::Done(end),
         },
         Next::Refused(rule) => refused(inputs_end(sources), stage, given, rule),
+    }
+}
+
+/// The same without its end.
+fn readiness_by(sources: &[SourceHead], next: Next) -> Readiness
+    ensures { (stage given : ℕ) → result
+        ≡ readiness_by (state_by stage (record { sources = sources.now; given = given }) next) }
+{
+    match next {
+        Next::Gives(_) => Readiness::Gives,
+        Next::Wants(_) => Readiness::Wants,
+        Next::Over => resting(inputs_end(sources)),
+        Next::Refused(_) => resting(inputs_end(sources)),
     }
 }
 
@@ -156,6 +179,28 @@ fn held_by(sources: &[SourceHead], next: Next) -> usize
     match next {
         Next::Gives(_) => all,
         Next::Wants(_) => all,
+        Next::Over => 0,
+        Next::Refused(_) => 0,
+    }
+}
+
+/// How many bytes the records that wait take.
+fn room_of(sources: &[SourceHead]) -> usize
+    ensures { result ≤ rooms_for (heads sources.now) }
+{
+    match sources {
+        [] => 0,
+        [source, rest @ ..] => source.room().saturating_add(room_of(rest)),
+    }
+}
+
+/// How many bytes the records that wait inside take, as long as more can be given.
+fn room_by(sources: &[SourceHead], next: Next) -> usize
+    ensures { result ≤ rooms_for (waiting_by sources.now next) }
+{
+    match next {
+        Next::Gives(_) => room_of(sources),
+        Next::Wants(_) => room_of(sources),
         Next::Over => 0,
         Next::Refused(_) => 0,
     }
@@ -196,31 +241,53 @@ impl Assemble {
             given: 0,
             going,
             next,
-            done: Done::with_room(alloc, 2 * sources)?,
             spent: false,
         })
     }
 
-    /// Puts the next record of the source that is wanted; those of that source are then a score.
+    /// Puts the next record of the source that is wanted, and tells what it is ready for then; the records of that
+    /// source are then a score. A record that it has no use for goes to the pool.
     ///
     /// # Errors
     /// Out of memory, which each later call that takes memory answers again.
-    pub fn put(&mut self, source: usize, next: Record) -> Result<(), AllocError>
-        requires { self.old.spent ≡ true ⊎ MayPut (Stands self.old) source next }
-        ensures ok { OnOk result
-            (HasChanged (Stands self.old) (Stands self.new) source (More next)) }
-        ensures grows { HasGrown (Stands self.old) source (More next) }
+    pub fn put_with(&mut self, next: Record, pool: &mut Spare) -> Result<Readiness, AllocError>
+        requires { self.old.spent ≡ true ⊎ ((source : ℕ) × MayPut (Stands self.old) source next) }
+        ensures ok { OnOk result ((source : ℕ) → MayPut (Stands self.old) source next
+            → HasChanged (Stands self.old) (Stands self.new) source (More next)) }
+        ensures grows { (source : ℕ) → MayPut (Stands self.old) source next
+            → HasGrown (Stands self.old) source (More next) }
+        ensures ready { IfOk result (λ is. (t : Moment) → Stands self.new t
+            → is ≡ readiness_by (state_of t)) }
         ensures err { OnErr result (self.new.spent ≡ true) }
         ensures stays_spent { self.old.spent ≡ true → IsErr result }
     {
         if self.spent {
             return Err(AllocError);
         }
-        if let Next::Wants(_) = self.next {
-            // the others show what they did, and those before it all that is asked
-            self.sources[source].put(next);
-            self.next = ahead_open(&self.sources, self.given, self.going, source + 1);
-        }
+        let Next::Wants(source) = self.next else {
+            pool.keep(next);
+            return Ok(self.readiness());
+        };
+        // the others show what they did, and those before it all that is asked
+        self.sources[source].put(next);
+        self.next = ahead_open(&self.sources, self.given, self.going, source + 1);
+        Ok(self.readiness())
+    }
+
+    /// [`Assemble::put_with`] without a pool.
+    ///
+    /// # Errors
+    /// Out of memory, which each later call that takes memory answers again.
+    pub fn put(&mut self, _source: usize, next: Record) -> Result<(), AllocError>
+        requires { self.old.spent ≡ true ⊎ MayPut (Stands self.old) _source next }
+        ensures ok { OnOk result
+            (HasChanged (Stands self.old) (Stands self.new) _source (More next)) }
+        ensures grows { HasGrown (Stands self.old) _source (More next) }
+        ensures err { OnErr result (self.new.spent ≡ true) }
+        ensures stays_spent { self.old.spent ≡ true → IsErr result }
+    {
+        let mut pool = Spare::none(self.alloc);
+        self.put_with(next, &mut pool)?;
         Ok(())
     }
 
@@ -239,7 +306,37 @@ impl Assemble {
         self.next = ahead(&self.sources, self.given, self.going);
     }
 
-    /// The next record that is settled, if there is one.
+    /// The next record that is settled, if there is one, and what it is ready for then. Those of which it is made
+    /// go to the pool.
+    ///
+    /// # Errors
+    /// Out of memory, which each later call that takes memory answers again.
+    pub fn take_with(&mut self, pool: &mut Spare) -> Result<(Option<Record>, Readiness), AllocError>
+        ensures ok { IfOk result (λ r. HasTaken (Stands self.old) (Stands self.new) r.0) }
+
+        // Of scores it is the next of those that their groups give.
+        ensures groups { IfOk result (λ r. IsTakenByGroups (Stands self.old) r.0) }
+        ensures ready { IfOk result (λ r. (t : Moment) → Stands self.new t
+            → r.1 ≡ readiness_by (state_of t)) }
+        ensures err { OnErr result (self.new.spent ≡ true) }
+        ensures stays_spent { self.old.spent ≡ true → IsErr result }
+    {
+        if self.spent {
+            return Err(AllocError);
+        }
+        let Next::Gives(place) = self.next else {
+            return Ok((None, self.readiness()));
+        };
+        self.spent = true;
+        let row = give(self.alloc, &mut self.sources, self.going, place, pool)?;
+        self.given += 1;
+        self.going = any_due(&self.sources);
+        self.next = ahead(&self.sources, self.given, self.going);
+        self.spent = false;
+        Ok((Some(row), self.readiness()))
+    }
+
+    /// [`Assemble::take_with`] without a pool.
     ///
     /// # Errors
     /// Out of memory, which each later call that takes memory answers again.
@@ -251,39 +348,16 @@ impl Assemble {
         ensures err { OnErr result (self.new.spent ≡ true) }
         ensures stays_spent { self.old.spent ≡ true → IsErr result }
     {
-        if self.spent {
-            return Err(AllocError);
-        }
-        let Next::Gives(place) = self.next else {
-            return Ok(None);
-        };
-        self.spent = true;
-        let row = give(
-            self.alloc,
-            &mut self.sources,
-            self.going,
-            place,
-            &mut self.done,
-        )?;
-        self.given += 1;
-        self.going = any_due(&self.sources);
-        self.next = ahead(&self.sources, self.given, self.going);
-        self.spent = false;
-        Ok(Some(row))
+        let mut pool = Spare::none(self.alloc);
+        let (taken, _) = self.take_with(&mut pool)?;
+        Ok(taken)
     }
 
-    /// Hands a record that was put and is done with to the pool, if another is left in which the next is made:
-    /// where none stands in front there, since from the left a source reads as soon as its record is put; and
-    /// where more wait than a round leaves, since from the right all read once a round is over.
-    pub fn give_back(&mut self, pool: &mut Spare)
-        ensures { self.new ≡ self.old }
+    /// What it is ready for, as [`Assemble::state`] says without its end.
+    pub fn readiness(&self) -> Readiness
+        ensures { (t : Moment) → Stands self.now t → result ≡ readiness_by (state_of t) }
     {
-        if pool.has_first() && self.done.count() <= self.sources.len() {
-            return;
-        }
-        if let Some(row) = self.done.take_surplus() {
-            pool.keep(row);
-        }
+        readiness_by(&self.sources, self.next)
     }
 
     /// What it is ready for: it gives while it has records that are settled, then wants until
@@ -318,5 +392,12 @@ impl Assemble {
             → length (all_of t) ≤ t.given + result }
     {
         held_by(&self.sources, self.next)
+    }
+
+    /// How many bytes the records that wait inside take, beside their own size: no more than what they say needs.
+    pub fn room(&self) -> usize
+        ensures { (t : Moment) → Stands self.now t → result ≤ rooms_for (waiting_at t) }
+    {
+        room_by(&self.sources, self.next)
     }
 }

@@ -6,7 +6,6 @@
 #![tactic(auto)]
 
 mod assemble;
-mod done;
 mod places;
 mod placing;
 mod round;

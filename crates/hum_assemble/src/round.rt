@@ -10,7 +10,6 @@ ghost use Rattle.hum_assemble.specs.Merge.{spines, all_moved, made, comment_give
 ghost use Rattle.hum_assemble.specs.Merge.{ahead, ahead_open, ahead_at, given_row, given_on};
 ghost use Rattle.hum_assemble.specs.Taking.{row_taken, bytes_given, parts_given, IsGiving, IsAlone};
 
-use crate::done::Done;
 use crate::places::{Next, Place};
 use crate::source_head::SourceHead;
 use hum_path::MOST_SPINES;
@@ -223,11 +222,11 @@ fn push_parts(
 }
 
 /// A record more is given, and the one before it is done with.
-fn hand_on(given: &mut Option<Record>, row: Record, done: &mut Done)
+fn hand_on(given: &mut Option<Record>, row: Record, pool: &mut Spare)
     ensures { given.new ≡ Some row }
 {
     if let Some(before) = given.take() {
-        done.keep(before);
+        pool.keep(before);
     }
     *given = Some(row);
 }
@@ -238,7 +237,7 @@ fn go_on(
     sources: &mut [SourceHead],
     going: bool,
     p: Place,
-    done: &mut Done,
+    pool: &mut Spare,
 ) -> Result<Option<Record>, AllocError>
     ensures moved { OnOk result (sources.new ≡ all_moved true going p sources.old) }
     ensures row { IfOk result (λ o. o ≡ row_taken None true going p sources.old) }
@@ -249,7 +248,7 @@ fn go_on(
         let taken = source.takes(free, going, p);
         free = still_free(free, p, taken);
         if let Some(row) = source.go_on(taken, going, p)? {
-            hand_on(&mut given, row, done);
+            hand_on(&mut given, row, pool);
         }
     }
     Ok(given)
@@ -260,7 +259,7 @@ fn give_alone(
     sources: &mut [SourceHead],
     going: bool,
     p: Place,
-    done: &mut Done,
+    pool: &mut Spare,
 ) -> Result<Record, AllocError>
     requires giving { IsGiving going p sources.old }
     requires lawful { AllLawful sources.old }
@@ -268,19 +267,10 @@ fn give_alone(
     ensures row { IfOk result (λ row. row ≡ made going p sources.old) }
     ensures sources { OnOk result (sources.new ≡ all_moved true going p sources.old) }
 {
-    let Some(row) = go_on(sources, going, p, done)? else {
+    let Some(row) = go_on(sources, going, p, pool)? else {
         unreachable!()
     };
     Ok(row)
-}
-
-/// The buffers of a record that was done with, if there is one.
-fn spare_of(alloc: Global, done: &mut Done) -> Spare {
-    let mut spare = Spare::none(alloc);
-    if let Some(row) = done.take() {
-        spare.keep(row);
-    }
-    spare
 }
 
 /// The one record of the records at this place, in the buffers of one that was done with.
@@ -290,7 +280,7 @@ fn side_by_side(
     sources: &[SourceHead],
     going: bool,
     p: Place,
-    done: &mut Done,
+    pool: &mut Spare,
 ) -> Result<Record, AllocError>
     requires kind { kind_at p ≡ Some kind }
     requires giving { IsGiving going p sources.now }
@@ -298,8 +288,7 @@ fn side_by_side(
     requires fits { length (text_of (made going p sources.now)) ≤ MOST_BYTES }
     ensures { IfOk result (λ row. row ≡ made going p sources.now) }
 {
-    let mut spare = spare_of(alloc, done);
-    let mut builder = RecordBuilder::reusing(alloc, kind, &mut spare);
+    let mut builder = RecordBuilder::reusing(alloc, kind, pool);
     push_parts(sources, going, p, &mut builder)?;
     Ok(builder.finish())
 }
@@ -311,7 +300,7 @@ fn give_side_by_side(
     sources: &mut [SourceHead],
     going: bool,
     p: Place,
-    done: &mut Done,
+    pool: &mut Spare,
 ) -> Result<Record, AllocError>
     requires kind { kind_at p ≡ Some kind }
     requires giving { IsGiving going p sources.old }
@@ -320,9 +309,9 @@ fn give_side_by_side(
     ensures row { IfOk result (λ row. row ≡ made going p sources.old) }
     ensures sources { OnOk result (sources.new ≡ all_moved true going p sources.old) }
 {
-    let row = side_by_side(alloc, kind, sources, going, p, done)?;
-    if let Some(last) = go_on(sources, going, p, done)? {
-        done.keep(last);
+    let row = side_by_side(alloc, kind, sources, going, p, pool)?;
+    if let Some(last) = go_on(sources, going, p, pool)? {
+        pool.keep(last);
     }
     Ok(row)
 }
@@ -333,7 +322,7 @@ fn give_at(
     sources: &mut [SourceHead],
     going: bool,
     p: Place,
-    done: &mut Done,
+    pool: &mut Spare,
 ) -> Result<Record, AllocError>
     requires giving { IsGiving going p sources.old }
     requires lawful { AllLawful sources.old }
@@ -342,12 +331,12 @@ fn give_at(
     ensures sources { OnOk result (sources.new ≡ all_moved true going p sources.old) }
 {
     match p.kind() {
-        None => give_alone(sources, going, p, done),
+        None => give_alone(sources, going, p, pool),
         Some(kind) => {
             if are_few_parts(sources, true, going, p, 1) {
-                give_alone(sources, going, p, done)
+                give_alone(sources, going, p, pool)
             } else {
-                give_side_by_side(alloc, kind, sources, going, p, done)
+                give_side_by_side(alloc, kind, sources, going, p, pool)
             }
         }
     }
@@ -359,7 +348,7 @@ pub fn give(
     sources: &mut [SourceHead],
     going: bool,
     p: Place,
-    done: &mut Done,
+    pool: &mut Spare,
 ) -> Result<Record, AllocError>
     requires going { going ≡ any_due sources.old }
     requires ahead { (given : ℕ)
@@ -372,6 +361,6 @@ pub fn give(
         ≡ given_on p (record { sources = sources.old; given = given })) }
     ensures lawful { OnOk result (AllLawful sources.new) }
 {
-    let row = give_at(alloc, sources, going, p, done)?;
+    let row = give_at(alloc, sources, going, p, pool)?;
     Ok(row)
 }

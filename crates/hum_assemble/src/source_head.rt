@@ -2,7 +2,7 @@
 ghost use Rattle.std.specs.Prelude.{◌≡◌, ◌++◌, ◌∷◌, ◌≤◌, [], Bool, false, None, Some, IfOk, OnOk};
 ghost use Rattle.std.specs.Prelude.{length, if◌then◌else◌};
 ghost use Rattle.std.specs.List.{AllByRecursion};
-ghost use Rattle.hum_record.specs.{Building.spelled};
+ghost use Rattle.hum_record.specs.{Building.spelled, Room.rooms_for};
 ghost use Rattle.hum_score.specs.{Spelling.IsToken, Row.tokens_of};
 ghost use Rattle.hum_score.specs.{Spines.width, Rules.fault_of};
 ghost use Rattle.hum_assemble.specs.{Head.first_of, Head.AreLawful, Source.untouched};
@@ -130,6 +130,16 @@ impl SourceHead {
         match &self.head {
             None => 0,
             Some(_) => 1,
+        }
+    }
+
+    /// How many bytes the record that waits takes, beside its own size.
+    pub fn room(&self) -> usize
+        ensures { result ≤ rooms_for self.now.coming }
+    {
+        match &self.head {
+            None => 0,
+            Some(head) => head.row.room(),
         }
     }
 

@@ -29,8 +29,6 @@ pub struct Cells<T> {
     paths: Paths,
     // for each spine, whether it is under **kern
     kern: Vec<bool>,
-    // what is left of records that gave way to others
-    spare: Spare,
 }
 
 /// Marks the spines that are under `**kern`.
@@ -141,7 +139,13 @@ impl<T: TokenRewriter> Cells<T> {
     ///
     /// # Errors
     /// The rule by which it is refused; or out of memory.
-    fn step_data(&mut self, next: Record, _room: u64, out: &mut UpToTwo) -> Result<(), Refusal>
+    fn step_data(
+        &mut self,
+        next: Record,
+        _room: u64,
+        pool: &mut Spare,
+        out: &mut UpToTwo,
+    ) -> Result<(), Refusal>
         requires score { MayStep (Frames (T.follows self.old.teller) self.old.paths.path self.old.kern.items) next }
         requires kind { kind_of next ≡ AnyValues }
         requires at_most { length (text_of next) ≤ 1048576 }
@@ -150,14 +154,8 @@ impl<T: TokenRewriter> Cells<T> {
             (Frames (T.follows self.new.teller) self.new.paths.path self.new.kern.items)
             next _room out.new) }
     {
-        let told = tell_data(
-            self.alloc,
-            &mut self.teller,
-            &self.kern,
-            &next,
-            &mut self.spare,
-        )?;
-        told.put(next, &mut self.spare, out);
+        let told = tell_data(self.alloc, &mut self.teller, &self.kern, &next, pool)?;
+        told.put(next, pool, out);
         Ok(())
     }
 
@@ -166,7 +164,13 @@ impl<T: TokenRewriter> Cells<T> {
     /// # Errors
     /// L1; or out of memory.
     #[inline(never)]
-    fn step_other(&mut self, next: Record, _room: u64, out: &mut UpToTwo) -> Result<(), Refusal>
+    fn step_other(
+        &mut self,
+        next: Record,
+        _room: u64,
+        pool: &mut Spare,
+        out: &mut UpToTwo,
+    ) -> Result<(), Refusal>
         requires score { MayStep (Frames (T.follows self.old.teller) self.old.paths.path self.old.kern.items) next }
         requires kind { kind_of next ≢ AnyValues }
         ensures { IfTold result (HasStepped
@@ -175,9 +179,9 @@ impl<T: TokenRewriter> Cells<T> {
             next _room out.new) }
     {
         self.teller.follow(&next, &self.paths.follow(&next)?)?;
-        let told = tell_other(self.alloc, &self.teller, &self.kern, &next, &mut self.spare)?;
+        let told = tell_other(self.alloc, &self.teller, &self.kern, &next, pool)?;
         mark_after(&next, &self.paths, &mut self.kern)?;
-        told.put(next, &mut self.spare, out);
+        told.put(next, pool, out);
         Ok(())
     }
 }
@@ -205,14 +209,19 @@ impl<T: TokenRewriter> Decides for Cells<T> {
             teller: T::begin(alloc, options),
             paths: Paths::new(alloc),
             kern: Vec::new(alloc),
-            spare: Spare::none(alloc),
         }
     }
 
-    fn step(&mut self, next: Record, _room: u64, out: &mut UpToTwo) -> Result<(), Refusal> {
+    fn step(
+        &mut self,
+        next: Record,
+        _room: u64,
+        pool: &mut Spare,
+        out: &mut UpToTwo,
+    ) -> Result<(), Refusal> {
         match next.kind() {
-            Kind::Values => self.step_data(next, _room, out),
-            _ => self.step_other(next, _room, out),
+            Kind::Values => self.step_data(next, _room, pool, out),
+            _ => self.step_other(next, _room, pool, out),
         }
     }
 }

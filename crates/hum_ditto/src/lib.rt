@@ -36,8 +36,6 @@ pub struct Repeats {
     memory: LastTokens,
     // where a token is written in parentheses
     shown: Vec<u8>,
-    // what is left of records that gave way to others
-    spare: Spare,
 }
 
 impl Repeats {
@@ -77,6 +75,7 @@ impl Repeats {
         &mut self,
         next: Record,
         _room: u64,
+        pool: &mut Spare,
         out: &mut Option<Record>,
     ) -> Result<(), Refusal>
         requires score { MayStep
@@ -94,18 +93,12 @@ impl Repeats {
             forget(replace(out, Some(next)));
             return Ok(());
         }
-        let rebuilt = rebuilt(
-            self.alloc,
-            &next,
-            &self.memory,
-            &mut self.shown,
-            &mut self.spare,
-        )?;
+        let rebuilt = rebuilt(self.alloc, &next, &self.memory, &mut self.shown, pool)?;
         match rebuilt {
             Some(made) => {
                 self.remember(&next, &made)?;
                 forget(replace(out, Some(made)));
-                self.spare.keep(next);
+                pool.keep(next);
                 Ok(())
             }
             None => Err(Refusal::Rule(Rule::L1)),
@@ -138,13 +131,18 @@ impl Decides for Repeats {
             paths: Paths::new(alloc),
             memory: LastTokens::new(alloc, options),
             shown: Vec::new(alloc),
-            spare: Spare::none(alloc),
         }
     }
 
-    fn step(&mut self, next: Record, _room: u64, out: &mut Option<Record>) -> Result<(), Refusal> {
+    fn step(
+        &mut self,
+        next: Record,
+        _room: u64,
+        pool: &mut Spare,
+        out: &mut Option<Record>,
+    ) -> Result<(), Refusal> {
         match next.kind() {
-            Kind::Values => self.step_data(next, _room, out),
+            Kind::Values => self.step_data(next, _room, pool, out),
             _ => {
                 self.remember_any(&next, &next)?;
                 *out = Some(next);

@@ -13,10 +13,10 @@ use Rattle.hum_turns.specs.Turns.{Gives, popped, can, ready, state}
 use Rattle.hum_turns.specs.Near.{touched}
 use Rattle.hum_nodes.specs.At.{HasChanged}
 use Rattle.hum_nodes.specs.Doing as does
-use Rattle.hum_nodes.specs.Nodes.{StandsAs, is_source}
+use Rattle.hum_nodes.specs.Nodes.{StandsAs, is_source, gives_next}
 use Rattle.hum_nodes.specs.declared.node.Node.{Node}
-use Rattle.hum_nodes.specs.declared.node.Readiness.{Readiness}
-use Rattle.hum_nodes.specs.declared.node.Readiness.TheVariants as kinds
+use Rattle.hum_stage.specs.declared.faults.Readiness.{Readiness}
+use Rattle.hum_stage.specs.declared.faults.Readiness.TheVariants as kinds
 use Rattle.hum_engine.specs.declared.web.Moved.{Moved}
 use Rattle.hum_engine.specs.declared.web.Web.{Web}
 use Rattle.hum_engine.specs.declared.link.Link as port
@@ -28,7 +28,7 @@ use Rattle.hum_engine.specs.Told.{HasTold, HasActed}
 use Rattle.hum_engine.proofs.Acting.{keeps, link_here, passed}
 use Rattle.hum_engine.proofs.Doings.{about_by, done_about, gives_about, wants_about}
 use Rattle.hum_engine.proofs.Feeding.{link_of, node_at}
-use Rattle.hum_engine.proofs.Nexts.{Changes, WantsFrom, next_about, next_kind, next_source, takes}
+use Rattle.hum_engine.proofs.Nexts.{Changes, WantsFrom, next_about, next_kind, next_place, next_source, takes}
 use Rattle.hum_engine.proofs.Moving.{set_here, set_there}
 use Rattle.hum_engine.proofs.Readying.{room_gives, touched_gives, touched_takes, unset_ends}
 use Rattle.hum_engine.proofs.Polling.{state_gives}
@@ -47,9 +47,10 @@ module _ {S R : Type 0} {stage : Stage S} {k : ℕ} {web : Web S R} where
     stage = doing.0;
   }
 
-  pub may_try : {place : ℕ} → IsDoing stage k web (kinds.Wants place) → Somewhere (HasActor stage k web)
-      → Somewhere (IsAbout stage k (does.Wants place) web)
-  may_try doing h = record { scene = h.scene; holds = wants_about (doing.1 h.scene h.holds.at h.holds.less) refl }
+  pub may_try : IsDoing stage k web kinds.Wants → Somewhere (HasActor stage k web)
+      → (place : ℕ) × Somewhere (IsAbout stage k (does.Wants place) web)
+  may_try doing h =
+      let w = wants_about (doing.1 h.scene h.holds.at h.holds.less) refl in (w.0, record { scene = h.scene; holds = w.1 })
 
   pub may_turn : (h : Somewhere (HasActor stage k web))
       → ready (plan_of h.scene) h.scene.size h.scene.links k ≡ true → Somewhere (MayTurn stage k web)
@@ -114,19 +115,19 @@ module _ {S R : Type 0} {stage : Stage S} {reader : Source R} {k : ℕ} {old new
       record { turned = tt; link = tt; full = tt; room = tt; read = λ h. cc; asked = asks_no_one was keep _ refl }
 
 -- What the turn of a stage tells that has taken this from its source.
-pub told_taken : {S R : Type 0} {stage : Stage S} {reader : Source R} {k place source : ℕ} {web new : Web S R} {node : Node S R} {link : port.Link} {answer : Taken}
+pub told_taken : {S R : Type 0} {stage : Stage S} {reader : Source R} {k source : ℕ} {web new : Web S R} {node : Node S R} {link : port.Link} {answer : Taken}
     {full has : Bool} {here : Scene} (change : Flow Row → Flow Row) (after : Node S R) (put : port.Link)
-    → WantsFrom stage k place source web → link ≡ get_or web.links.items source link
+    → WantsFrom stage k source web → link ≡ get_or web.links.items source link
     → Tells link answer (λ size l. taken_of l.waiting l.mark)
     → HasActor stage k web here → node ≡ get_or web.nodes.items k node
     → is_some_of answer ≡ true → Changes link source change → is_source after ≡ false
     → ((rest : List ℕ) (place : ℕ) → HasChanged (StandsAs stage.stands node rest) (StandsAs stage.stands after rest) place change)
     → Goes link put (λ l. popped l l.waiting) → new.nodes.items ≡ slice_set web.nodes.items k after
     → new.links.items ≡ slice_set web.links.items source put
-    → (full ≡ true → HasFullLink k new × (after.readiness ≡ kinds.Gives)) → (has ≡ true → room put ≡ true)
+    → (full ≡ true → HasFullLink k new × (gives_next after ≡ true)) → (has ≡ true → room put ≡ true)
     → HasTold stage reader k web new
     (Ok (record { link = source; is_full = full; has_taken = has }))
-told_taken {S} {R} {stage} {k = k} {place} {source = source} {web = web} {new = new} {node = node} {link = link} {here = here}
+told_taken {S} {R} {stage} {k = k} {source = source} {web = web} {new = new} {node = node} {link = link} {here = here}
     change after put w value told h e some changes kind puts goes en el full has =
     let there : slice_get web.nodes.items k ≡ Some node = node_at h.less h.at.stand e in
     let keep : Keeps k web new = keeps after kind en in
@@ -135,7 +136,7 @@ told_taken {S} {R} {stage} {k = k} {place} {source = source} {web = web} {new = 
       turned = stage_fed (turn_of (next_about w h) p.may.can) (next_kind w)
           (λ u turn.
           let q = takes w value told some turn.actor in
-          passed q (changes u (link_here q)) after put there (λ rest. puts rest place) goes en el)
+          passed q (changes u (link_here q)) after put there (λ rest. puts rest (next_place w turn.actor)) goes en el)
           keep;
       link = λ u actor.
           let a = stage_too h actor in touched_takes (next_about w a) (next_source w a);

@@ -1,14 +1,13 @@
 -- What a stage does next, by its kind.
 use Rattle.std.proofs.Common.{◌≡◌, ◌∙◌, ℕ, Bool, true, false, List, Some, slice_get, get_or, refl, sym, ap, arith}
-use Rattle.std.proofs.lemmas.Bool.{false_from_ne_true, true_from_ne_false}
 use Rattle.hum_stage.specs.declared.faults.End.{End}
 use Rattle.hum_stage.specs.declared.contract.Stage.{Ghosts as Stage}
 use Rattle.hum_nodes.specs.At.{At, doing_of, readiness_of}
 use Rattle.hum_nodes.specs.declared.node.Node.{Node}
 use Rattle.hum_nodes.specs.Doing.{Doing}
 use Rattle.hum_nodes.specs.Doing as does
-use Rattle.hum_nodes.specs.declared.node.Readiness.{Readiness}
-use Rattle.hum_nodes.specs.declared.node.Readiness.TheVariants as kind
+use Rattle.hum_stage.specs.declared.faults.Readiness.{Readiness}
+use Rattle.hum_stage.specs.declared.faults.Readiness.TheVariants as kind
 use Rattle.hum_engine.specs.declared.web.Web.{Web}
 use Rattle.hum_nodes.specs.Nodes.{is_source, readiness_at, StandsAs}
 use Rattle.hum_nodes.proofs.Standing.{stage_bytes}
@@ -17,14 +16,14 @@ use Rattle.hum_engine.proofs.Feeding.{node_at}
 use Rattle.hum_engine.proofs.Readying.{never}
 use Rattle.hum_engine.proofs.Turning.{one_kind}
 
-pub gives_of : (d : Doing) → readiness_of d ≡ kind.Gives → d ≡ does.Gives
-gives_of d h = grind (arith, h)
+pub gives_of : (d : Doing) → readiness_of d ≡ kind.Gives → (d ≡ does.Reads → ⊥) → d ≡ does.Gives
+gives_of d h never = grind (arith, h, never)
 
-reads_of : (d : Doing) → readiness_of d ≡ kind.Reads → d ≡ does.Reads
-reads_of d h = grind (arith, h)
-
-pub wants_of : (d : Doing) (p : ℕ) → readiness_of d ≡ kind.Wants p → d ≡ does.Wants p
-wants_of d p h = grind (arith, h)
+pub wants_of : (d : Doing) → readiness_of d ≡ kind.Wants → (p : ℕ) × (d ≡ does.Wants p)
+wants_of does.Gives h = absurd cc
+wants_of does.Reads h = absurd cc
+wants_of (does.Wants p) h = (p, refl)
+wants_of (does.Done e) h = absurd cc
 
 done_of : (d : Doing) → readiness_of d ≡ kind.Done → (e : End) × (d ≡ does.Done e)
 done_of does.Gives h = absurd cc
@@ -39,13 +38,10 @@ module _ {S R : Type 0} {stage : Stage S} {k : ℕ} {web : Web S R} {s : Scene}
   about_by is = record { actor = a.actor; bytes = a.bytes; does = is }
 
   pub gives_about : r ≡ kind.Gives → IsAbout stage k does.Gives web s
-  gives_about is = about_by (gives_of _ (a.does ∙ is))
+  gives_about is = about_by (gives_of _ (a.does ∙ is) (λ reads. never (about_by reads)))
 
-  pub reads_about : r ≡ kind.Reads → IsAbout stage k does.Reads web s
-  reads_about is = about_by (reads_of _ (a.does ∙ is))
-
-  pub wants_about : {place : ℕ} → r ≡ kind.Wants place → IsAbout stage k (does.Wants place) web s
-  wants_about {place} is = about_by (wants_of _ place (a.does ∙ is))
+  pub wants_about : r ≡ kind.Wants → (place : ℕ) × IsAbout stage k (does.Wants place) web s
+  wants_about is = let w = wants_of _ (a.does ∙ is) in (w.0, about_by w.1)
 
   pub done_about : r ≡ kind.Done → (end : End) × IsAbout stage k (does.Done end) web s
   done_about is = let d = done_of _ (a.does ∙ is) in (d.0, about_by d.1)
@@ -57,14 +53,10 @@ module _ {S R : Type 0} {stage : Stage S} {k : ℕ} {web : Web S R} {node : Node
   says_at : slice_get web.nodes.items k ≡ Some node
   says_at = node_at h.holds.less h.holds.at.stand value
 
-  -- at one moment it is known whether it is a source
-  says : (b : Bool) → is_source node ≡ b → readiness_at b (doing_of (at_of h.scene.kinds h.scene.links k)) ≡ r
-  says b is = grind (arith, told _ _ (h.holds.at.stand.nodes k node says_at), is)
-
-  -- one that doesn't read isn't one, and what it does next is known whatever else the web stands for
-  pub doing_is : {other : Readiness} → r ≡ other → (other ≡ kind.Reads → ⊥) → IsDoing stage k web other
-  doing_is is other =
-      let none = false_from_ne_true _ (λ src. other (sym (says true src ∙ is))) in (
+  -- What one does next that isn't a source is known whatever else the web stands for.
+  pub doing_is : {other : Readiness} → r ≡ other → is_source node ≡ false → IsDoing stage k web other
+  doing_is is none =
+      (
         one_kind k web says_at none,
         λ u at less.
             let here = at.stand.nodes k node says_at in
@@ -74,13 +66,3 @@ module _ {S R : Type 0} {stage : Stage S} {k : ℕ} {web : Web S R} {node : Node
               does = sym (sym is ∙ told _ _ here ∙ ap (λ b. readiness_at b (doing_of (at_of u.kinds u.links k))) none);
             },
       )
-
-  -- one that reads is a source
-  pub reader_is : r ≡ kind.Reads → IsKind true k web
-  reader_is e =
-      let a = h.holds in
-      one_kind k web says_at (true_from_ne_false _ (λ isnt. never (record {
-        actor = a;
-        bytes = stage_bytes stage.stands node (h.scene.rests k) _ isnt (a.at.stand.nodes k node says_at);
-        does = reads_of _ (says false isnt ∙ e);
-      })))

@@ -15,15 +15,16 @@ use Rattle.hum_turns.specs.Turns.{State, Gives, Reads, Takes, Ends, stage_state,
 use Rattle.hum_turns.specs.Turns.{Turns, Step}
 use Rattle.hum_turns.specs.Near.{touched}
 use Rattle.hum_turns.proofs.States.{state_is, gives_less, last_less, wanted, sink_state, takes_same, source_less}
-use Rattle.hum_turns.proofs.States.{source_takes, reads_source, source_is}
+use Rattle.hum_turns.proofs.States.{source_takes, reads_source, reads_bytes, source_is}
 use Rattle.hum_turns.proofs.Near.{step_touches}
-use Rattle.hum_nodes.specs.declared.node.Readiness.TheVariants as kinds
+use Rattle.hum_stage.specs.declared.faults.Readiness.{Readiness}
+use Rattle.hum_stage.specs.declared.faults.Readiness.TheVariants as kinds
 use Rattle.hum_nodes.specs.Doing.{Doing}
 use Rattle.hum_nodes.specs.Doing as does
-use Rattle.hum_nodes.specs.Nodes.{readiness_at, is_source as reads_node}
-use Rattle.hum_nodes.proofs.Standing.{source_bytes}
+use Rattle.hum_nodes.specs.Nodes.{gives_by, readiness_at, is_source as reads_node}
+use Rattle.hum_nodes.proofs.Standing.{source_bytes, stage_bytes}
 use Rattle.hum_engine.proofs.Doings.{gives_of}
-use Rattle.hum_engine.proofs.Polling.{state_gives}
+use Rattle.hum_engine.proofs.Polling.{state_at, state_gives}
 use Rattle.std.proofs.lemmas.Option.{slice_get_within}
 use Rattle.std.specs.Prelude.{Option}
 use Rattle.hum_engine.specs.Scene.{Scene, plan_of, IsFull}
@@ -72,7 +73,7 @@ module _ {R : Type 0} (plan : Plan R) (ok : IsPlan plan) (k : ℕ) where
   turns_own Reads old new e none t = ⊎_elim
       (λ stays. ap view (stays.1 k))
       (λ does. does_own (state plan t.between k) t.between new
-      (λ i is. source_takes plan ok t.between k i (reads_source plan ok old k e) is) does)
+      (λ i is. source_takes plan ok t.between k i (reads_source plan ok old k e) is) does.1)
       t.does
       ∙ ap view t.reads.becomes.here
 
@@ -126,8 +127,11 @@ held_less s m k h = ⊎_elim (λ src. (source_less (plan_of s) k src).0) (λ giv
 
 -- A stage that a turn has left so.
 
-gives_by : (b : Bool) (d : Doing) → readiness_at b d ≡ kinds.Gives → b ≡ false → d ≡ does.Gives
-gives_by b d is other = gives_of d (subst (λ x. readiness_at x d ≡ kinds.Gives) other is)
+gives_ready : (r : Readiness) → gives_by r ≡ true → r ≡ kinds.Gives
+gives_ready r h = grind (arith, h)
+
+gives_doing : (b : Bool) (d : Doing) → readiness_at b d ≡ kinds.Gives → b ≡ false → (d ≡ does.Reads → ⊥) → d ≡ does.Gives
+gives_doing b d is other never = gives_of d (subst (λ x. readiness_at x d ≡ kinds.Gives) other is) never
 
 -- The actor of a net that a turn has left so, while the run goes on.
 pub held_by : {S R W : Type 0} {stage : Stage S} {writer : Sink W}
@@ -147,7 +151,9 @@ held_by {S} {R} {W} {stage} {writer} {k} {net} {start} {s} {now} h none within f
           (λ is. ⊎_elim
           (λ src. inl (reads src))
           (λ other. inr (state_gives s now.links k less
-          (gives_by (reads_node f.node) _ (sym node.knows ∙ is) other)))
+          (gives_doing (reads_node f.node) _ (sym node.knows ∙ gives_ready _ is) other
+          (λ reads. omega (arith, stage_bytes stage.stands f.node _ _ other node,
+          reads_bytes (plan_of s) h.plan.ok now.links k less (state_at s now.links k less reads))))))
           (cases_Bool (reads_node f.node)))
           f.gives;
       full = sym (ap (nat_lt (length (now.links k).waiting)) link.capacity)

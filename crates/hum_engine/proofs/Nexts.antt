@@ -20,12 +20,12 @@ use Rattle.hum_score.specs.Row.{Row}
 use Rattle.hum_turns.specs.Flow.{Flow}
 use Rattle.hum_turns.specs.Turns.{can, ready, state, pushed, popped}
 use Rattle.hum_turns.specs.Near.{touched}
-use Rattle.hum_nodes.specs.At.{sources_of, At, doing_of, HasPut, HasTaken, MayPut, MayDo, MayChange}
+use Rattle.hum_nodes.specs.At.{sources_of, readiness_of, At, doing_of, HasPut, HasTaken, MayPut, MayDo, MayChange}
 use Rattle.hum_nodes.specs.Doing as does
-use Rattle.hum_nodes.specs.Nodes.{StandsAs, is_source, readiness_at}
+use Rattle.hum_nodes.specs.Nodes.{StandsAs, is_source, readiness_at, readiness_in}
 use Rattle.hum_nodes.specs.declared.node.Node.{Node}
-use Rattle.hum_nodes.specs.declared.node.Readiness.TheVariants as kinds
-use Rattle.hum_nodes.proofs.Standing.{any_rest, stage_bytes, wants_place}
+use Rattle.hum_stage.specs.declared.faults.Readiness.TheVariants as kinds
+use Rattle.hum_nodes.proofs.Standing.{any_rest, stage_bytes}
 use Rattle.hum_engine.specs.declared.link.Link as port
 use Rattle.hum_engine.specs.declared.web.Web.{Web}
 use Rattle.hum_engine.specs.Links.{IsLink, Goes, Tells, is_some_of, taken_of}
@@ -93,23 +93,15 @@ pub ahead_kind : {S R : Type 0} {stage : Stage S} {k : ℕ} {web : Web S R} {nod
     → IsAhead stage k web node → IsKind false k web
 ahead_kind {k = k} {web = web} a = one_kind k web a.there a.kind
 
--- Stage k takes from the link of this stage next, at this place.
-pub record WantsFrom {S R : Type 0} (stage : Stage S) (k place source : ℕ) (web : Web S R) : Type 0 where
+-- Stage k takes from the link of this stage next, at some place.
+pub record WantsFrom {S R : Type 0} (stage : Stage S) (k source : ℕ) (web : Web S R) : Type 0 where
   pub node : Node S R
   pub is : slice_get web.nodes.items k ≡ Some node
   pub kind : is_source node ≡ false
-  pub wants : (rest : List ℕ) (t : At) → StandsAs stage.stands node rest t → doing_of t ≡ does.Wants place
-  pub from : (rest : List ℕ) (t : At) → StandsAs stage.stands node rest t → slice_index (sources_of t) place ≡ source
-
-wants_by : {S R : Type 0} {stage : Stage S} (k : ℕ) {place source : ℕ} (web : Web S R) {node : Node S R}
-    → slice_get web.nodes.items k ≡ Some node → is_source node ≡ false → node.readiness ≡ kinds.Wants place
-    → ((rest : List ℕ) (t : At) → StandsAs stage.stands node rest t → doing_of t ≡ does.Wants place
-    → source ≡ slice_index (sources_of t) place)
-    → WantsFrom stage k place source web
-wants_by {stage = stage} k {place} web {node} there kind knows from =
-    let wants : (rest : List ℕ) (t : At) → StandsAs stage.stands node rest t → doing_of t ≡ does.Wants place = λ rest t h.
-    wants_of _ place (ap (λ b. readiness_at b (doing_of t)) (sym kind) ∙ sym h.knows ∙ knows) in
-    record { node = node; is = there; kind = kind; wants = wants; from = λ rest t h. sym (from rest t h (wants rest t h)) }
+  pub wants : (rest : List ℕ) (t : At) → StandsAs stage.stands node rest t
+      → (place : ℕ) × (doing_of t ≡ does.Wants place)
+  pub from : (rest : List ℕ) (t : At) (place : ℕ) → StandsAs stage.stands node rest t → doing_of t ≡ does.Wants place
+      → source ≡ slice_index (sources_of t) place
 
 -- At one moment it does, so it does whatever else the web stands for.
 pub wanting : {S R : Type 0} {stage : Stage S} {k place source : ℕ} {web : Web S R} {s : Scene}
@@ -117,35 +109,47 @@ pub wanting : {S R : Type 0} {stage : Stage S} {k place source : ℕ} {web : Web
     → node ≡ get_or web.nodes.items k node
     → (is_source node ≡ false → (rest : List ℕ) (t : At) (place : ℕ) → StandsAs stage.stands node rest t
     → doing_of t ≡ does.Wants place → source ≡ slice_index (sources_of t) place)
-    → WantsFrom stage k place source web
-wanting {stage = stage} {k = k} {place = place} {web = web} {s = s} {node = node} a stage_kind value from =
+    → WantsFrom stage k source web
+wanting {stage = stage} {k = k} {web = web} {s = s} {node = node} a stage_kind value from =
     let there : slice_get web.nodes.items k ≡ Some node = node_at a.actor.less a.actor.at.stand value in
     let kind = stage_kind node there in
-    wants_by k web there kind (wants_place stage.stands node (s.rests k) _ place kind (a.actor.at.stand.nodes k node there) a.does)
-    (λ rest t h wants. from kind rest t place h wants)
+    let knows : readiness_in node.ahead node.behind ≡ kinds.Wants =
+    (a.actor.at.stand.nodes k node there).knows ∙ ap (λ b. readiness_at b (doing_of (at_of s.kinds s.links k))) kind
+    ∙ ap readiness_of a.does in
+    record {
+      node = node;
+      is = there;
+      kind = kind;
+      wants = λ rest t h.
+          wants_of (doing_of t) (ap (λ b. readiness_at b (doing_of t)) (sym kind) ∙ sym h.knows ∙ knows);
+      from = from kind;
+    }
 
 -- What is taken from its source changes its input by this.
 abbrev pub Changes : port.Link → ℕ → (Flow Row → Flow Row) → Type 0
 Changes link source change =
     (s : Scene) → IsLink s.size link (s.links source) → view (left s source) ≡ change (view (s.links source))
 
-module _ {S R : Type 0} {stage : Stage S} {k place source : ℕ} {web : Web S R} (w : WantsFrom stage k place source web) where
+module _ {S R : Type 0} {stage : Stage S} {k source : ℕ} {web : Web S R} (w : WantsFrom stage k source web) where
   pub next_kind : IsKind false k web
   next_kind = one_kind k web w.is w.kind
 
   module _ {s : Scene} (h : HasActor stage k web s) where
-    standing : StandsAs stage.stands w.node (s.rests k) (at_of s.kinds s.links k)
+    abbrev standing : StandsAs stage.stands w.node (s.rests k) (at_of s.kinds s.links k)
     standing = h.at.stand.nodes k w.node w.is
 
-    pub next_about : IsAbout stage k (does.Wants place) web s
+    abbrev pub next_place : ℕ
+    next_place = (w.wants (s.rests k) _ standing).0
+
+    pub next_about : IsAbout stage k (does.Wants next_place) web s
     next_about = record {
       actor = h;
       bytes = stage_bytes stage.stands w.node (s.rests k) _ w.kind standing;
-      does = w.wants (s.rests k) _ standing;
+      does = (w.wants (s.rests k) _ standing).1;
     }
 
-    pub next_source : source ≡ slice_index (s.kinds k).stage.sources place
-    next_source = sym (w.from (s.rests k) _ standing)
+    pub next_source : source ≡ slice_index (s.kinds k).stage.sources next_place
+    next_source = w.from (s.rests k) _ next_place standing next_about.does
 
     pub next_within : source < length web.links.items
     next_within = within_links next_about next_source
@@ -158,8 +162,8 @@ module _ {S R : Type 0} {stage : Stage S} {k place source : ℕ} {web : Web S R}
     trying_able h =
         some_takes (next_about h) (next_source h) value (tells_some told) ∙ sym (stage_ready (next_about h))
 
-    pub takes : is_some_of answer ≡ true → {s : Scene} → HasActor stage k web s
-        → Passing stage k place web s source link
+    pub takes : is_some_of answer ≡ true → {s : Scene} → (h : HasActor stage k web s)
+        → Passing stage k (next_place h) web s source link
     takes some h = passing (acting (next_about h) (sym (trying_able h) ∙ some)) (next_source h) value
 
     pub trying_may : {s : Scene} {node : Node S R} {change : Flow Row → Flow Row} → HasActor stage k web s
@@ -167,7 +171,7 @@ module _ {S R : Type 0} {stage : Stage S} {k place source : ℕ} {web : Web S R}
         → (place : ℕ) × MayDo (StandsAs stage.stands node []) (λ t. MayChange t change place)
     trying_may {s} {node} h e some changes =
         let there : slice_get web.nodes.items k ≡ Some node = node_at h.less h.at.stand e in (
-          place,
+          next_place h,
           record {
             at = at_of s.kinds s.links k;
             stand = any_rest stage.stands node (next_kind node there) (s.rests k) [] _ (h.at.stand.nodes k node there);

@@ -1,5 +1,5 @@
 -- A turn of a source.
-use Rattle.std.proofs.Common.{◌≡◌, ℕ, ◌<◌, ◌≤◌, true, List, Some, slice_get}
+use Rattle.std.proofs.Common.{◌≡◌, ℕ, ◌+◌, ◌<◌, ◌≤◌, true, List, Some, slice_get}
 use Rattle.std.proofs.Common.{slice_set, slice_index, refl, sym, ◌∙◌, subst, ⊎_elim, inl, arith, lt-ltb}
 use Rattle.std.proofs.lemmas.Bool.{cond-true}
 use Rattle.std.proofs.lemmas.Option.{slice_get_within}
@@ -100,13 +100,13 @@ module _ {S R : Type 0} (stage : Stage S) (s : Scene) (k : ℕ) (nodes : List (N
           at_links = d.at_links;
         }
 
-    -- where it reads and goes on
+    -- where it reads the end and goes on
     reads_on : (p : Polled) (n : ℕ) → (s.links k).read < n → n ≤ (s.kinds k).stage.bytes
-        → doing_of (at_of s.kinds s.links k) ≡ does.Reads
+        → (s.links k).read + 1 ≡ (s.kinds k).stage.bytes → doing_of (at_of s.kinds s.links k) ≡ does.Reads
         → GoesOn (read_to n (at_of s.kinds s.links k)) p (StandsAs stage.stands node (s.rests k))
         → LinkGoes p link after
         → Turned stage s k (slice_set nodes k node) (links_by p links k after)
-    reads_on p n more within e h l =
+    reads_on p n more within last e h l =
         let r = has_read stage s k s.links nodes links others hl n in
         let d = moves_on p r.mid r.near r.at_links
         (subst (λ t. GoesOn t p (StandsAs stage.stands node (s.rests k))) (sym r.at) h) l in
@@ -114,7 +114,7 @@ module _ {S R : Type 0} (stage : Stage S) (s : Scene) (k : ℕ) (nodes : List (N
           new = d.new;
           step = step_reads (plan_of s) s.size k s.links r.mid d.new (omega (arith, less)) is_ready
               (state_at s s.links k less e)
-              (record { upto = n; more = more; within = within; becomes = r.becomes }) d.does;
+              (record { upto = n; more = more; within = within; becomes = r.becomes }) last d.does;
           at_nodes = d.at_nodes;
           at_links = d.at_links;
         }
@@ -146,7 +146,7 @@ module _ {S R : Type 0} (stage : Stage S) (s : Scene) (k : ℕ) (nodes : List (N
         → Turned stage s k (slice_set nodes k node) (links_by p links k after)
     by_doing p does.Reads e h l =
         ⊎_elim
-        (λ goes. reads_on p h.upto h.more h.within e goes l)
+        (λ goes. reads_on p h.upto h.more h.within goes.0 e goes.1 l)
         (λ stays. subst (λ q. Turned stage s k (slice_set nodes k node) (links_by q links k after)) (sym stays.0)
         (reads_only h.upto h.more stays.1 e stays.2))
         h.goes

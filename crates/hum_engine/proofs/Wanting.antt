@@ -115,7 +115,7 @@ module _ {R : Type 0} (plan : Plan R) (ok : IsPlan plan) (many : List R → ℕ)
       let w = touched many k s i _ old t.between t.reads.becomes refl (omega arith) h in
       elim t.does [
         | inl stays ↦ nothing_moved many k s t.between new stays.1 w
-        | inr does ↦ does_keeps i (state plan t.between i) t.between new refl does w
+        | inr does ↦ does_keeps i (state plan t.between i) t.between new refl does.1 w
       ]
 
   run_keeps : (size : ℕ) (is : List ℕ) (old new : Moment R) → Run plan size old is new

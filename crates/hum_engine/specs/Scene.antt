@@ -11,18 +11,19 @@ use Rattle.hum_stage.specs.Lag.{LagsAtMost}
 use Rattle.hum_stage.specs.Meaning.{Meaning, IsLawful, IsWithinLag}
 use Rattle.hum_turns.specs.Plan.{Plan, IsPlan, last}
 use Rattle.hum_turns.specs.Near.{IsOneOf}
+use Rattle.hum_record.specs.Room.{rooms_for}
+use Rattle.hum_turns.specs.Counts.{total}
 use Rattle.hum_turns.specs.Links.{Moment, given, view, IsOpening}
 use Rattle.hum_turns.specs.Turns.{State, state, can, ready, Does, Step, Run}
 use Rattle.hum_nodes.specs.Fine.{fine}
-use Rattle.hum_nodes.specs.At.{Kind, At, HoldsOneEach, IsLimited, doing_of, readiness_of, holds_of, sources_of}
+use Rattle.hum_nodes.specs.At.{Kind, At, HoldsOneEach, IsLimited, doing_of, readiness_of, holds_of, waits_of, sources_of}
 use Rattle.hum_nodes.specs.At.{fresh as fresh_at}
 use Rattle.hum_nodes.specs.Single.{single}
 use Rattle.hum_nodes.specs.Doing.{Doing}
 use Rattle.hum_nodes.specs.Doing as does
-use Rattle.hum_nodes.specs.declared.node.Readiness.{Readiness}
-use Rattle.hum_nodes.specs.declared.node.Readiness.TheVariants as kinds
+use Rattle.hum_stage.specs.declared.faults.Readiness.{Readiness}
 use Rattle.hum_nodes.specs.declared.node.Node.{Node}
-use Rattle.hum_nodes.specs.Nodes.{StandsAs, is_source, remaining_of, ended_of}
+use Rattle.hum_nodes.specs.Nodes.{StandsAs, is_source, gives_next, remaining_of, ended_of}
 use Rattle.hum_engine.specs.declared.link.Link.{Link}
 use Rattle.hum_engine.specs.Links.{IsLink, room}
 use Rattle.hum_engine.specs.declared.web.Web.{Web}
@@ -197,6 +198,13 @@ held_of s m k =
     then (if nat_lt 0 (s.kinds k).stage.bytes then 0 else holds_of (at_of s.kinds m k))
     else 0
 
+-- The room for the records that lie on the link of stage k and for those that wait inside it, and for those of all.
+abbrev pub room_of : Scene → Moment Row → ℕ → ℕ
+room_of s m k = rooms_for (m k).waiting + rooms_for (waits_of (at_of s.kinds m k))
+
+abbrev pub rooms_of : Scene → Moment Row → ℕ
+rooms_of s m = total (room_of s m) s.count
+
 -- So many records are few for stage k: of one input at most one more than the greatest lag of the
 -- records that it was put, or of any records; and in assemble at most one of each source.
 pub record HoldsFew (s : Scene) (m : Moment Row) (k many : ℕ) : Type 0 where
@@ -220,7 +228,7 @@ pub record HasRoom {S R : Type 0} (k : ℕ) (web : Web S R) : Type 0 where
 pub record IsFull {S R : Type 0} (k : ℕ) (web : Web S R) : Type 0 where
   pub node : Node S R
   pub is : slice_get web.nodes.items k ≡ Some node
-  pub gives : (is_source node ≡ true) ⊎ (node.readiness ≡ kinds.Gives)
+  pub gives : (is_source node ≡ true) ⊎ (gives_next node ≡ true)
   pub link : Link
   pub its : slice_get web.links.items k ≡ Some link
   pub full : room link ≡ false

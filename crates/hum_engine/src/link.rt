@@ -5,6 +5,7 @@ ghost use Rattle.hum_turns.specs.Links.{fresh, linked, has_room, has_some};
 ghost use Rattle.hum_turns.specs.Turns.{pushed, popped};
 ghost use Rattle.hum_engine.specs.Traffic.{Traffic, ended};
 ghost use Rattle.hum_score.specs.Row.{Row};
+ghost use Rattle.hum_record.specs.Room.{rooms_for};
 ghost use Rattle.hum_engine.specs.Links.{IsLink, Tells, Goes, room, taken_of, is_some_of};
 ghost use Rattle.hum_engine.specs.declared.link.Taken.TheVariants as kinds;
 
@@ -124,6 +125,17 @@ impl Link {
         ensures { Tells self.now result (λ size l. l.heard) }
     {
         self.heard
+    }
+
+    /// How many bytes the records that wait take, beside their own size: no more than what they say needs.
+    pub fn room(&self) -> usize
+        ensures { (size : ℕ) (l : Traffic) → IsLink size self.now l → result ≤ rooms_for l.waiting }
+    {
+        let mut room: usize = 0;
+        for row in self.waiting.iter() {
+            room = room.saturating_add(row.room());
+        }
+        room
     }
 
     /// How many records wait: those that were put and not taken.

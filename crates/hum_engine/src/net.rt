@@ -11,7 +11,7 @@ ghost use Rattle.hum_turns.specs.Ordering.{order_of};
 ghost use Rattle.hum_turns.specs.Counts.{most_in_all};
 ghost use Rattle.hum_turns.specs.Holds.{SomeReady};
 ghost use Rattle.hum_engine.specs.Scene.{Scene, plan_of, Somewhere, IsAt, IsNetPlan, IsBegun};
-ghost use Rattle.hum_engine.specs.Scene.{held_of, HoldsFew, HasRoom};
+ghost use Rattle.hum_engine.specs.Scene.{held_of, rooms_of, HoldsFew, HasRoom};
 ghost use Rattle.hum_engine.specs.Search.{is_left};
 ghost use Rattle.hum_engine.specs.declared.net.Stepped.TheVariants as steps;
 ghost use Rattle.hum_engine.specs.Nets.{HasSent, SinkWaited, SinkActed, MayGo, IsRunning, IsAmong};
@@ -507,6 +507,15 @@ impl<S: Stage + Drop, R: Source + Drop, W: Sink> Net<S, R, W> {
             (λ start s now. now.failure ≡ None → HoldsFew s now.links k result) }
     {
         self.web.held(k)
+    }
+
+    /// How many bytes the records take that lie on links or wait inside stages, beside their own size: no more than
+    /// what they say needs.
+    pub fn room(&self) -> usize
+        ensures { AtEach S.Stage W.Sink self.now
+            (λ start s now. now.failure ≡ None → result ≤ rooms_of s now.links) }
+    {
+        self.web.room()
     }
 
     /// Whether the run has ended. Until then some actor is ready.

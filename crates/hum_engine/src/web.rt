@@ -8,7 +8,7 @@ ghost use Rattle.hum_turns.specs.Near.{touched};
 ghost use Rattle.hum_turns.specs.Links.{linked, IsOpening};
 ghost use Rattle.hum_nodes.specs.At.{HoldsOneEach};
 ghost use Rattle.hum_nodes.specs.Doing as does;
-ghost use Rattle.hum_nodes.specs.declared.node.Readiness.TheVariants as kinds;
+ghost use Rattle.hum_stage.specs.declared.faults.Readiness.TheVariants as kinds;
 ghost use Rattle.hum_score.specs.Row.{Row};
 ghost use Rattle.hum_engine.specs.Links.{taken_of, is_some_of};
 ghost use Rattle.hum_engine.specs.declared.link.Taken.TheVariants as taken;
@@ -16,13 +16,13 @@ ghost use Rattle.hum_engine.specs.Told.{HasTold, HasWaited, HasActed};
 ghost use Rattle.hum_engine.specs.Scene.{Scene, plan_of, Somewhere, IsAt, IsActor, MayTurn, MayAct};
 ghost use Rattle.hum_engine.specs.Scene.{IsKind, Keeps, Done, IsAbout};
 ghost use Rattle.hum_engine.specs.Scene.{IsAboutKind, IsDoing, HasActor};
-ghost use Rattle.hum_engine.specs.Scene.{IsBegun, Stands, HasStage, held_of, HasFullLink, HasRoom};
+ghost use Rattle.hum_engine.specs.Scene.{IsBegun, Stands, HasStage, held_of, room_of, rooms_of, HasFullLink, HasRoom};
 
 use crate::link::{Link, Taken};
-use hum_nodes::{Node, Readiness};
+use hum_nodes::Node;
 use hum_read::ReadError;
 use hum_record::{Record, Spare};
-use hum_stage::{End, Stage};
+use hum_stage::{End, Readiness, Stage};
 use hum_text::calls::Source;
 use std::alloc::{AllocError, Global};
 
@@ -217,11 +217,14 @@ impl<S: Stage + Drop, R: Source + Drop> Web<S, R> {
         let source = node.source();
         match self.links[source].take() {
             Taken::Record(row) => Some(match node.put(row, &mut self.pool) {
-                Ok(gives) => Ok(Moved {
-                    link: source,
-                    is_full: self.is_full(k, gives),
-                    has_taken: true,
-                }),
+                Ok(()) => {
+                    let gives = node.gives();
+                    Ok(Moved {
+                        link: source,
+                        is_full: self.is_full(k, gives),
+                        has_taken: true,
+                    })
+                }
                 Err(_) => Err(ReadError::Memory),
             }),
             Taken::End(end) => {
@@ -242,14 +245,15 @@ impl<S: Stage + Drop, R: Source + Drop> Web<S, R> {
         ensures { MatchOption result (HasWaited S.Stage k self.old self.new)
             (HasActed S.Stage R.Source k self.old self.new) }
     {
-        match self.nodes[k].readiness() {
-            Readiness::Wants(_) => self.pass(k),
-            Readiness::Reads => {
-                if !self.may_read(k) {
-                    return None;
-                }
-                Some(self.poll(k))
+        let node = &self.nodes[k];
+        if node.is_source() {
+            if !self.may_read(k) {
+                return None;
             }
+            return Some(self.poll(k));
+        }
+        match node.readiness() {
+            Readiness::Wants => self.pass(k),
             Readiness::Gives => {
                 if !self.links[k].has_room() {
                     return None;
@@ -281,11 +285,10 @@ impl<S: Stage + Drop, R: Source + Drop> Web<S, R> {
             Readiness::Gives => self.links[k].has_room(),
             Readiness::Done => self.links[k].is_unset(),
             // while it wants more, it hasn't heard the end
-            Readiness::Wants(place) => {
+            Readiness::Wants => {
                 let source = self.nodes[k].source();
                 self.links[source].has_more()
             }
-            Readiness::Reads => unreachable!(),
         }
     }
 
@@ -334,12 +337,11 @@ impl<S: Stage + Drop, R: Source + Drop> Web<S, R> {
         if k == self.nodes.len() {
             return self.links[k - 1].has_some();
         }
-        match self.nodes[k].readiness() {
-            Readiness::Reads => self.may_read(k),
-            Readiness::Wants(place) => self.can(k, Readiness::Wants(place)),
-            Readiness::Gives => self.can(k, Readiness::Gives),
-            Readiness::Done => self.can(k, Readiness::Done),
+        let node = &self.nodes[k];
+        if node.is_source() {
+            return self.may_read(k);
         }
+        self.can(k, node.readiness())
     }
 
     /// The number of the last stage, whose link the sink takes from.
@@ -378,6 +380,34 @@ impl<S: Stage + Drop, R: Source + Drop> Web<S, R> {
             return 0;
         }
         node.held()
+    }
+
+    // How many bytes the records take that lie on the link of a stage or wait inside it; none where there is no such
+    // stage.
+    fn room_at(&self, k: usize) -> usize
+        ensures { (s : Scene) → HasStage S.Stage k self.now s → result ≤ room_of s s.links k }
+    {
+        if k >= self.nodes.len() || k >= self.links.len() {
+            return 0;
+        }
+        let node = &self.nodes[k];
+        let waiting = self.links[k].room();
+        if node.is_source() {
+            return waiting;
+        }
+        waiting.saturating_add(node.room())
+    }
+
+    /// How many bytes the records take that lie on links or wait inside stages, beside their own size: no more than
+    /// what they say needs.
+    pub fn room(&self) -> usize
+        ensures { (s : Scene) → Stands S.Stage self.now s → result ≤ rooms_of s s.links }
+    {
+        let mut room: usize = 0;
+        for k in 0..self.nodes.len() {
+            room = room.saturating_add(self.room_at(k));
+        }
+        room
     }
 
     /// The end that the sink has heard.

@@ -17,7 +17,7 @@ use crate::kept::keep;
 use hum_choices::ExtractOptions;
 use hum_columns::ChosenColumns;
 use hum_path::steers;
-use hum_record::{Kind, Record};
+use hum_record::{Kind, Record, Spare};
 use hum_stage::{Command, Decides, Refusal, Rule};
 use std::alloc::Global;
 
@@ -93,7 +93,13 @@ impl Decides for ExtractColumns {
         }
     }
 
-    fn step(&mut self, next: Record, room: u64, out: &mut MostlyOne) -> Result<(), Refusal> {
+    fn step(
+        &mut self,
+        next: Record,
+        room: u64,
+        pool: &mut Spare,
+        out: &mut MostlyOne,
+    ) -> Result<(), Refusal> {
         if asks(&next) {
             if !self.columns.is_unopened() {
                 cut(
@@ -104,11 +110,12 @@ impl Decides for ExtractColumns {
                     &mut out.many,
                 )?;
                 self.columns.pass(self.alloc, &next)?;
+                pool.keep(next);
                 return Ok(());
             }
             open(self.alloc, &self.choice, &mut self.columns, &next)?;
         }
-        keep(self.columns.selection(), next, out)?;
+        keep(self.columns.selection(), next, pool, out)?;
         Ok(())
     }
 }

@@ -45,7 +45,7 @@ impl DueRecords for MostlyOne {
         }
     }
 
-    fn next(&mut self) -> Result<Option<Record>, AllocError> {
+    fn next(&mut self, _pool: &mut Spare) -> Result<Option<Record>, AllocError> {
         if self.one.is_some() {
             return Ok(self.one.take());
         }
@@ -69,6 +69,10 @@ impl DueRecords for MostlyOne {
 
     fn is_empty(&self) -> bool {
         self.one.is_none() && self.many.is_empty()
+    }
+
+    fn room(&self) -> usize {
+        self.one.room().saturating_add(self.many.room())
     }
 
     fn clear(&mut self) {

@@ -5,15 +5,20 @@ ghost use Rattle.hum_columns.specs.Following.{AsWide};
 ghost use Rattle.hum_extract.specs.Kept.{kept};
 
 use crate::due::MostlyOne;
-use hum_record::{Record, Selection};
+use hum_record::{Record, Selection, Spare};
 use std::alloc::AllocError;
 
 /// Gives what is left of a record with the chosen tokens alone, if there are any. A global comment has
-/// none, and stays.
+/// none, and stays. A record of which nothing is left goes to the pool.
 ///
 /// # Errors
 /// Out of memory.
-pub fn keep(selection: &Selection, mut row: Record, out: &mut MostlyOne) -> Result<(), AllocError>
+pub fn keep(
+    selection: &Selection,
+    mut row: Record,
+    pool: &mut Spare,
+    out: &mut MostlyOne,
+) -> Result<(), AllocError>
     requires as_wide { AsWide selection.now row }
     requires lawful { IsTextOf row (text_of row) }
     requires empty { out.old ≡ [] }
@@ -21,6 +26,7 @@ pub fn keep(selection: &Selection, mut row: Record, out: &mut MostlyOne) -> Resu
 {
     if row.width() != 0 {
         if selection.is_none() {
+            pool.keep(row);
             return Ok(());
         }
         row.retain(selection)?;

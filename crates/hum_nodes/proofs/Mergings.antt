@@ -1,26 +1,27 @@
 -- What several scores side by side stand for, as a node.
 use Rattle.std.proofs.Common.{◌≡◌, ◌∙◌, refl, sym, ap, subst, ℕ, zero, suc, Bool, true, false, if◌then◌else◌, nat_lt}
-use Rattle.std.proofs.Common.{List, [], ◌∷◌, ◌++◌, length, map, replicate, Option, Some, None, arith, ◌+◌, ◌<◌, ◌≤◌}
+use Rattle.std.proofs.Common.{List, [], ◌∷◌, ◌++◌, length, map, replicate, Option, Some, None, unwrap_or, arith, ◌+◌, ◌<◌, ◌≤◌}
 use Rattle.std.proofs.Common.{◌%◌}
-use Rattle.std.specs.Prelude.{IfSome, MatchOption, slice_get}
-use Rattle.std.proofs.lemmas.List.{length-replicate}
+use Rattle.std.specs.Prelude.{MatchOption, slice_get}
 use Rattle.hum_score.specs.Row.{Row}
 use Rattle.hum_stage.specs.declared.faults.End.{End}
 use Rattle.hum_stage.specs.declared.faults.Fault.{Fault}
 use Rattle.hum_stage.specs.declared.faults.State.{State}
 use Rattle.hum_stage.specs.declared.faults.State.TheVariants as state
-use Rattle.hum_stage.specs.Meaning.{resting_state, end_of as stage_end}
+use Rattle.hum_stage.specs.declared.faults.Readiness.{Readiness}
+use Rattle.hum_stage.specs.Meaning.{resting_state, readiness_by, end_of as stage_end}
 use Rattle.hum_score.specs.InOrder.{IsScore, IsClosed}
-use Rattle.hum_assemble.specs.Change.{Input, Change, More, Ends, had_at, IsOpenInput}
+use Rattle.hum_assemble.specs.Change.{Input, Change, More, Ends, had_at}
 use Rattle.hum_assemble.specs.Meaning as merge
 use Rattle.hum_assemble.specs.Meaning.{Moment, all_of, after_take, after, own_fault, ends, state_of, wants_of, put_of}
-use Rattle.hum_assemble.specs.Meaning.{output, MayPut, MayEnd, HasChanged, HasTaken}
+use Rattle.hum_assemble.specs.Meaning.{output, waiting_at, MayPut, MayEnd, HasChanged, HasTaken}
 use Rattle.hum_assemble.proofs.Standings.{OpenIn}
 use Rattle.hum_turns.specs.Flow.{Flow, so_far, AllFine}
 use Rattle.hum_turns.specs.Plan.{or_own, inputs_end}
 use Rattle.hum_nodes.specs.Doing.{Doing, Gives, Wants, Done}
 use Rattle.hum_nodes.specs.Fine.{fine, IsFine}
-use Rattle.hum_nodes.specs.At.{At, doing_by, doing_of, output_of, change_at, MayChange, with_record, with_end}
+use Rattle.hum_nodes.specs.At.{At, doing_by, doing_of, output_of, waits_of, readiness_of}
+use Rattle.hum_nodes.specs.At.{change_at, MayChange, with_record, with_end}
 use Rattle.hum_nodes.specs.At as node
 use Rattle.hum_nodes.specs.Single.{own_end}
 use Rattle.hum_nodes.specs.Merging.{input_of, inputs_of, wanted_of, want_from, merging, IsMerging}
@@ -61,6 +62,29 @@ by_test : (b : Bool) (a : List (Flow Row)) (o : Option Fault)
 by_test true a o = refl
 by_test false a o = rests a o (wanted_of (inputs_of a)) refl
 
+-- What the assembler is ready for, in the same way.
+
+open_end : (j : ℕ) (es : List (Option End)) → OpenIn j es → merge.inputs_end es ≡ None
+open_end j [] h = absurd h
+open_end zero (e ∷ es) h = grind (arith, h)
+open_end (suc j) (e ∷ es) h = grind (arith, open_end j es h)
+
+rests_ready : (a : List (Flow Row)) (o : Option Fault) (w : Option ℕ) → wanted_of (inputs_of a) ≡ w
+    → readiness_by (resting_state o (merge.inputs_end (ends (inputs_of a))))
+    ≡ readiness_of (doing_for (resting_state o (merge.inputs_end (ends (inputs_of a)))) w)
+rests_ready a o (Some place) h =
+    rw (open_end place (ends (inputs_of a)) (wanted_open (inputs_of a) place h)) refl
+rests_ready a o None h =
+    rw (ends_are a (all_over a (unwanted_ended (inputs_of a) h))) (grind arith)
+
+by_readiness : (b : Bool) (a : List (Flow Row)) (o : Option Fault)
+    → readiness_by (if b then state.Gives else resting_state o (merge.inputs_end (ends (inputs_of a))))
+    ≡ readiness_of (doing_for
+    (if b then state.Gives else resting_state o (merge.inputs_end (ends (inputs_of a))))
+    (if b then None else wanted_of (inputs_of a)))
+by_readiness true a o = refl
+by_readiness false a o = rests_ready a o (wanted_of (inputs_of a)) refl
+
 doing_wants : (s : State) (o : Option ℕ) (p : ℕ) → doing_for s o ≡ Wants p → o ≡ Some p
 doing_wants s o p h = grind (arith, h)
 
@@ -86,11 +110,6 @@ changed_inputs change [] place = refl
 changed_inputs change (x ∷ a) zero = grind arith
 changed_inputs change (x ∷ a) (suc place) = ap (λ xs. input_of x ∷ xs) (changed_inputs change a place)
 
-had_length : (j : ℕ) (change : Change) (xs : List Input) → length (had_at j change xs) ≡ length xs
-had_length j change [] = refl
-had_length zero change (x ∷ xs) = refl
-had_length (suc j) change (x ∷ xs) = ap suc (had_length j change xs)
-
 module _ {stands : Moment → Type 0} {from : List ℕ} {t : At} (h : IsMerging stands from t) where
   doing_is : doing_of t ≡ doing_for (state_of h.moment) (wants_of h.moment)
   doing_is =
@@ -105,6 +124,24 @@ module _ {stands : Moment → Type 0} {from : List ℕ} {t : At} (h : IsMerging 
   told {s} {o} is wanted =
       ap (λ x. doing_for x o) is ∙ ap (doing_for (state_of h.moment)) wanted ∙ sym doing_is
 
+  -- what the assembler is ready for
+  pub readiness_is : (is : Readiness) → ((m : Moment) → stands m → is ≡ readiness_by (state_of m))
+      → is ≡ readiness_of (doing_of t)
+  readiness_is is shows =
+      let m = h.moment in
+      let inputs = inputs_of t.inputs in
+      shows m h.stand
+      ∙ ap (λ xs. readiness_by (state_of (record m { inputs = xs }))) (sym h.inputs)
+      ∙ by_readiness (nat_lt m.given (length (output inputs))) t.inputs (own_fault m.stage inputs)
+      ∙ ap (λ xs. readiness_of (doing_for (state_of (record m { inputs = xs })) (wants_of (record m { inputs = xs }))))
+      h.inputs
+      ∙ ap readiness_of (sym doing_is)
+
+  pub waits_is : waits_of t ≡ waiting_at h.moment
+  waits_is =
+      ap waits_of (at_is t h.kind refl h.given)
+      ∙ ap (λ xs. waiting_at (record h.moment { inputs = xs })) h.inputs
+
   -- the end that the state tells
   pub end_told : {s : State} {end : End} → ((m : Moment) → stands m → s ≡ state_of m) → doing_of t ≡ Done end
       → s ≡ state.Done end
@@ -113,6 +150,11 @@ module _ {stands : Moment → Type 0} {from : List ℕ} {t : At} (h : IsMerging 
 
   wanted : {place : ℕ} → doing_of t ≡ Wants place → wants_of h.moment ≡ Some place
   wanted {place} wants = doing_wants (state_of h.moment) (wants_of h.moment) place (sym doing_is ∙ wants)
+
+  -- the place that the assembler tells
+  pub wanted_place : {place : ℕ} {o : Option ℕ} → ((m : Moment) → stands m → o ≡ wants_of m) → doing_of t ≡ Wants place
+      → unwrap_or o 0 ≡ place
+  wanted_place shows wants = ap (λ o. unwrap_or o 0) (shows h.moment h.stand ∙ wanted wants)
 
   awaited : {place : ℕ} → doing_of t ≡ Wants place → OpenIn place (ends (inputs_of t.inputs))
   awaited {place} wants =
@@ -156,7 +198,6 @@ module _ {stands : Moment → Type 0} {from : List ℕ} {t : At} (h : IsMerging 
     kind = h.kind;
     inputs = changed_inputs change t.inputs place ∙ ap (had_at place change) h.inputs;
     given = h.given;
-    few = rw (had_length place change h.moment.inputs) h.few;
   }
 
   next_is : slice_get (all_of h.moment) h.moment.given ≡ slice_get (output_of t) t.given
@@ -177,7 +218,6 @@ module _ {stands : Moment → Type 0} {from : List ℕ} {t : At} (h : IsMerging 
         kind = h.kind;
         inputs = h.inputs;
         given = h.given;
-        few = h.few;
       })
       by (Some row) s = so (node.after_take t) (record {
         moment = after_take h.moment;
@@ -185,7 +225,6 @@ module _ {stands : Moment → Type 0} {from : List ℕ} {t : At} (h : IsMerging 
         kind = h.kind;
         inputs = h.inputs;
         given = ap (λ n. n + 1) h.given;
-        few = h.few;
       })
 
 -- Nothing was put yet.
@@ -198,30 +237,12 @@ none_put [] = refl
 none_put (s ∷ from) = ap (λ xs. empty_input ∷ xs) (none_put from)
 
 pub fresh_stands : {stands : Moment → Type 0} (stage n : ℕ) (from : List ℕ) → n ≡ length from
-    → length from ≤ 15 → stands (merge.empty_moment stage n)
+    → stands (merge.empty_moment stage n)
     → IsMerging stands from (node.fresh (merging stage from))
-fresh_stands stage n from count few s = record {
+fresh_stands stage n from count s = record {
   moment = merge.empty_moment stage n;
   stand = s;
   kind = refl;
   inputs = none_put from ∙ ap (λ k. replicate k empty_input) (sym count);
   given = refl;
-  few = rw (length-replicate n empty_input, count) few;
 }
-
--- no place is wanted
-pub unwanted : (o : Option ℕ) → ((place : ℕ) → o ≡ Some place → ⊥) → o ≡ None
-unwanted o h = grind (arith, h)
-
--- A place that is wanted fits a byte.
-
-open_below : (j : ℕ) (xs : List Input) → IsOpenInput j xs → j < length xs
-open_below j [] h = absurd h
-open_below zero (x ∷ xs) h = omega arith
-open_below (suc j) (x ∷ xs) h = omega (arith, open_below j xs h)
-
-pub fits_byte : (o : Option ℕ) (place : ℕ) (xs : List Input) → length xs ≤ 15 → o ≡ Some place
-    → IfSome o (λ j. IsOpenInput j xs) → place % 256 ≡ place
-fits_byte o place xs few is h =
-    let there : IsOpenInput place xs = rw is at h in
-    omega (arith, open_below place xs there)

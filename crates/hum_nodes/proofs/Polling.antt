@@ -1,5 +1,5 @@
 -- What a turn makes of a stage, whichever it is.
-use Rattle.std.proofs.Common.{◌≡◌, ◌∙◌, sym, ap, subst, ℕ, ◌≤◌, ◌⊎◌, inl, inr, List, length, Some, slice_get, arith}
+use Rattle.std.proofs.Common.{◌≡◌, ◌∙◌, sym, ap, subst, ℕ, ◌+◌, ◌<◌, ◌≤◌, ◌⊎◌, inl, inr, List, length, Some, slice_get, arith}
 use Rattle.std.proofs.Common.{lt-ltb}
 use Rattle.std.proofs.lemmas.Bool.{cases_lt, cond-true}
 use Rattle.std.proofs.lemmas.Option.{slice_get_within}
@@ -34,13 +34,14 @@ by_doing : (d : Doing) (t : At) (p : Polled) (after : At → Type 0) → (d ≡ 
     → PollsBy d t p after
 by_doing d t p after other goes = grind (arith, other, goes)
 
--- so a poll that goes on with so many bytes has read where they are more than before.
+-- so a poll that goes on with so many bytes has read their end where they are more than before.
 pub polls_goes : (t : At) (r : ℕ) (p : Polled) (after : At → Type 0) → t.read ≤ r → r ≤ bytes_of t
-    → ((doing_of t ≡ Reads → ⊥) → t.read ≡ r) → GoesOn (read_to r t) p after → Polls t p after
-polls_goes t r p after more within still goes = elim (reads_or (doing_of t)) [
+    → ((doing_of t ≡ Reads → ⊥) → t.read ≡ r) → (t.read < r → t.read + 1 ≡ bytes_of t)
+    → GoesOn (read_to r t) p after → Polls t p after
+polls_goes t r p after more within still last goes = elim (reads_or (doing_of t)) [
   | inl is ↦ elim (cases_lt t.read r) [
     | inl less ↦ subst (λ d. PollsBy d t p after) (sym is)
-        (record { upto = r; more = less; within = within; goes = inl goes })
+        (record { upto = r; more = less; within = within; goes = inl (last less, goes) })
     | inr same ↦
         let e : t.read ≡ r = omega arith in
         absurd (not_reads t p after (subst (λ r. GoesOn (read_to r t) p after) (sym e) goes) is)
@@ -69,7 +70,7 @@ polls_as t p after later f h = by (doing_of t) h
       more = h.more;
       within = h.within;
       goes = elim h.goes [
-        | inl goes ↦ inl (goes_as (read_to h.upto t) p after later f goes)
+        | inl goes ↦ inl (goes.0, goes_as (read_to h.upto t) p after later f goes.1)
         | inr on ↦ inr (on.0, on.1, f _ on.2)
       ];
     }

@@ -1,7 +1,7 @@
 -- What a stage of one input stands for, as a node.
 use Rattle.std.proofs.Common.{◌≡◌, ◌∙◌, refl, sym, ap, subst, ℕ, ◌+◌, ◌<◌, ◌≤◌, Bool, if◌then◌else◌, nat_lt, List, []}
 use Rattle.std.proofs.Common.{◌∷◌, ◌++◌, length, Option, Some, None, unwrap_or, arith, length-append, slice_get}
-use Rattle.std.proofs.Common.{slice_index}
+use Rattle.std.proofs.Common.{slice_index, drop, zero, suc}
 use Rattle.hum_score.specs.Row.{Row}
 use Rattle.hum_stage.specs.declared.faults.End.{End}
 use Rattle.hum_stage.specs.declared.faults.End.TheVariants.{Closed}
@@ -10,15 +10,17 @@ use Rattle.hum_stage.specs.declared.faults.State.{State}
 use Rattle.hum_stage.specs.declared.faults.State.TheVariants as state
 use Rattle.hum_stage.specs.declared.faults.Readiness.{Readiness}
 use Rattle.hum_stage.specs.Meaning.{Meaning, Moment, output, own_fault, state_of, resting_state, readiness_by}
-use Rattle.hum_stage.specs.Meaning.{ShowsState, ShowsReadiness, MayPut, MayEnd, TookFirst, all_of, held_at, after_take}
+use Rattle.hum_stage.specs.Meaning.{ShowsState, ShowsReadiness, MayPut, MayEnd, TookFirst, all_of, held_at, waiting_rows}
+use Rattle.hum_stage.specs.Meaning.{after_take, unserved}
+use Rattle.hum_record.specs.Room.{room_for, rooms_for}
 use Rattle.hum_turns.specs.Flow.{Flow, AllFine}
 use Rattle.hum_turns.specs.Plan.{lower, or_own}
 use Rattle.hum_nodes.specs.Doing.{Doing, Gives, Wants, Done}
 use Rattle.hum_nodes.specs.Fine.{fine, IsFine}
-use Rattle.hum_nodes.specs.At.{Kind, At, doing_by, doing_of, output_of, holds_of, readiness_of, change_at, MayChange}
+use Rattle.hum_nodes.specs.At.{Kind, At, doing_by, doing_of, output_of, holds_of, waits_of, readiness_of, change_at, MayChange}
 use Rattle.hum_nodes.specs.At.{with_record, with_end}
 use Rattle.hum_nodes.specs.Nodes.{KnowsSource}
-use Rattle.hum_nodes.specs.Single.{want_by, own_end, single, IsSingle, IsAhead, readiness_for}
+use Rattle.hum_nodes.specs.Single.{want_by, own_end, single, IsSingle, HasAhead, IsAhead}
 use Rattle.hum_nodes.proofs.Fining.{fine_is}
 use Rattle.hum_nodes.proofs.Polling.{at_is, gives_if}
 
@@ -33,7 +35,7 @@ by_test : (b : Bool) (o : Option Fault) (e : Option End)
     ≡ doing_for (if b then state.Gives else resting_state o e)
 by_test b o e = grind arith
 
-by_readiness : (s : State) → readiness_for (readiness_by s) ≡ readiness_of (doing_for s)
+by_readiness : (s : State) → readiness_by s ≡ readiness_of (doing_for s)
 by_readiness s = grind arith
 
 state_wants : (s : State) (p : ℕ) → doing_for s ≡ Wants p → (s ≡ state.Wants) × (p ≡ 0)
@@ -66,9 +68,9 @@ module _ {stands : Moment → Type 0} {from : ℕ} {t : At} (h : IsSingle stands
       ∙ by_test (nat_lt m.given (length (output m.meaning m.put))) (own_fault m.meaning m.put) m.ended
 
   -- and by what the stage is ready for,
-  pub readiness_is : (is : Readiness) → ShowsReadiness stands is → readiness_for is ≡ readiness_of (doing_of t)
+  pub readiness_is : (is : Readiness) → ShowsReadiness stands is → is ≡ readiness_of (doing_of t)
   readiness_is is shows =
-      ap readiness_for (shows h.moment h.stand) ∙ by_readiness (state_of h.moment) ∙ sym (ap readiness_of doing_is)
+      shows h.moment h.stand ∙ by_readiness (state_of h.moment) ∙ sym (ap readiness_of doing_is)
 
   -- and so is its end.
   pub end_told : {s : State} {end : End} → ShowsState stands s → doing_of t ≡ Done end → s ≡ state.Done end
@@ -81,6 +83,9 @@ module _ {stands : Moment → Type 0} {from : ℕ} {t : At} (h : IsSingle stands
 
   pub holds_is : holds_of t ≡ held_at h.moment
   holds_is = ap holds_of (at_is t h.kind h.inputs h.given)
+
+  pub waits_is : waits_of t ≡ waiting_rows h.moment
+  waits_is = ap waits_of (at_is t h.kind h.inputs h.given)
 
   -- It takes from its one input.
   pub takes_first : KnowsSource from t
@@ -133,6 +138,24 @@ pub kind_is : (stands : Moment → Type 0) (from : ℕ) (ahead : Option Row) (is
     → IsAhead stands from ahead is t → (m : Meaning) × (t.kind ≡ single from m)
 kind_is stands from None is t h = (h.moment.meaning, h.kind)
 kind_is stands from (Some row) is t h = (h.behind.moment.meaning, h.behind.kind)
+
+-- It waits.
+
+first_room : (xs more : List Row) (i : ℕ) (row : Row) → Some row ≡ slice_get xs i
+    → room_for row ≤ rooms_for (drop i xs ++ more)
+first_room [] more i row h = absurd cc
+first_room (x ∷ xs) more zero row h = let is : row ≡ x = cc in rw is (omega arith)
+first_room (x ∷ xs) more (suc i) row h = first_room xs more i row h
+
+pub room_ahead : {stands : Moment → Type 0} {from : ℕ} {row : Row} {is : Readiness} {t : At}
+    → HasAhead stands from row is t → room_for row ≤ rooms_for (waits_of t)
+room_ahead {row = row} {t = t} h =
+    let b = h.behind in
+    let e = at_is t b.kind b.inputs refl in
+    let rows = output b.moment.meaning b.moment.put in
+    let r = first_room rows (unserved t.given (b.moment.meaning.outcomes b.moment.put) b.moment.put) t.given row
+    (h.next ∙ ap (λ (u : At). slice_get (output_of u) u.given) e) in
+    omega (arith, r, ap (λ u. rooms_for (waits_of u)) e)
 
 -- The first that was settled may be kept ahead.
 pub took_ahead : {stands : Moment → Type 0} {from : ℕ} {t : At} {row : Row} {is : Readiness}

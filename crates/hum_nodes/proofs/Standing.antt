@@ -9,25 +9,28 @@ use Rattle.hum_score.specs.Row.{Row}
 use Rattle.hum_read.specs.declared.ReadError.{ReadError}
 use Rattle.hum_read.specs.Reading.{Scores, Polled, ReadOn, GivesNext, Nears, answer_of, stop_of}
 use Rattle.hum_text.specs.Reading.{NeedsRead, IsUnread, IsFed, bytes_read, left_to_do}
-use Rattle.hum_stage.specs.declared.faults.Readiness.{Readiness as StageReadiness}
-use Rattle.hum_stage.specs.Meaning.{Moment, HasPutAndTaken, ShowsReadiness, TookFirst, after_put}
+use Rattle.hum_stage.specs.declared.faults.Readiness.{Readiness}
+use Rattle.hum_stage.specs.declared.faults.Readiness.TheVariants as ready
+use Rattle.hum_stage.specs.Meaning.{Moment, HasPutAndTaken, ShowsReadiness, TookFirst, after_put, readiness_by}
+use Rattle.hum_assemble.specs.Meaning as merge
 use Rattle.hum_assemble.specs.Standing.{Assembler, Stands}
-use Rattle.hum_nodes.specs.At.{Kind, At, doing_of, readiness_of, MayChange, with_record, after_change}
+use Rattle.hum_nodes.specs.At.{Kind, At, doing_of, readiness_of, waits_of, MayChange, with_record, after_change}
 use Rattle.hum_nodes.specs.Reading.{some_read, IsReading}
 use Rattle.hum_nodes.specs.Polls.{most_bytes, HasPolled}
 use Rattle.hum_nodes.specs.Doing as does
 use Rattle.hum_nodes.specs.Doing.{Doing}
 use Rattle.hum_nodes.specs.declared.node.Node.{Node}
-use Rattle.hum_nodes.specs.declared.node.Readiness.{Readiness}
-use Rattle.hum_nodes.specs.declared.node.Readiness.TheVariants as ready
 use Rattle.hum_nodes.specs.declared.node.Work.{Work}
 use Rattle.hum_nodes.specs.declared.node.Work.TheVariants.{Read, Command, Assemble}
-use Rattle.hum_nodes.specs.Nodes.{reads, is_source, commands, readiness_at, WorksAs, StandsAs, remaining_by}
+use Rattle.hum_nodes.specs.Nodes.{reads, is_source, commands, readiness_at, readiness_in}
+use Rattle.hum_nodes.specs.Nodes.{WorksAs, KnowsSource, StandsAs, remaining_by}
 use Rattle.hum_nodes.specs.Nodes.{remaining_of, ended_by, ended_of, calls_by, calls_of, failed_by, failed_of}
-use Rattle.hum_nodes.specs.Single.{IsSingle, readiness_for}
+use Rattle.hum_record.specs.Room.{room_for, rooms_for}
+use Rattle.hum_nodes.specs.Single.{IsSingle, IsAhead}
 use Rattle.hum_nodes.specs.Merging.{IsMerging}
 use Rattle.hum_nodes.proofs.Polling.{gives_if, polls_as}
-use Rattle.hum_nodes.proofs.Singles.{kind_is, not_ahead, takes_none, takes_first, readiness_is, changes, took_ahead}
+use Rattle.hum_nodes.proofs.Mergings.{readiness_is as merging_readiness}
+use Rattle.hum_nodes.proofs.Singles.{kind_is, not_ahead, takes_none, takes_first, readiness_is, changes, room_ahead, took_ahead}
 use Rattle.hum_nodes.proofs.Turns.{polled_by}
 
 module _ {S R : Type 0} (stands : S → Moment → Type 0) where
@@ -69,12 +72,6 @@ module _ {S R : Type 0} (stands : S → Moment → Type 0) where
           → WorksAs stands work node.from node.ahead node.behind b t
       by work e works = grind (arith, e, works)
 
-  -- A stage that wants knows the place.
-  pub wants_place : (node : Node S R) (rest : List ℕ) (t : At) (place : ℕ) → is_source node ≡ false
-      → StandsAs stands node rest t → doing_of t ≡ does.Wants place → node.readiness ≡ ready.Wants place
-  wants_place node rest t place e h wants =
-      h.knows ∙ ap (λ b. readiness_at b (doing_of t)) e ∙ ap readiness_of wants
-
 -- A command that isn't about to give has no record ahead.
 pub alone_as : {S R : Type 0} {stands : S → Moment → Type 0} {node : Node S R} {stage : S} {rest : List ℕ} {t : At}
     {d : Doing} → node.work ≡ Command stage → StandsAs stands node rest t → doing_of t ≡ d → (d ≡ does.Gives → ⊥)
@@ -89,32 +86,37 @@ pub as_merging : {S R : Type 0} {stands : S → Moment → Type 0} {node : Node 
 as_merging {stands = stands} {node} {rest = rest} {t} is h =
     subst (λ w. WorksAs stands w node.from node.ahead node.behind rest t) is h.works
 
+-- What was taken ahead of a command waits in the node.
+pub ahead_room : {S R : Type 0} {stands : S → Moment → Type 0} {node : Node S R} {stage : S} {row : Row}
+    {rest : List ℕ} {t : At} → node.work ≡ Command stage → node.ahead ≡ Some row → StandsAs stands node rest t
+    → room_for row ≤ rooms_for (waits_of t)
+ahead_room {stands = stands} {node} {stage} {row} {rest} {t} is some h =
+    room_ahead (subst (λ a. IsAhead (stands stage) node.from a node.behind t) some
+    (subst (λ w. WorksAs stands w node.from node.ahead node.behind rest t) is h.works))
+
 -- What a command is as a node, without a record ahead,
 pub single_stands : {S R : Type 0} (stands : S → Moment → Type 0) {stage : S} {from : ℕ} {ahead : Option Row}
-    {behind is : StageReadiness} {readiness : Readiness} {rest : List ℕ} {t : At}
+    {is : Readiness} {rest : List ℕ} {t : At}
     → IsSingle (stands stage) from t → ahead ≡ None → ShowsReadiness (stands stage) is
-    → readiness ≡ readiness_for is
     → StandsAs {S = S} {R = R} stands
-    (record { work = Command stage; ahead = ahead; behind = behind; readiness = readiness; from = from }) rest t
-single_stands stands {is = is} works none shows known =
+    (record { work = Command stage; ahead = ahead; behind = is; from = from }) rest t
+single_stands stands {is = is} works none shows =
     rw none (record {
       works = works;
       alone = λ other. refl;
-      knows = known ∙ readiness_is works is shows;
+      knows = readiness_is works is shows;
       takes = λ other. takes_first works;
     })
 
 -- and what it is once a record was put, whether the first one of what it gives was taken ahead or not.
 pub put_stands : {S R : Type 0} {stands : S → Moment → Type 0} {node : Node S R} {old new : S} {row : Row}
-    {ahead : Option Row} {is : StageReadiness} {readiness : Readiness} {rest : List ℕ} {t : At} (place : ℕ)
+    {ahead : Option Row} {is : Readiness} {rest : List ℕ} {t : At} (place : ℕ)
     → node.work ≡ Command old → StandsAs stands node rest t → MayChange t (with_record row) place
     → HasPutAndTaken (stands old) (stands new) row ahead → ShowsReadiness (stands new) is
-    → (is_some ahead ≡ true → readiness ≡ ready.Gives) → (is_some ahead ≡ false → readiness ≡ readiness_for is)
     → StandsAs {S = S} {R = R} stands
-    (record { work = Command new; ahead = ahead; behind = is; readiness = readiness; from = node.from }) rest
+    (record { work = Command new; ahead = ahead; behind = is; from = node.from }) rest
     (after_change (with_record row) place t)
-put_stands {S} {R} {stands} {node} {old} {new} {row} {ahead} {is} {readiness} {rest} {t} place command h may ok shows
-    gives waits =
+put_stands {S} {R} {stands} {node} {old} {new} {row} {ahead} {is} {rest} {t} place command h may ok shows =
     let w = (alone_as command h may.wants (λ e. cc)).1 in
     let k = changes w (with_record row) place may in
     by ahead (record {
@@ -123,42 +125,39 @@ put_stands {S} {R} {stands} {node} {old} {new} {row} {ahead} {is} {readiness} {r
       kind = w.kind;
       inputs = k.inputs;
       given = w.given;
-    }) gives waits
+    })
   where
     later : At
     later = after_change (with_record row) place t
 
     by : (ahead : Option Row)
         → IsSingle (λ m. MatchOption ahead (stands new m) (TookFirst (stands new) m)) node.from later
-        → (is_some ahead ≡ true → readiness ≡ ready.Gives) → (is_some ahead ≡ false → readiness ≡ readiness_for is)
         → StandsAs {S = S} {R = R} stands
-        (record { work = Command new; ahead = ahead; behind = is; readiness = readiness; from = node.from }) rest later
-    by None works gives waits = single_stands stands works refl shows (waits refl)
-    by (Some first) works gives waits =
+        (record { work = Command new; ahead = ahead; behind = is; from = node.from }) rest later
+    by None works = single_stands stands works refl shows
+    by (Some first) works =
         let next = took_ahead works shows in
         let does = gives_if later first next.next in
         record {
           works = next;
           alone = λ other. cc;
-          knows = gives refl ∙ sym (ap readiness_of does);
+          knows = sym (ap readiness_of does);
           takes = λ other. takes_none node.from later does;
         }
 
 -- What assemble is.
 pub merging_stands : {S R : Type 0} (stands : S → Moment → Type 0) {stage : Assembler} {sources : Vec ℕ Global}
-    {items : List ℕ} {from : ℕ} {ahead : Option Row} {behind : StageReadiness} {readiness : Readiness}
-    {rest : List ℕ} {t : At} → IsMerging (Stands stage) sources.items t → ahead ≡ None
-    → readiness ≡ readiness_of (doing_of t)
-    → ((place : ℕ) → readiness ≡ ready.Wants place → from ≡ slice_index items place) → items ≡ sources.items
-    → StandsAs {S = S} {R = R} stands
-    (record { work = Assemble stage sources; ahead = ahead; behind = behind; readiness = readiness; from = from })
+    {items : List ℕ} {from : ℕ} {ahead : Option Row} {behind : Readiness} {rest : List ℕ} {t : At}
+    → IsMerging (Stands stage) sources.items t → ahead ≡ None
+    → ((m : merge.Moment) → Stands stage m → behind ≡ readiness_by (merge.state_of m))
+    → ((t : At) → IsMerging (Stands stage) items t → KnowsSource from t) → items ≡ sources.items
+    → StandsAs {S = S} {R = R} stands (record { work = Assemble stage sources; ahead = ahead; behind = behind; from = from })
     rest t
-merging_stands stands works none knows taken same = record {
+merging_stands stands {stage} {sources} {behind = behind} {t = t} works none shows takes same = record {
   works = works;
   alone = λ other. none;
-  knows = knows;
-  takes = λ other place wants. taken place (knows ∙ ap readiness_of wants) ∙ ap (λ l. slice_index l place) same
-      ∙ sym (ap (λ (k : Kind). slice_index k.stage.sources place) works.kind);
+  knows = ap (λ a. readiness_in a behind) none ∙ merging_readiness works behind shows;
+  takes = λ other. takes t (subst (λ l. IsMerging (Stands stage) l t) (sym same) works);
 }
 
 -- A stage that isn't a source has no reader.

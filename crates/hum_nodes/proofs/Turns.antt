@@ -1,5 +1,5 @@
 -- A poll of a reader is a turn of its node.
-use Rattle.std.proofs.Common.{◌≡◌, ◌∙◌, refl, sym, ap, subst, ℕ, ◌≤◌, ◌<◌, inr, Bool, true, false, ◌||◌, List, [], ◌∷◌}
+use Rattle.std.proofs.Common.{◌≡◌, ◌∙◌, refl, sym, ap, subst, ℕ, ◌+◌, ◌≤◌, ◌<◌, inr, Bool, true, false, ◌||◌, List, [], ◌∷◌}
 use Rattle.std.proofs.Common.{◌++◌, length, slice_get, arith, Option, Some, None, Result, Ok, Err, append_assoc}
 use Rattle.std.proofs.Common.{append-nil, length-append, lt-ltb}
 use Rattle.std.specs.Prelude.{◌≢◌, is_some, IfSome}
@@ -66,12 +66,22 @@ module _ {R : Type 0} {v : Scores R} (w : Scores R) (bs rest : List ℕ) {t : At
   few : r ≤ most_bytes
   few = omega (arith, upto_range w.lines.ended h.seen, h.few)
 
+  -- where it has read, it was the end
+  last : (b c : Bool) → v.lines.ended ≡ b → w.lines.ended ≡ c → t.read < r → t.read + 1 ≡ t.kind.stage.bytes
+  last true c e f less = let same = unread_same (unread (λ n. false≢true (sym n.going ∙ e))) in omega arith
+  last false false e f less =
+      omega (arith, h.read, ap (λ b. upto b h.seen) e, ap (λ b. upto b h.seen) f, less)
+  last false true e f less =
+      let all = ap length whole ∙ length-append h.seen rest in
+      omega (arith, h.read, ap (λ b. upto b h.seen) e, all, ap length (over f), ap (λ k. k.stage.bytes) a.kind)
+
   goes : (p : Polled) (after : At → Type 0) → GoesOn (read_to r t) p after → Polls t p after
   goes p after on =
       let all = ap length whole ∙ length-append h.seen rest in
       polls_goes t r p after (no_less v.lines.ended refl)
       (omega (arith, upto_range w.lines.ended h.seen, ap (λ k. k.stage.bytes) a.kind))
-      (λ other. unread_same (unread (λ n. other (needs_at h v.stage a.kind a.inputs n)))) on
+      (λ other. unread_same (unread (λ n. other (needs_at h v.stage a.kind a.inputs n))))
+      (last v.lines.ended w.lines.ended refl refl) on
 
   -- a record
   gave : (row : Row) → w.stopped ≡ None

@@ -6,15 +6,16 @@ use Rattle.hum_stage.specs.declared.faults.End.{End}
 use Rattle.hum_turns.specs.Flow.{Flow, so_far, AllFine}
 use Rattle.hum_turns.specs.Plan.{Want, Bytes, Source, Nothing, Stage, AreInputs, end_of}
 use Rattle.hum_nodes.specs.Doing.{Doing, Gives, Reads, Wants, Done}
-use Rattle.hum_nodes.specs.declared.node.Readiness.{Readiness}
-use Rattle.hum_nodes.specs.declared.node.Readiness.TheVariants as ready
+use Rattle.hum_stage.specs.declared.faults.Readiness.{Readiness}
+use Rattle.hum_stage.specs.declared.faults.Readiness.TheVariants as ready
 use Rattle.hum_nodes.specs.Fine.{fine}
 
 -- A stage; how many records wait inside it, by what it has had of its inputs and how many it has
--- given; and whether these are at most one of each input.
+-- given; what these say; and whether they are at most one of each input.
 pub record Kind : Type 0 where
   pub stage : Stage Row
   pub holds : List (Flow Row) → ℕ → ℕ
+  pub waits : List (Flow Row) → ℕ → List Row
   pub one_each : Bool
 
 -- What it has had of its inputs, how many bytes it has read, and how many records it has given.
@@ -55,6 +56,9 @@ ending_of t = end_of t.kind.stage t.read t.inputs
 abbrev pub holds_of : At → ℕ
 holds_of t = t.kind.holds t.inputs t.given
 
+abbrev pub waits_of : At → List Row
+waits_of t = t.kind.waits t.inputs t.given
+
 -- Where at most one record of each input waits, so many are no more than these inputs.
 abbrev pub HoldsOneEach : Kind → ℕ → ℕ → Type 0
 HoldsOneEach kind inputs many = kind.one_each ≡ true → many ≤ inputs
@@ -70,11 +74,11 @@ doing_of t =
     if nat_lt t.given (length (output_of t)) then Gives
     else doing_by (t.kind.stage.wants t.read t.inputs) (ending_of t)
 
--- the same without the end
+-- The same without the place and the end. What reads gives next, or reads on.
 abbrev pub readiness_of : Doing → Readiness
 readiness_of Gives = ready.Gives
-readiness_of Reads = ready.Reads
-readiness_of (Wants place) = ready.Wants place
+readiness_of Reads = ready.Gives
+readiness_of (Wants place) = ready.Wants
 readiness_of (Done end) = ready.Done
 
 -- It gives no more records than a score may have.

@@ -3,7 +3,7 @@ use Rattle.std.specs.Prelude.{◌≡◌, ◌≤◌, ℕ, true, List, map, length
 use Rattle.hum_score.specs.Row.{Row}
 use Rattle.hum_assemble.specs.Change.{Input}
 use Rattle.hum_assemble.specs.Merge.{ahead}
-use Rattle.hum_assemble.specs.Meaning.{Moment, opening, output, own_fault, rest, wanted, ends, held_at}
+use Rattle.hum_assemble.specs.Meaning.{Moment, opening, output, own_fault, rest, wanted, ends, held_at, waiting_at}
 use Rattle.hum_turns.specs.Flow.{Flow}
 use Rattle.hum_turns.specs.Plan.{Want, Source, Nothing}
 use Rattle.hum_nodes.specs.At.{Kind, At}
@@ -36,15 +36,15 @@ merging number sources = record {
   };
   holds = λ inputs given.
       held_at (record { stage = number; inputs = inputs_of inputs; given = given });
+  waits = λ inputs given.
+      waiting_at (record { stage = number; inputs = inputs_of inputs; given = given });
   one_each = true;
 }
 
--- Where the assembler stands for what was put and given, the node stands for that of its inputs. They are
--- few, so that a byte tells the place of each.
+-- Where the assembler stands for what was put and given, the node stands for that of its inputs.
 pub record IsMerging (stands : Moment → Type 0) (from : List ℕ) (t : At) : Type 0 where
   pub moment : Moment
   pub stand : stands moment
   pub kind : t.kind ≡ merging moment.stage from
   pub inputs : inputs_of t.inputs ≡ moment.inputs
   pub given : t.given ≡ moment.given
-  pub few : length moment.inputs ≤ 15

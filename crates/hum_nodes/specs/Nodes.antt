@@ -1,17 +1,17 @@
 -- What a node stands for.
-use Rattle.std.specs.Prelude.{◌≡◌, ℕ, Bool, true, false, List, Option, None, is_some, Result, slice_index}
+use Rattle.std.specs.Prelude.{◌≡◌, ℕ, Bool, true, false, List, Option, None, Some, is_some, Result, slice_index}
 use Rattle.hum_score.specs.Row.{Row}
 use Rattle.hum_stage.specs.declared.faults.End.{End}
-use Rattle.hum_stage.specs.declared.faults.Readiness.{Readiness as StageReadiness}
+use Rattle.hum_stage.specs.declared.faults.Readiness.{Readiness}
+use Rattle.hum_stage.specs.declared.faults.Readiness.TheVariants.{Gives, Wants, Done}
 use Rattle.hum_stage.specs.Meaning.{Moment}
 use Rattle.hum_assemble.specs.Standing.{Stands}
 use Rattle.hum_read.specs.declared.ReadError.{ReadError}
 use Rattle.hum_nodes.specs.declared.node.Node.{Node}
-use Rattle.hum_nodes.specs.declared.node.Readiness.{Readiness}
-use Rattle.hum_nodes.specs.declared.node.Readiness.TheVariants.{Reads}
 use Rattle.hum_nodes.specs.declared.node.Work.{Work}
 use Rattle.hum_nodes.specs.declared.node.Work.TheVariants.{Read, Command, Assemble}
-use Rattle.hum_nodes.specs.Doing.{Doing, Wants}
+use Rattle.hum_nodes.specs.Doing.{Doing}
+use Rattle.hum_nodes.specs.Doing as does
 use Rattle.hum_nodes.specs.At.{At, doing_of, readiness_of, sources_of}
 use Rattle.hum_nodes.specs.Reading.{IsReading}
 use Rattle.hum_nodes.specs.Single.{IsAhead}
@@ -30,17 +30,31 @@ commands (Read reader) = false
 commands (Command stage) = true
 commands (Assemble stage sources) = false
 
+-- With a record ahead it gives; behind that it is ready for this.
+abbrev pub readiness_in : Option Row → Readiness → Readiness
+readiness_in None behind = behind
+readiness_in (Some row) behind = Gives
+
+-- whether it gives next
+abbrev pub gives_by : Readiness → Bool
+gives_by Gives = true
+gives_by Wants = false
+gives_by Done = false
+
+abbrev pub gives_next : {S R : Type 0} → Node S R → Bool
+gives_next node = gives_by (readiness_in node.ahead node.behind)
+
 -- whether the record that it gives next was taken ahead
 abbrev pub gives_ahead : {S R : Type 0} → Node S R → Bool
 gives_ahead node = is_some node.ahead
 
--- A source reads at each turn; another stage does what it is about to do.
+-- A source gives, or reads on; another stage does what it is about to do.
 abbrev pub readiness_at : Bool → Doing → Readiness
-readiness_at true doing = Reads
+readiness_at true doing = Gives
 readiness_at false doing = readiness_of doing
 
 -- what a stage of a plan stands for, with a record ahead or none, where these bytes are still to come
-abbrev pub WorksAs : {S R : Type 0} → (S → Moment → Type 0) → Work S R → ℕ → Option Row → StageReadiness
+abbrev pub WorksAs : {S R : Type 0} → (S → Moment → Type 0) → Work S R → ℕ → Option Row → Readiness
     → List ℕ → At → Type 0
 WorksAs stands (Read reader) from ahead behind rest t = IsReading reader rest t
 WorksAs stands (Command stage) from ahead behind rest t = IsAhead (stands stage) from ahead behind t
@@ -48,7 +62,7 @@ WorksAs stands (Assemble stage sources) from ahead behind rest t = IsMerging (St
 
 -- Where it wants, this is the stage that it takes from.
 abbrev pub KnowsSource : ℕ → At → Type 0
-KnowsSource from t = (place : ℕ) → doing_of t ≡ Wants place → from ≡ slice_index (sources_of t) place
+KnowsSource from t = (place : ℕ) → doing_of t ≡ does.Wants place → from ≡ slice_index (sources_of t) place
 
 -- It stands for that, and knows what it does next and which stage it takes from. Nothing but a command has a
 -- record ahead.
@@ -56,7 +70,7 @@ pub record StandsAs {S R : Type 0} (stands : S → Moment → Type 0) (node : No
     (rest : List ℕ) (t : At) : Type 0 where
   pub works : WorksAs stands node.work node.from node.ahead node.behind rest t
   pub alone : commands node.work ≡ false → node.ahead ≡ None
-  pub knows : node.readiness ≡ readiness_at (reads node.work) (doing_of t)
+  pub knows : readiness_in node.ahead node.behind ≡ readiness_at (reads node.work) (doing_of t)
   pub takes : reads node.work ≡ false → KnowsSource node.from t
 
 -- What a source shows of its reader: the bytes that its reads will give, where they are known; whether

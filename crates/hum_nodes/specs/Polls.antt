@@ -1,5 +1,5 @@
 -- What one poll of a source does.
-use Rattle.std.specs.Prelude.{◌≡◌, ℕ, ◌<◌, ◌≤◌, ◌⊎◌, Bool, true, false, ◌||◌, List, [], ◌++◌, Option, Some, slice_get}
+use Rattle.std.specs.Prelude.{◌≡◌, ℕ, ◌+◌, ◌<◌, ◌≤◌, ◌⊎◌, Bool, true, false, ◌||◌, List, [], ◌++◌, Option, Some, slice_get}
 use Rattle.std.specs.Prelude.{Result, Ok, Err}
 use Rattle.hum_read.specs.declared.ReadError.{ReadError}
 use Rattle.hum_read.specs.declared.ReadError.TheVariants as error
@@ -17,13 +17,13 @@ GoesOn t (Gave row) after =
 GoesOn t ReadOn after = ⊥
 GoesOn t (Ended end) after = (doing_of t ≡ does.Done end) × after t
 
--- It reads one byte or more, or their end. Then it goes on by what has settled; or, where it hasn't
--- read the end, it leaves that to the next poll.
+-- It reads one byte or more, and leaves what these bring to the next poll. Or it has read all and reads their
+-- end: then it goes on by what has settled.
 pub record Reads (t : At) (polled : Polled) (after : At → Type 0) : Type 0 where
   pub upto : ℕ
   pub more : t.read < upto
   pub within : upto ≤ bytes_of t
-  pub goes : GoesOn (read_to upto t) polled after
+  pub goes : ((t.read + 1 ≡ bytes_of t) × GoesOn (read_to upto t) polled after)
       ⊎ ((polled ≡ ReadOn) × (upto < bytes_of t) × after (read_to upto t))
 
 abbrev pub PollsBy : Doing → At → Polled → (At → Type 0) → Type 0

@@ -37,6 +37,7 @@ reading number all = record {
     own = λ read inputs. end_at number (settled_at all read).fault;
   };
   holds = λ inputs given. 0;
+  waits = λ inputs given. [];
   one_each = true;
 }
 

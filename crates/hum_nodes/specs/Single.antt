@@ -5,13 +5,10 @@ use Rattle.hum_stage.specs.declared.faults.End.{End}
 use Rattle.hum_stage.specs.declared.faults.End.TheVariants.{Closed, Broken}
 use Rattle.hum_stage.specs.declared.faults.Fault.{Fault}
 use Rattle.hum_stage.specs.Outcome.{held_of}
-use Rattle.hum_stage.specs.Meaning.{Meaning, Moment, output, own_fault, ShowsReadiness}
+use Rattle.hum_stage.specs.Meaning.{Meaning, Moment, output, own_fault, waiting_rows, ShowsReadiness}
 use Rattle.hum_turns.specs.Flow.{Flow}
 use Rattle.hum_turns.specs.Plan.{Want, Source, Nothing}
-use Rattle.hum_stage.specs.declared.faults.Readiness.{Readiness as StageReadiness}
-use Rattle.hum_stage.specs.declared.faults.Readiness.TheVariants as stage
-use Rattle.hum_nodes.specs.declared.node.Readiness.{Readiness}
-use Rattle.hum_nodes.specs.declared.node.Readiness.TheVariants as node
+use Rattle.hum_stage.specs.declared.faults.Readiness.{Readiness}
 use Rattle.hum_nodes.specs.At.{Kind, At, output_of, holds_of, after_take}
 
 -- the records of the first input
@@ -47,6 +44,8 @@ single from m = record {
     own = λ read inputs. own_end (own_fault m (items_of inputs));
   };
   holds = λ inputs given. held_of given (has_ended inputs) (m.outcomes (items_of inputs));
+  waits = λ inputs given.
+      waiting_rows (record { meaning = m; put = items_of inputs; given = given; ended = None });
   one_each = false;
 }
 
@@ -60,20 +59,13 @@ pub record IsSingle (stands : Moment → Type 0) (from : ℕ) (t : At) : Type 0 
 
 -- The record that follows those given was taken of the stage ahead, the last one that was held, and it is
 -- known what the stage is ready for behind it.
-pub record HasAhead (stands : Moment → Type 0) (from : ℕ) (row : Row) (is : StageReadiness) (t : At)
-    : Type 0 where
+pub record HasAhead (stands : Moment → Type 0) (from : ℕ) (row : Row) (is : Readiness) (t : At) : Type 0 where
   pub next : Some row ≡ slice_get (output_of t) t.given
   pub held : holds_of t ≡ 1
   pub behind : IsSingle stands from (after_take t)
   pub asked : ShowsReadiness stands is
 
 -- the same where nothing may have been taken ahead
-abbrev pub IsAhead : (Moment → Type 0) → ℕ → Option Row → StageReadiness → At → Type 0
+abbrev pub IsAhead : (Moment → Type 0) → ℕ → Option Row → Readiness → At → Type 0
 IsAhead stands from None is t = IsSingle stands from t
 IsAhead stands from (Some row) is t = HasAhead stands from row is t
-
--- What the node does next whose stage is ready for this: it takes from its one input.
-abbrev pub readiness_for : StageReadiness → Readiness
-readiness_for stage.Gives = node.Gives
-readiness_for stage.Wants = node.Wants 0
-readiness_for stage.Done = node.Done

@@ -14,4 +14,4 @@ pub use laws::{
     readings_keep_fine, singles_are_lawful, singles_are_limited, singles_keep_fine,
     trees_are_plans, what_is_fine,
 };
-pub use node::{Node, Readiness};
+pub use node::Node;

@@ -1,42 +1,27 @@
 //! The stages of a plan as nodes of a net.
 ghost use Rattle.std.specs.Prelude.{◌≡◌, ℕ, ◌<◌, ◌≤◌, ◌||◌, List, [], Some, true, false};
 ghost use Rattle.std.specs.Prelude.{length, slice_index, slice_set, IfOk, OnOk, OnErr, Ok};
-ghost use Rattle.hum_stage.specs.Meaning.{Meaning, opening, IsLawful};
+ghost use Rattle.hum_stage.specs.Meaning.{Meaning, opening, IsLawful, readiness_by};
 ghost use Rattle.hum_assemble.specs.Standing.{Stands};
 ghost use Rattle.hum_read.specs.Steps.{given_by};
-ghost use Rattle.hum_nodes.specs.At.{At, fresh, sources_of, doing_of, holds_of};
+ghost use Rattle.hum_nodes.specs.At.{At, fresh, sources_of, doing_of, holds_of, waits_of};
 ghost use Rattle.hum_nodes.specs.At.{HoldsOneEach, HasTaken, MayPut, MayStop, HasPut, HasStopped};
-ghost use Rattle.hum_nodes.specs.At.{readiness_of, set_each};
+ghost use Rattle.hum_nodes.specs.At.{set_each};
 ghost use Rattle.hum_nodes.specs.Doing as does;
-ghost use Rattle.hum_nodes.specs.declared.node.Readiness.TheVariants as kinds;
-ghost use Rattle.hum_nodes.specs.Single.{single, readiness_for};
+ghost use Rattle.hum_nodes.specs.Single.{single};
 ghost use Rattle.hum_nodes.specs.Merging.{IsMerging, merging};
 ghost use Rattle.hum_nodes.specs.Reading.{reading};
 ghost use Rattle.hum_nodes.specs.Polls.{HasPolled, HasStayed, AsksAtMostOnce, is_failed_read};
-ghost use Rattle.hum_nodes.specs.Nodes.{StandsAs, is_source, gives_ahead, readiness_at};
+ghost use Rattle.hum_nodes.specs.Nodes.{StandsAs, KnowsSource, is_source, gives_ahead, gives_next, readiness_at};
+ghost use Rattle.hum_record.specs.Room.{rooms_for};
 ghost use Rattle.hum_nodes.specs.Nodes.{remaining_of, ended_of, calls_of, failed_of, stopped_of};
 
 use hum_assemble::Assemble;
 use hum_read::{ReadError, ScoreReader};
 use hum_record::{Record, Spare};
-use hum_stage::{End, Readiness as StageReadiness, Stage, State};
+use hum_stage::{End, Readiness, Stage, State};
 use hum_text::calls::Source;
 use std::alloc::{AllocError, Global};
-
-/// What a node does next. It is two bytes, so a net asks for it quickly; the end is asked for once, where
-/// it is done. The first three stand in the order of what a stage is ready for, so that one becomes the other
-/// without a table.
-#[derive(Clone, Copy, Drop)]
-pub enum Readiness {
-    /// It takes a record or the end of its input at this place, from 0.
-    Wants(u8),
-    /// It gives a record that is settled.
-    Gives,
-    /// It has given all.
-    Done,
-    /// It reads bytes.
-    Reads,
-}
 
 /// A stage of a plan in a net.
 ///
@@ -48,9 +33,8 @@ pub struct Node<S, R> {
     work: Work<S, R>,
     // the record that it gives next, if its command gave that as its input was put
     ahead: Option<Record>,
-    // what its command is ready for behind that
-    behind: StageReadiness,
-    readiness: Readiness,
+    // what it does next, behind that
+    behind: Readiness,
     from: usize,
 }
 
@@ -63,17 +47,6 @@ enum Work<S, R> {
     Read(ScoreReader<R>),
     /// Scores are put side by side, those of these stages.
     Assemble(Assemble, Vec<usize>),
-}
-
-/// What a node does next whose command is ready for this: it reads from one stage.
-fn of_stage(is: StageReadiness) -> Readiness
-    ensures { result ≡ readiness_for is }
-{
-    match is {
-        StageReadiness::Gives => Readiness::Gives,
-        StageReadiness::Wants => Readiness::Wants(0),
-        StageReadiness::Done => Readiness::Done,
-    }
 }
 
 /// Notes who takes from a stage, if there is a place for it.
@@ -95,41 +68,23 @@ fn source_at(sources: &[usize], place: usize) -> usize
     0
 }
 
-/// The stage that assemble takes from, of these, where this is what it does next.
-fn taken_from(readiness: Readiness, sources: &[usize]) -> usize
-    ensures { (place : ℕ) → readiness ≡ kinds.Wants place
-        → result ≡ slice_index sources.now place }
+/// The stage that assemble takes from next, of these; 0 where it wants nothing.
+fn wanted(stage: &Assemble, sources: &[usize]) -> usize
+    ensures { (t : At) → IsMerging (Stands stage.now) sources.now t → KnowsSource result t }
 {
-    match readiness {
-        Readiness::Wants(place) => source_at(sources, place as usize),
-        Readiness::Gives => 0,
-        Readiness::Reads => 0,
-        Readiness::Done => 0,
+    match stage.wants() {
+        Some(place) => source_at(sources, place),
+        None => 0,
     }
 }
 
-/// The place of the input that is wanted where this is what is done next; 0 where none is.
-fn place_of(readiness: Readiness) -> usize
-    ensures { (place : ℕ) → readiness ≡ kinds.Wants place → result ≡ place }
+/// What a stage is ready for in this state.
+fn readiness_by(state: State) -> Readiness
+    ensures { result ≡ readiness_by state }
 {
-    match readiness {
-        Readiness::Wants(place) => place as usize,
-        Readiness::Gives | Readiness::Done | Readiness::Reads => 0,
-    }
-}
-
-/// What assemble does next.
-fn of_assemble(stage: &Assemble) -> Readiness
-    ensures { (from : List ℕ) (t : At) → IsMerging (Stands stage.now) from t
-        → result ≡ readiness_of (doing_of t) }
-{
-    if let Some(place) = stage.wants() {
-        // of 15 sources at most
-        return Readiness::Wants((place % 256) as u8);
-    }
-    match stage.state() {
-        // No input is wanted here, so the second doesn't come up.
-        State::Gives | State::Wants => Readiness::Gives,
+    match state {
+        State::Wants => Readiness::Wants,
+        State::Gives => Readiness::Gives,
         State::Done(_) => Readiness::Done,
     }
 }
@@ -148,8 +103,7 @@ impl<S: Stage + Drop, R: Source + Drop> Node<S, R> {
         Node {
             work: Work::Read(ScoreReader::new(alloc, number, source)),
             ahead: None,
-            behind: StageReadiness::Wants,
-            readiness: Readiness::Reads,
+            behind: Readiness::Gives,
             from: 0,
         }
     }
@@ -163,12 +117,10 @@ impl<S: Stage + Drop, R: Source + Drop> Node<S, R> {
         // What it stands for keeps to the contract of stages.
         ensures lawful { (m : Meaning) → S.stands stage (opening m) → IsLawful m }
     {
-        let is = stage.readiness();
         Node {
             work: Work::Command(stage),
             ahead: None,
-            behind: is,
-            readiness: of_stage(is),
+            behind: Readiness::Wants,
             from: source,
         }
     }
@@ -189,13 +141,12 @@ impl<S: Stage + Drop, R: Source + Drop> Node<S, R> {
             → StandsAs S.stands node rest (fresh (merging number sources.items))) }
     {
         let stage = Assemble::new(alloc, number, sources.len())?;
-        let readiness = of_assemble(&stage);
-        let from = taken_from(readiness, &sources);
+        let behind = stage.readiness();
+        let from = wanted(&stage, &sources);
         Ok(Node {
             work: Work::Assemble(stage, sources),
             ahead: None,
-            behind: StageReadiness::Wants,
-            readiness,
+            behind,
             from,
         })
     }
@@ -210,12 +161,30 @@ impl<S: Stage + Drop, R: Source + Drop> Node<S, R> {
         }
     }
 
-    /// What it does next. A source reads at each turn.
+    /// What it does next. A source gives: it may read first, and has no record then.
+    #[inline(always)]
     pub fn readiness(&self) -> Readiness
         ensures { (rest : List ℕ) (t : At) → StandsAs S.stands self.now rest t
             → result ≡ readiness_at (is_source self.now) (doing_of t) }
     {
-        self.readiness
+        if self.ahead.is_some() {
+            return Readiness::Gives;
+        }
+        self.behind
+    }
+
+    /// Whether it gives next.
+    #[inline(always)]
+    pub fn gives(&self) -> bool
+        ensures { result ≡ gives_next self.now }
+    {
+        if self.ahead.is_some() {
+            return true;
+        }
+        match self.behind {
+            Readiness::Gives => true,
+            Readiness::Wants | Readiness::Done => false,
+        }
     }
 
     /// Whether the record that it gives next was taken ahead.
@@ -237,7 +206,6 @@ impl<S: Stage + Drop, R: Source + Drop> Node<S, R> {
         let Some(row) = self.ahead.take() else {
             unreachable!()
         };
-        self.readiness = of_stage(self.behind);
         row
     }
 
@@ -307,6 +275,23 @@ impl<S: Stage + Drop, R: Source + Drop> Node<S, R> {
         }
     }
 
+    /// How many bytes the records take that wait inside a stage that isn't a source, beside their own size: no more
+    /// than what they say needs.
+    pub fn room(&self) -> usize
+        requires { is_source self.now ≡ false }
+        ensures { (rest : List ℕ) (t : At) → StandsAs S.stands self.now rest t
+            → result ≤ rooms_for (waits_of t) }
+    {
+        match &self.work {
+            Work::Read(_) => unreachable!(),
+            Work::Command(stage) => match &self.ahead {
+                Some(row) => row.room(),
+                None => stage.room(),
+            },
+            Work::Assemble(stage, _) => stage.room(),
+        }
+    }
+
     /// The next record that is settled, if there is one. One that is made only now is made in what the
     /// pool has left.
     ///
@@ -323,54 +308,43 @@ impl<S: Stage + Drop, R: Source + Drop> Node<S, R> {
             Work::Read(_) => unreachable!(),
             Work::Command(stage) => {
                 if let Some(row) = self.ahead.take() {
-                    self.readiness = of_stage(self.behind);
                     return Ok(Some(row));
                 }
-                let (taken, readiness) = stage.take_and_ask(pool)?;
-                self.readiness = of_stage(readiness);
+                let (taken, behind) = stage.take_with(pool)?;
+                self.behind = behind;
                 Ok(taken)
             }
             Work::Assemble(stage, sources) => {
-                let taken = stage.take()?;
-                self.readiness = of_assemble(stage);
-                self.from = taken_from(self.readiness, sources);
+                let (taken, behind) = stage.take_with(pool)?;
+                self.behind = behind;
+                self.from = wanted(stage, sources);
                 Ok(taken)
             }
         }
     }
 
-    /// Puts the next record of the input that it wants, and tells of a command whether it gives next. A record
-    /// of which assemble is done goes to the pool.
+    /// Puts the next record of the input that it wants. A record of which it is done goes to the pool.
     ///
     /// # Errors
     /// Out of memory.
     #[inline(always)]
-    pub fn put(&mut self, next: Record, pool: &mut Spare) -> Result<bool, AllocError>
+    pub fn put(&mut self, next: Record, pool: &mut Spare) -> Result<(), AllocError>
         requires kind { is_source self.old ≡ false }
         requires may { (place : ℕ) × MayPut (StandsAs S.stands self.old []) place next }
         ensures kind { is_source self.new ≡ false }
         ensures put { OnOk result ((rest : List ℕ) (place : ℕ) → HasPut (StandsAs S.stands self.old rest)
             (StandsAs S.stands self.new rest) place next) }
-        ensures gives { IfOk result (λ gives. gives ≡ true → self.new.readiness ≡ kinds.Gives) }
     {
         match &mut self.work {
             Work::Read(_) => unreachable!(),
             Work::Command(stage) => {
-                let is = stage.put_and_take(next, pool, &mut self.ahead)?;
-                self.behind = is;
-                if self.ahead.is_some() {
-                    self.readiness = Readiness::Gives;
-                    return Ok(true);
-                }
-                self.readiness = of_stage(is);
-                Ok(false)
+                self.behind = stage.put_with(next, pool, true, &mut self.ahead)?;
+                Ok(())
             }
             Work::Assemble(stage, sources) => {
-                stage.put(place_of(self.readiness), next)?;
-                stage.give_back(pool);
-                self.readiness = of_assemble(stage);
-                self.from = taken_from(self.readiness, sources);
-                Ok(false)
+                self.behind = stage.put_with(next, pool)?;
+                self.from = wanted(stage, sources);
+                Ok(())
             }
         }
     }
@@ -387,12 +361,12 @@ impl<S: Stage + Drop, R: Source + Drop> Node<S, R> {
             Work::Read(_) => unreachable!(),
             Work::Command(stage) => {
                 stage.end(end);
-                self.readiness = of_stage(stage.readiness());
+                self.behind = readiness_by(stage.state());
             }
             Work::Assemble(stage, sources) => {
-                stage.end(place_of(self.readiness), end);
-                self.readiness = of_assemble(stage);
-                self.from = taken_from(self.readiness, sources);
+                stage.end(stage.wants().unwrap_or(0), end);
+                self.behind = stage.readiness();
+                self.from = wanted(stage, sources);
             }
         }
     }

@@ -10,9 +10,10 @@ ghost use Rattle.hum_rid.specs.Rid.{rid, drops, all_are};
 
 pub use hum_choices::RidOptions;
 use hum_path::steers;
-use hum_record::{Kind, Record};
-use hum_stage::{AtMostOne, AtOnce, Command, Decides, Refusal};
+use hum_record::{Kind, Record, Spare};
+use hum_stage::{AtOnce, Command, Decides, Refusal};
 use std::alloc::Global;
+use std::mem::{forget, replace};
 
 /// Whether each token of a record is this one.
 fn all_are(row: &Record, token: &[u8]) -> bool
@@ -74,7 +75,7 @@ pub struct Dropping {
 impl Decides for Dropping {
     type Options = RidOptions;
 
-    type Due = AtMostOne;
+    type Due = Option<Record>;
 
     ghost use Rattle.hum_words.specs.declared.commands.Command.TheVariants.{Rid as RidCommand};
 
@@ -103,11 +104,17 @@ impl Decides for Dropping {
         begins_data(next.text()) && self.keeps_data
     }
 
-    fn step(&mut self, next: Record, _room: u64, out: &mut AtMostOne) -> Result<(), Refusal> {
+    fn step(
+        &mut self,
+        next: Record,
+        _room: u64,
+        pool: &mut Spare,
+        out: &mut Option<Record>,
+    ) -> Result<(), Refusal> {
         if drops(&self.options, &next) {
-            out.let_go(next);
+            pool.keep(next);
         } else {
-            out.put(next);
+            forget(replace(out, Some(next)));
         }
         Ok(())
     }

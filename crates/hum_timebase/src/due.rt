@@ -26,8 +26,6 @@ pub struct Around {
     other: Option<Record>,
     // how many tokens the other has where it is a null record, else 0
     nulls: usize,
-    // the last record that didn't stay, for the next copy
-    gone: Option<Record>,
 }
 
 impl Model for Around {
@@ -88,21 +86,14 @@ fn are_some(before: u64, after: u64) -> bool
 }
 
 /// The record, if it stays. Else it is done with.
-fn kept_if(stays: bool, row: Record, gone: &mut Option<Record>) -> Option<Record>
+fn kept_if(stays: bool, row: Record, pool: &mut Spare) -> Option<Record>
     ensures { result ≡ (if stays then Some row else None) }
 {
     if stays {
         return Some(row);
     }
-    *gone = Some(row);
+    pool.keep(row);
     None
-}
-
-/// Gives the pool a record that is done with.
-fn keep_gone(gone: &mut Option<Record>, pool: &mut Spare) {
-    if let Some(gone) = gone.take() {
-        pool.keep(gone);
-    }
 }
 
 impl Around {
@@ -133,6 +124,7 @@ impl Around {
         row: Record,
         stays: bool,
         after: u64,
+        pool: &mut Spare,
     ) -> Result<(), AllocError>
         requires lawful { IsTextOf row (text_of row) }
         requires kind { kind_of row ≡ AnyValues }
@@ -149,19 +141,9 @@ impl Around {
             &mut self.nulls,
         )?;
         self.before = before;
-        self.single = kept_if(stays, row, &mut self.gone);
+        self.single = kept_if(stays, row, pool);
         self.after = after;
         Ok(())
-    }
-
-    /// Gives the pool the last record that didn't stay, if there is one.
-    fn give_back(&mut self, pool: &mut Spare)
-        ensures { self.new ≡ self.old }
-    {
-        if self.gone.is_none() {
-            return;
-        }
-        keep_gone(&mut self.gone, pool);
     }
 }
 
@@ -176,17 +158,10 @@ impl DueRecords for Around {
             after: 0,
             other: None,
             nulls: 0,
-            gone: None,
         }
     }
 
-    fn next(&mut self) -> Result<Option<Record>, AllocError> {
-        let mut pool = Spare::none(self.alloc);
-        self.next_with(&mut pool)
-    }
-
-    fn next_with(&mut self, pool: &mut Spare) -> Result<Option<Record>, AllocError> {
-        self.give_back(pool);
+    fn next(&mut self, pool: &mut Spare) -> Result<Option<Record>, AllocError> {
         if self.before > 0 {
             let row = copy_of(self.alloc, &self.other, pool)?;
             self.before -= 1;
@@ -203,11 +178,10 @@ impl DueRecords for Around {
         Ok(None)
     }
 
-    fn take_lone(&mut self, pool: &mut Spare) -> Option<Record> {
+    fn take_lone(&mut self, _pool: &mut Spare) -> Option<Record> {
         if self.before > 0 || self.after > 0 {
             return None;
         }
-        self.give_back(pool);
         self.single.take()
     }
 
@@ -218,6 +192,16 @@ impl DueRecords for Around {
 
     fn is_empty(&self) -> bool {
         self.count() == 0
+    }
+
+    // Of copies that aren't made yet it counts the record that they are of.
+    fn room(&self) -> usize {
+        let single = self.single.room();
+        if self.before > 0 || self.after > 0 {
+            single.saturating_add(self.other.room())
+        } else {
+            single
+        }
     }
 
     fn clear(&mut self) {

@@ -23,7 +23,7 @@ use crate::records::tb_record;
 use hum_choices::TimebaseOptions;
 use hum_kern::KernFault;
 use hum_path::{Marks, Paths, has_exclusive};
-use hum_record::{Kind, Record};
+use hum_record::{Kind, Record, Spare};
 use hum_stage::{Command, Decides, Refusal, Rule, check_room};
 use std::alloc::{AllocError, Global};
 
@@ -57,7 +57,13 @@ fn content_by(misread: Option<KernFault>, notes: &[NoteAt], row: &Record) -> Con
 ///
 /// # Errors
 /// L2 where there is no room for it; or out of memory.
-fn place(made: Strike, row: Record, room: u64, out: &mut Around) -> Result<(), Refusal>
+fn place(
+    made: Strike,
+    row: Record,
+    room: u64,
+    pool: &mut Spare,
+    out: &mut Around,
+) -> Result<(), Refusal>
     requires lawful { IsTextOf row (text_of row) }
     requires kind { kind_of row ≡ AnyValues }
     requires empty { out.old ≡ [] }
@@ -75,7 +81,7 @@ fn place(made: Strike, row: Record, room: u64, out: &mut Around) -> Result<(), R
     check_room(count, room)?;
     let before = made.before as u64;
     let after = made.after as u64;
-    out.put_among(before, row, made.stays, after)?;
+    out.put_among(before, row, made.stays, after, pool)?;
     Ok(())
 }
 
@@ -145,6 +151,7 @@ impl Grid {
         misread: Option<KernFault>,
         row: Record,
         room: u64,
+        pool: &mut Spare,
         out: &mut Around,
     ) -> Result<(), Refusal>
         requires lawful { IsTextOf row (text_of row) }
@@ -170,7 +177,7 @@ impl Grid {
             return Ok(());
         }
         match self.clock.strike(self.pace.step(), &self.notes) {
-            Ok(made) => place(made, row, room, out),
+            Ok(made) => place(made, row, room, pool, out),
             Err(rule) => Err(Refusal::Rule(rule)),
         }
     }
@@ -179,7 +186,13 @@ impl Grid {
     ///
     /// # Errors
     /// The rule by which it is refused; or out of memory.
-    fn value(&mut self, row: Record, room: u64, out: &mut Around) -> Result<(), Refusal>
+    fn value(
+        &mut self,
+        row: Record,
+        room: u64,
+        pool: &mut Spare,
+        out: &mut Around,
+    ) -> Result<(), Refusal>
         requires lawful { IsTextOf row (text_of row) }
         requires kind { kind_of row ≡ AnyValues }
         requires empty { out.old ≡ [] }
@@ -191,13 +204,16 @@ impl Grid {
         self.clock.keep_timed(&self.timed);
         let misread = read_notes(self.timed.each(), &row, &mut self.notes)?;
         match content_by(misread, &self.notes, &row) {
-            Content::Nulls => Ok(()),
+            Content::Nulls => {
+                pool.keep(row);
+                Ok(())
+            }
             Content::Barlines => {
                 out.put(row);
                 Ok(())
             }
             Content::Sounds => {
-                self.sound(misread, row, room, out)?;
+                self.sound(misread, row, room, pool, out)?;
                 Ok(())
             }
         }
@@ -232,7 +248,13 @@ impl Decides for Grid {
         }
     }
 
-    fn step(&mut self, next: Record, room: u64, out: &mut Around) -> Result<(), Refusal> {
+    fn step(
+        &mut self,
+        next: Record,
+        room: u64,
+        pool: &mut Spare,
+        out: &mut Around,
+    ) -> Result<(), Refusal> {
         match next.kind() {
             Kind::Global => {
                 out.put(next);
@@ -247,7 +269,7 @@ impl Decides for Grid {
                 self.interpret(next, out)?;
                 Ok(())
             }
-            Kind::Values => self.value(next, room, out),
+            Kind::Values => self.value(next, room, pool, out),
         }
     }
 }

@@ -235,7 +235,7 @@ module _ {R : Type 0} (plan : Plan R) (ok : IsPlan plan) (size : ℕ) where
       (λ stays. spent_grows plan between new
       (λ s. subst (Grown (between s)) (sym (stays.1 s)) (unmoved (between s))))
       (λ does. (does_adds k (state plan between k) between new refl
-      (read_allowed plan ok size old between k src h t.reads) does).others)
+      (read_allowed plan ok size old between k src h t.reads) does.1).others)
       t.does in
       let a = first.own in
       let b = grown k in

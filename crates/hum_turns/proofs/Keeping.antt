@@ -167,7 +167,7 @@ module _ {R : Type 0} (plan : Plan R) (size : ℕ) (ok : IsPlan plan) where
       (λ stays. same_keeps t.between new stays.1 kept)
       (λ does. does_keeps k (state plan t.between k) t.between new kept
       (λ less. sym (state_is plan t.between k less))
-      (read_allowed plan ok size old t.between k src h t.reads) does)
+      (read_allowed plan ok size old t.between k src h t.reads) does.1)
       t.does
 
   pub step_keeps : (k : ℕ) (old new : Moment R) → Inv plan size old → Step plan size k old new

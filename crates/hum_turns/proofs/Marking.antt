@@ -19,21 +19,18 @@ pushed_more l x =
     let c = length-append l.taken l.waiting in
     omega (arith, a, b, c)
 
--- one of two things as one of three
-widen : {A B C : Type 0} → A ⊎ B → A ⊎ (B ⊎ C)
-widen (inl a) = inl a
-widen (inr b) = inr (inl b)
-
 module _ {R : Type 0} (plan : Plan R) (ok : IsPlan plan) (k : ℕ) (src : is_source plan k ≡ true) where
   -- what is done where it doesn't read
   does_mark : (s : State) (old new : Moment R) → state plan old k ≡ s → (s ≡ Reads → ⊥)
-      → Does plan k s old new
-      → (length (given (new k)) ≡ length (given (old k)) + 1) ⊎ (is_some (new k).mark ≡ true)
-  does_mark Gives old new e other d =
-      inl (ap (λ (l : Link R). length (given l)) d.becomes.here ∙ pushed_more (old k) d.next)
+      → Does plan k s old new → GivesOrMarks plan k old new
+  does_mark Gives old new e other d = inl (
+    inl (ap (λ (l : Link R). length (given l)) d.becomes.here ∙ pushed_more (old k) d.next),
+    inl (ap (λ (l : Link R). l.read) d.becomes.here),
+  )
   does_mark Reads old new e other d = absurd (other refl)
   does_mark (Takes s) old new e other d = absurd (source_takes plan ok old k s src e)
-  does_mark Ends old new e other d = inr (ap (λ (l : Link R). is_some l.mark) d.here)
+  does_mark Ends old new e other d =
+      inl (inr (ap (λ (l : Link R). is_some l.mark) d.here), inl (ap (λ (l : Link R). l.read) d.here))
 
   -- bytes are read, and what follows is left to the next turn
   read_on : (old between new : Moment R) → state plan old k ≡ Reads
@@ -42,33 +39,39 @@ module _ {R : Type 0} (plan : Plan R) (ok : IsPlan plan) (k : ℕ) (src : is_sou
   read_on old between new e r less same =
       let n : (new k).read ≡ r.upto = ap (λ (l : Link R). l.read) (same ∙ r.becomes.here) in
       let m = r.more in
-      record { about = e; more = omega (arith, m, n); before_end = omega (arith, less, n) }
+      record {
+        about = e;
+        more = omega (arith, m, n);
+        before_end = omega (arith, less, n);
+        nothing_given = ap given (same ∙ r.becomes.here);
+      }
 
-  -- bytes are read, and something is done by what these were
+  -- the end of the bytes is read, and something is done
   read_mark : (old between new : Moment R) → state plan old k ≡ Reads
-      → (r : HasRead plan k old between) → (s : State) → state plan between k ≡ s
+      → (r : HasRead plan k old between) → (old k).read + 1 ≡ (plan.stage k).bytes
+      → (s : State) → state plan between k ≡ s
       → Does plan k s between new → GivesOrMarks plan k old new
-  read_mark old between new e r Gives is d =
+  read_mark old between new e r last Gives is d =
       let g : length (given (between k)) ≡ length (given (old k)) =
       ap (λ (l : Link R). length (given l)) r.becomes.here in
-      inl (ap (λ (l : Link R). length (given l)) d.becomes.here
-      ∙ pushed_more (between k) d.next ∙ ap (λ n. n + 1) g)
-  read_mark old between new e r Reads is d =
+      inl (inl (ap (λ (l : Link R). length (given l)) d.becomes.here
+      ∙ pushed_more (between k) d.next ∙ ap (λ n. n + 1) g), inr last)
+  read_mark old between new e r last Reads is d =
       let n : (between k).read ≡ r.upto = ap (λ (l : Link R). l.read) r.becomes.here in
       let less = reads_bytes plan ok between k (source_less plan k src).0 is in
-      inr (inr (read_on old between new e r (omega (arith, n, less)) (d k)))
-  read_mark old between new e r (Takes s) is d = absurd (source_takes plan ok between k s src is)
-  read_mark old between new e r Ends is d = inr (inl (ap (λ (l : Link R). is_some l.mark) d.here))
+      inr (read_on old between new e r (omega (arith, n, less)) (d k))
+  read_mark old between new e r last (Takes s) is d = absurd (source_takes plan ok between k s src is)
+  read_mark old between new e r last Ends is d = inl (inr (ap (λ (l : Link R). is_some l.mark) d.here), inr last)
 
   turns_mark : (s : State) (old new : Moment R) → state plan old k ≡ s → Turns plan k s old new
       → GivesOrMarks plan k old new
-  turns_mark Gives old new e t = widen (does_mark Gives old new e (λ r. cc) t)
+  turns_mark Gives old new e t = does_mark Gives old new e (λ r. cc) t
   turns_mark (Takes s) old new e t = absurd (source_takes plan ok old k s src e)
-  turns_mark Ends old new e t = widen (does_mark Ends old new e (λ r. cc) t)
+  turns_mark Ends old new e t = does_mark Ends old new e (λ r. cc) t
   turns_mark Reads old new e t =
       ⊎_elim
-      (λ stays. inr (inr (read_on old t.between new e t.reads stays.0 (stays.1 k))))
-      (λ does. read_mark old t.between new e t.reads (state plan t.between k) refl does)
+      (λ stays. inr (read_on old t.between new e t.reads stays.0 (stays.1 k)))
+      (λ does. read_mark old t.between new e t.reads does.0 (state plan t.between k) refl does.1)
       t.does
 
 pub every_source_marks : {R : Type 0} → EverySourceMarks R

@@ -1,5 +1,5 @@
 -- What is near a turn, and what code that makes a turn has to show.
-use Rattle.std.proofs.Common.{◌≡◌, ◌≢◌, ℕ, suc, ◌<◌, ◌≤◌, inl, inr, true, ◌&&◌, List, [], ◌∷◌}
+use Rattle.std.proofs.Common.{◌≡◌, ◌≢◌, ℕ, suc, ◌+◌, ◌<◌, ◌≤◌, inl, inr, true, ◌&&◌, List, [], ◌∷◌}
 use Rattle.std.proofs.Common.{map, slice_get, Some, is_none, refl, sym, ap, ◌∙◌}
 use Rattle.std.proofs.Common.{subst, ⊎_elim, arith, le-ltb, lt-ltb}
 use Rattle.std.proofs.lemmas.Bool.{cases_eq, cases_lt, cases_Bool, and_from, and_left, cond-true}
@@ -42,7 +42,7 @@ module _ {R : Type 0} (plan : Plan R) (ok : IsPlan plan) where
   turns_near k Reads old new e t i far =
       ⊎_elim
       (λ stays. stays.1 i)
-      (λ does. does_near k (state plan t.between k) t.between new refl does i far) t.does
+      (λ does. does_near k (state plan t.between k) t.between new refl does.1 i far) t.does
       ∙ own_near k _ old t.between (reads_less plan old k e) t.reads.becomes i far
 
 -- Readiness, by the links that an actor looks at.
@@ -143,13 +143,13 @@ module _ {R : Type 0} (plan : Plan R) (size k : ℕ) where
   }
 
   pub step_reads : (old between new : Moment R) → k ≤ plan.count → ready plan size old k ≡ true
-      → state plan old k ≡ Reads → HasRead plan k old between
+      → state plan old k ≡ Reads → HasRead plan k old between → (old k).read + 1 ≡ (plan.stage k).bytes
       → Does plan k (state plan between k) between new → Step plan size k old new
-  step_reads old between new within h e r d = record {
+  step_reads old between new within h e r last d = record {
     within = within;
     is_ready = h;
     turns = subst (λ t. Turns plan k t old new) (sym e)
-        (record { between = between; reads = r; does = inr d });
+        (record { between = between; reads = r; does = inr (last, d) });
   }
 
 -- A turn of a stage takes nothing from the last link, and hears no end there.
@@ -181,7 +181,7 @@ module _ {R : Type 0} (plan : Plan R) (ok : IsPlan plan) (size k : ℕ) (less : 
   turns_view Reads old new e t =
       ⊎_elim
       (λ stays. ap view (stays.1 (last plan)))
-      (λ does. does_view (state plan t.between k) t.between new refl does) t.does
+      (λ does. does_view (state plan t.between k) t.between new refl does.1) t.does
       ∙ keeps_view _ old t.between t.reads.becomes refl
 
   pub step_view : (old new : Moment R) → Step plan size k old new
@@ -230,7 +230,7 @@ module _ {R : Type 0} (plan : Plan R) (ok : IsPlan plan) (size k : ℕ) where
       let src = reads_source plan ok old k e in
       ⊎_elim
       (λ stays. stays.1 i)
-      (λ does. does_touches (state plan t.between k) t.between new does i
+      (λ does. does_touches (state plan t.between k) t.between new does.1 i
       (λ is. other (is ∙ source_touches t.between src)))
       t.does
       ∙ t.reads.becomes.elsewhere i other

@@ -2,8 +2,9 @@
 use Rattle.std.proofs.Common.{◌≡◌, ℕ, zero, suc, ◌+◌, ◌<◌, ◌≤◌, true, false, ◌&&◌, ◌||◌}
 use Rattle.std.proofs.Common.{if◌then◌else◌, nat_lt, nat_eq, List, [], ◌∷◌, length, slice_get}
 use Rattle.std.proofs.Common.{Option, Some, None, is_some, is_none, refl, sym, ap, ◌∙◌, ⊎_elim}
-use Rattle.std.proofs.Common.{arith, le-ltb, lt-ltb, eq-eqb, ne_eqb, inr}
+use Rattle.std.proofs.Common.{arith, le-ltb, lt-ltb, eq-eqb, ne_eqb, inl, inr}
 use Rattle.std.proofs.lemmas.Bool.{true≢false, cases_Bool, and_left, or_left, cond-true, cond-false}
+use Rattle.std.proofs.Math.Nat.{eq-or-lt_of_le}
 use Rattle.std.proofs.lemmas.Option.{slice_get_cases}
 use Rattle.hum_stage.specs.declared.faults.End.{End}
 use Rattle.hum_turns.specs.Plan.{Plan, last, IsPlan}
@@ -134,7 +135,10 @@ turns_exist plan k Reads m ok e =
       within = omega arith;
       becomes = put_becomes m k l;
     } in
-    (d.0, record { between = between; reads = reads; does = inr d.1 })
+    ⊎_elim
+    (λ last. (d.0, record { between = between; reads = reads; does = inr (last, d.1) }))
+    (λ less. (between, record { between = between; reads = reads; does = inl (less, λ i. refl) }))
+    (eq-or-lt_of_le reads.within)
 
 pub goes : {R : Type 0} (plan : Plan R) (size : ℕ) (m : Moment R) (k : ℕ) → IsPlan plan
     → k ≤ plan.count → ready plan size m k ≡ true → HasTurn plan size m k

@@ -10,13 +10,18 @@ pub record HasReadOn {R : Type 0} (plan : Plan R) (k : ℕ) (old new : Moment R)
   pub about : state plan old k ≡ Reads
   pub more : (old k).read < (new k).read
   pub before_end : (new k).read < (plan.stage k).bytes
+  pub nothing_given : given (new k) ≡ given (old k)
 
--- A source's turn gives a record, or sets the end, or it has read on. So the turn that meets the end or
--- a fault, behind all records, sets it.
+-- It has read no byte: nothing, or the end behind all bytes.
+abbrev pub ReadsNoByte : {R : Type 0} → Plan R → ℕ → Moment R → Moment R → Type 0
+ReadsNoByte plan k old new = ((new k).read ≡ (old k).read) ⊎ ((old k).read + 1 ≡ (plan.stage k).bytes)
+
+-- A source's turn gives a record or sets the end, and reads no byte; or it has read on, and gives nothing. So the
+-- turn that meets the end, behind all records, sets it.
 abbrev pub GivesOrMarks : {R : Type 0} → Plan R → ℕ → Moment R → Moment R → Type 0
 GivesOrMarks plan k old new =
-    (length (given (new k)) ≡ length (given (old k)) + 1)
-    ⊎ (is_some (new k).mark ≡ true)
+    (((length (given (new k)) ≡ length (given (old k)) + 1) ⊎ (is_some (new k).mark ≡ true))
+    × ReadsNoByte plan k old new)
     ⊎ HasReadOn plan k old new
 
 -- Every turn of every source.

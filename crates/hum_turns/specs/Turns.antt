@@ -1,6 +1,6 @@
 -- Turns: which actors are ready, and what one turn of one actor does. Actor k is stage k, and the
 -- actor behind the last stage is the sink.
-use Rattle.std.specs.Prelude.{◌≡◌, ◌≢◌, ◌⊎◌, ℕ, ◌<◌, ◌≤◌, Bool, true, ◌&&◌}
+use Rattle.std.specs.Prelude.{◌≡◌, ◌≢◌, ◌⊎◌, ℕ, ◌+◌, ◌<◌, ◌≤◌, Bool, true, ◌&&◌}
 use Rattle.std.specs.Prelude.{if◌then◌else◌, nat_lt, List}
 use Rattle.std.specs.Prelude.{[], ◌∷◌, ◌++◌, length, Some, is_none, slice_get, slice_index}
 use Rattle.hum_turns.specs.Flow.{Flow}
@@ -98,13 +98,13 @@ pub record HasRead {R : Type 0} (plan : Plan R) (k : ℕ) (old new : Moment R) :
   pub within : upto ≤ (plan.stage k).bytes
   pub becomes : Becomes k (record (old k) { read = upto }) old new
 
--- Bytes are read, and then something is done by what these were. That may be left to the next turn,
--- but not where the end of the bytes was read.
+-- Bytes are read, and what these bring is left to the next turn. Or all bytes were read before and their
+-- end is read: then something is done at once.
 pub record ReadsAndDoes {R : Type 0} (plan : Plan R) (k : ℕ) (old new : Moment R) : Type 0 where
   pub between : Moment R
   pub reads : HasRead plan k old between
   pub does : ((reads.upto < (plan.stage k).bytes) × Same between new)
-      ⊎ Does plan k (state plan between k) between new
+      ⊎ (((old k).read + 1 ≡ (plan.stage k).bytes) × Does plan k (state plan between k) between new)
 
 abbrev pub Turns : {R : Type 0} → Plan R → ℕ → State → Moment R → Moment R → Type 0
 Turns plan k Gives old new = Does plan k Gives old new

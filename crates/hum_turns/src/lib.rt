@@ -30,7 +30,8 @@
 //!   ([`every_order_ends`]);
 //! - a turn changes only links that its actor looks at, so who looks at none of these stays as
 //!   ready as it was ([`every_turn_is_near`]);
-//! - a source sets its end in the turn that meets it ([`every_source_marks`]).
+//! - a source that reads bytes gives nothing in that turn, and it sets its end in the turn that meets it
+//!   ([`every_source_marks`]).
 //!
 //! Each of these is the contract of a function without a body: its statement stands in `specs`,
 //! and what the words mean too. [`Order`] is what code drives a run by, and [`RunResult`] how a

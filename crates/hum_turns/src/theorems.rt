@@ -55,8 +55,8 @@ pub fn every_turn_is_near<R>()
     ensures { EveryTurnIsNear R }
 {}
 
-/// A source's turn gives a record or sets the end, or it has read bytes and not their end: so it sets
-/// the end in the turn that meets it, or meets a fault.
+/// A source's turn gives a record or sets the end and reads no byte, or it has read bytes and not their end, and
+/// gives nothing: so it sets the end in the turn that meets it.
 pub fn every_source_marks<R>()
     ensures { EverySourceMarks R }
 {}

@@ -15,7 +15,7 @@ use Rattle.hum_yank.specs.Options.{form_of, choice_of}
 use Rattle.hum_yank.specs.Marks.{mark_of, passages_of, next_passages, number_in, last_in}
 use Rattle.hum_yank.specs.Memory.{adds, held_of, Tells, Follows}
 use Rattle.hum_yank.proofs.Next.{next_is, number_is, last_is, counted_few}
-use Rattle.hum_yank.proofs.Telling.{tells, tell_more, last_next}
+use Rattle.hum_yank.proofs.Telling.{tells, tell_more, last_next, is_of, are_more}
 
 not_not : (b : Bool) → not (not b) ≡ b
 not_not true = refl
@@ -63,4 +63,6 @@ goes_on options path path' marks marks' last last' held held' kept look past row
       at_hand = rw push now;
       last = rw push ((rw (h.spines, newest, h.last) at ends) ∙ sym (last_next form row seen));
       tell = rw more (tell_more o past rows held row kept h.tell one);
+      kept = rw more (are_more rows held row kept h.kept
+          (rw keeps (is_of options.ranges.items (not (is_closed path)) row _)));
     }

@@ -1,19 +1,21 @@
 -- What is kept of records tells what is decided of them.
 use Rattle.std.proofs.Common.{◌≡◌, ◌∙◌, refl, sym, ap, ℕ, suc, ◌+◌, arith, Bool, true, false, not}
-use Rattle.std.proofs.Common.{List, [], ◌∷◌, ◌++◌, length, cond, Option, None, Some}
+use Rattle.std.proofs.Common.{List, [], ◌∷◌, ◌++◌, ◌≤◌, ◌-◌, length, map, Bor, cond, Option, None, Some}
 use Rattle.std.specs.List.{list_any}
 use Rattle.hum_score.specs.declared.records.SpinedKind.TheVariants.{Local, Interpretation, Values}
 use Rattle.hum_score.specs.Row.{Row, Comment, Spined}
 use Rattle.hum_score.specs.Rules.{is_unfinished, is_closed}
 use Rattle.hum_score.specs.Score.{path_after, passed}
+use Rattle.hum_record.specs.Room.{room_for, rooms_for}
 use Rattle.hum_stage.specs.Settles.{lasting, or_stop}
+use Rattle.hum_choices.specs.declared.yank.YankRange.{YankRange}
 use Rattle.hum_yank.specs.declared.held.Held.{Held}
 use Rattle.hum_yank.specs.declared.held.Held.TheVariants.{Stays, Goes, Waits}
 use Rattle.hum_yank.specs.Passages.{Form, last_of, passage_of}
 use Rattle.hum_yank.specs.Yank.{Choice, yank, yank_numbered, kept, chooses_early, chosen_by}
 use Rattle.hum_yank.specs.Yank.{last_at, to_spined}
 use Rattle.hum_yank.specs.Memory.{numbered_held, held_of, adds, decided_of, answer, told, Tells}
-use Rattle.hum_yank.specs.Memory.{AllTell}
+use Rattle.hum_yank.specs.Memory.{AllTell, IsOf, AllAreOf}
 
 kept_answers : (row : Row) (x : ℕ) (d : Option Bool) → kept row d ≡ answer (Waits row x) d
 kept_answers row x None = refl
@@ -56,6 +58,48 @@ tell_more o past [] (k ∷ held) row h all one = absurd all
 tell_more o past (q ∷ rows) [] row h all one = absurd all
 tell_more o past (q ∷ rows) (k ∷ held) row h all one =
     (all.0, tell_more o (q ∷ past) rows held row h all.1 one)
+
+-- what is kept of a record that comes is that record
+numbered_is_of : (ranges : List YankRange) (within : Bool) (row : Row) (number : Option ℕ)
+    → IsOf row (numbered_held ranges within row number)
+numbered_is_of ranges within row None = tt
+numbered_is_of ranges within row (Some x) = by_tests (list_any (chooses_early x) ranges) within
+  where
+    by_tests : (early within : Bool) → IsOf row (cond early (Stays row) (cond within (Waits row x) Goes))
+    by_tests true within = refl
+    by_tests false true = refl
+    by_tests false false = tt
+
+pub is_of : (ranges : List YankRange) (within : Bool) (row : Row) (number : Option ℕ)
+    → IsOf row (held_of ranges within row number)
+is_of ranges within (Comment text) number = numbered_is_of ranges within (Comment text) number
+is_of ranges within (Spined Local tokens) number = numbered_is_of ranges within (Spined Local tokens) number
+is_of ranges within (Spined Interpretation tokens) number = refl
+is_of ranges within (Spined Values tokens) number = numbered_is_of ranges within (Spined Values tokens) number
+
+pub are_more : (rows : List Row) (held : List Held) (row : Row) (h : Held) → AllAreOf rows held → IsOf row h
+    → AllAreOf (rows ++ row ∷ []) (held ++ h ∷ [])
+are_more [] [] row h all one = (one, tt)
+are_more [] (k ∷ held) row h all one = absurd all
+are_more (q ∷ rows) [] row h all one = absurd all
+are_more (q ∷ rows) (k ∷ held) row h all one = (all.0, are_more rows held row h all.1 one)
+
+-- the room of those that were looked at, and of one more
+pub one_more : (seen : List (Bor Held)) (next : Bor Held) (before now one : ℕ)
+    → ((rows : List Row) → AllAreOf rows (map (λ h. h.now) seen) → before ≤ rooms_for rows)
+    → ((row : Row) → IsOf row next.now → one ≤ room_for row) → now ≤ before + one
+    → (rows : List Row) → AllAreOf rows (map (λ h. h.now) (seen ++ next ∷ [])) → now ≤ rooms_for rows
+one_more [] next before now one h o sum [] are = absurd are
+one_more [] next before now one h o sum (row ∷ []) are =
+    let none = h [] tt in
+    let room = o row are.0 in
+    omega (arith, none, room, sum)
+one_more [] next before now one h o sum (row ∷ r ∷ rows) are = absurd are.1
+one_more (k ∷ seen) next before now one h o sum [] are = absurd are
+one_more (k ∷ seen) next before now one h o sum (row ∷ rows) are =
+    let rest = one_more seen next (before - room_for row) (now - room_for row) one
+    (λ others all. let room = h (row ∷ others) (are.0, all) in omega (arith, room)) o (omega (arith, sum)) rows are.1 in
+    omega (arith, rest)
 
 -- the last number after one record more
 pub last_next : (form : Form) (row : Row) (past : List Row) → last_at form (row ∷ past) ≡ cond

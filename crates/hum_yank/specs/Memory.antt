@@ -74,6 +74,19 @@ AllTell o past [] (h ∷ held) = ⊥
 AllTell o past (row ∷ rows) [] = ⊥
 AllTell o past (row ∷ rows) (h ∷ held) = Tells o past row h × AllTell o (row ∷ past) rows held
 
+-- what is kept of a record is that record, or nothing
+abbrev pub IsOf : Row → Held → Type 0
+IsOf row (Stays kept) = kept ≡ row
+IsOf row Goes = Unit {0}
+IsOf row (Waits kept x) = kept ≡ row
+
+-- the same of each that waits
+abbrev pub AllAreOf : List Row → List Held → Type 0
+AllAreOf [] [] = Unit {0}
+AllAreOf [] (h ∷ held) = ⊥
+AllAreOf (row ∷ rows) [] = ⊥
+AllAreOf (row ∷ rows) (h ∷ held) = IsOf row h × AllAreOf rows held
+
 -- something is kept of each
 pub tell_each : (o : Choice) (past rows : List Row) (held : List Held)
     → AllTell o past rows held → length held ≡ length rows
@@ -89,3 +102,4 @@ pub record Follows (options : YankOptions) (path : Path) (marks : Passages) (gre
   pub at_hand : marks ≡ passages_of (form_of options.markers) (passed past rows)
   pub last : greatest ≡ last_at (form_of options.markers) (passed past rows)
   pub tell : AllTell (choice_of options) past rows held
+  pub kept : AllAreOf rows held

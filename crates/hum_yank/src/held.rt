@@ -1,11 +1,13 @@
 //! What is kept of a record that waits.
-ghost use Rattle.std.specs.Prelude.{◌≡◌};
+ghost use Rattle.std.specs.Prelude.{◌≡◌, ◌≤◌};
+ghost use Rattle.hum_score.specs.Row.{Row};
+ghost use Rattle.hum_record.specs.Room.{room_for};
 ghost use Rattle.hum_yank.specs.declared.held.Held.TheVariants.{Goes};
-ghost use Rattle.hum_yank.specs.Memory.{numbered_held, held_of, decided_of, given, adds};
+ghost use Rattle.hum_yank.specs.Memory.{numbered_held, held_of, decided_of, given, adds, IsOf};
 
 use crate::ranges::{any_early, is_chosen};
 use hum_choices::YankRange;
-use hum_record::{Kind, Record};
+use hum_record::{Kind, Record, Spare};
 
 /// What is kept of a record, whose passage is known.
 pub enum Held {
@@ -30,10 +32,10 @@ impl Drop for Held {
 
 impl Held {
     /// What is kept of a record that is dropped: it is gone, to be made use of.
-    fn dropped(row: Record, gone: &mut Option<Record>) -> Held
+    fn dropped(row: Record, pool: &mut Spare) -> Held
         ensures { result ≡ Goes }
     {
-        *gone = Some(row);
+        pool.keep(row);
         Held::Goes
     }
 
@@ -43,12 +45,12 @@ impl Held {
         within: bool,
         row: Record,
         number: Option<u32>,
-        gone: &mut Option<Record>,
+        pool: &mut Spare,
     ) -> Held
         ensures { result ≡ numbered_held ranges.now within row number }
     {
         let Some(number) = number else {
-            return Held::dropped(row, gone);
+            return Held::dropped(row, pool);
         };
         if any_early(ranges, number) {
             return Held::Stays(row);
@@ -56,7 +58,7 @@ impl Held {
         if within {
             return Held::Waits(row, number);
         }
-        Held::dropped(row, gone)
+        Held::dropped(row, pool)
     }
 
     /// What is kept of a record, by its passage and whether a spine is open.
@@ -65,14 +67,14 @@ impl Held {
         within: bool,
         row: Record,
         number: Option<u32>,
-        gone: &mut Option<Record>,
+        pool: &mut Spare,
     ) -> Held
         ensures { result ≡ held_of ranges.now within row number }
     {
         match row.kind() {
             Kind::Interpretation => Held::Stays(row),
             Kind::Global | Kind::Local | Kind::Values => {
-                Held::numbered(ranges, within, row, number, gone)
+                Held::numbered(ranges, within, row, number, pool)
             }
         }
     }
@@ -88,8 +90,19 @@ impl Held {
         }
     }
 
+    /// How many bytes the record that is kept takes, beside its own size.
+    pub(crate) fn room(&self) -> usize
+        ensures { (row : Row) → IsOf row self.now → result ≤ room_for row }
+    {
+        match self {
+            Held::Stays(row) => row.room(),
+            Held::Goes => 0,
+            Held::Waits(row, _) => row.room(),
+        }
+    }
+
     /// The record, if it stays.
-    pub(crate) fn given(self, stays: bool, gone: &mut Option<Record>) -> Option<Record>
+    pub(crate) fn given(self, stays: bool, pool: &mut Spare) -> Option<Record>
         ensures { result ≡ given self stays }
     {
         match self {
@@ -99,7 +112,7 @@ impl Held {
                 if stays {
                     return Some(row);
                 }
-                *gone = Some(row);
+                pool.keep(row);
                 None
             }
         }

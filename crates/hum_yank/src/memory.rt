@@ -19,8 +19,6 @@ pub struct PassageMemory {
     passages: Passages,
     // the last number so far: comments after the end of the last spine add nothing to it
     last: u32,
-    // the last record that was dropped
-    gone: Option<Record>,
 }
 
 /// The last number after a record, given whether no spine was open before it.
@@ -32,13 +30,6 @@ fn last_after(passages: &Passages, markers: &Markers, row: &Record, closed: bool
         passages.last(markers)
     } else {
         last
-    }
-}
-
-/// Gives the pool what is left of a record.
-fn hand_over(gone: &mut Option<Record>, pool: &mut Spare) {
-    if let Some(row) = gone.take() {
-        pool.keep(row);
     }
 }
 
@@ -71,11 +62,15 @@ impl LooksAhead for PassageMemory {
             paths: Paths::new(alloc),
             passages,
             last: 0,
-            gone: None,
         }
     }
 
-    fn put(&mut self, next: Record, held: &mut VecDeque<Held>) -> Result<(), AllocError> {
+    fn put(
+        &mut self,
+        next: Record,
+        pool: &mut Spare,
+        held: &mut VecDeque<Held>,
+    ) -> Result<(), AllocError> {
         let closed = self.paths.is_closed();
         let _moves = self.paths.follow(&next)?;
         let number = self.passages.step(&mut self.options.markers, &next);
@@ -86,12 +81,12 @@ impl LooksAhead for PassageMemory {
             closed,
             self.last,
         );
-        let kept = Held::of(&self.options.ranges, !closed, next, number, &mut self.gone);
+        let kept = Held::of(&self.options.ranges, !closed, next, number, pool);
         held.push_back(kept)?;
         Ok(())
     }
 
-    fn settle(&mut self, held: &mut VecDeque<Held>) -> Result<Verdict, Refusal> {
+    fn settle(&mut self, pool: &mut Spare, held: &mut VecDeque<Held>) -> Result<Verdict, Refusal> {
         let closed = self.paths.is_closed();
         let Some(first) = held.front() else {
             return Ok(Verdict::Waits)
@@ -101,17 +96,19 @@ impl LooksAhead for PassageMemory {
         };
         match held.pop_front() {
             None => Ok(Verdict::Waits),
-            Some(first) => Ok(Verdict::Gives(first.given(stays, &mut self.gone))),
-        }
-    }
-
-    fn give_back(&mut self, pool: &mut Spare) {
-        if self.gone.is_some() {
-            hand_over(&mut self.gone, pool);
+            Some(first) => Ok(Verdict::Gives(first.given(stays, pool))),
         }
     }
 
     fn lasting(&self, held: &VecDeque<Held>) -> usize {
         held.len()
+    }
+
+    fn room(&self, held: &VecDeque<Held>) -> usize {
+        let mut room: usize = 0;
+        for kept in held {
+            room = room.saturating_add(kept.room());
+        }
+        room
     }
 }

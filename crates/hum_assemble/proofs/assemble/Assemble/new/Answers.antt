@@ -46,24 +46,8 @@ returns-in_err-push-clause-one c = gives_one
 pub returns-in_err-push-clause-few : goal.returns-in_err-push-clause-few
 returns-in_err-push-clause-few c = few_in_all
 
-pub returns-in_err-with_room-clause-keeps : goal.returns-in_err-with_room-clause-keeps
-returns-in_err-with_room-clause-keeps c = keeps_scores c.args.stage
-
-pub returns-in_err-with_room-clause-groups : goal.returns-in_err-with_room-clause-groups
-returns-in_err-with_room-clause-groups c = gives_by_groups
-
-pub returns-in_err-with_room-clause-one : goal.returns-in_err-with_room-clause-one
-returns-in_err-with_room-clause-one c = gives_one
-
-pub returns-in_err-with_room-clause-few : goal.returns-in_err-with_room-clause-few
-returns-in_err-with_room-clause-few c = few_in_all
-
 pub returns-in_err-push-clause-stands : goal.returns-in_err-push-clause-stands
 returns-in_err-push-clause-stands c = IfOk-from_err c.from_residual.result _ c.from_residual.ensures.0
-
-pub returns-in_err-with_room-clause-stands : goal.returns-in_err-with_room-clause-stands
-returns-in_err-with_room-clause-stands c =
-    IfOk-from_err c.from_residual-in_err-with_room.result _ c.from_residual-in_err-with_room.ensures.0
 
 pub loop-preserved : goal.loop-preserved
 loop-preserved c =

@@ -5,7 +5,7 @@ use Rattle.hum_stage.specs.declared.contract.Stage.{Ghosts as Stage}
 use Rattle.hum_nodes.specs.At.{At, doing_of}
 use Rattle.hum_nodes.specs.Doing as does
 use Rattle.hum_nodes.specs.declared.node.Node.{Node}
-use Rattle.hum_nodes.specs.declared.node.Readiness.TheVariants as kinds
+use Rattle.hum_stage.specs.declared.faults.Readiness.TheVariants as kinds
 use Rattle.hum_nodes.specs.Nodes.{StandsAs}
 use Rattle.hum_engine.specs.declared.web.Web.{Web}
 use Rattle.hum_engine.specs.Scene.{Scene, HasActor, IsAbout, IsDoing}

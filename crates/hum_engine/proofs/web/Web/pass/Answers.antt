@@ -35,7 +35,7 @@ returns-in-Ok g c =
           c.index_mut.ensures.value c.take.ensures.taken c.requires.about.1.holds.actor c.index_mut-node.ensures.value
           (ap is_some_of c.in-Record.is) (λ s here. record_left c.take.ensures.taken s _ here c.in-Record.is) c.put.ensures.kind
           c.in-Ok.ensures.put (c.take.ensures.popped (ap is_some_of c.in-Record.is)) refl refl
-          (λ is. (c.is_full.ensures.full is, c.in-Ok.ensures.gives (c.is_full.ensures.gives is)))
+          (λ is. (c.is_full.ensures.full is, sym c.gives-gives.ensures ∙ c.is_full.ensures.gives is))
           (λ is. c.take.ensures.room c.in-Record.row c.in-Record.is);
     }
 

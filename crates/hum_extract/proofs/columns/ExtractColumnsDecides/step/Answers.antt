@@ -17,8 +17,8 @@ use Rattle.hum_extract.proofs.Taking.{wide_still, gives_still, gives_opening, fo
 use Rattle.hum_extract.proofs.columns.ExtractColumnsDecides.step.Goals as goal
 use Rattle.hum_extract.proofs.columns.ExtractColumnsDecides.step.Goals.{then-asks+else-not-is_unopened+in_ok-open, else-asks}
 
-pub keep-requires-clause-as_wide : goal.keep-requires-clause-as_wide
-keep-requires-clause-as_wide c =
+pub keep-requires-2-clause-as_wide : goal.keep-requires-2-clause-as_wide
+keep-requires-2-clause-as_wide c =
     let choice = choice_of c.args.self.now.choice in
     let row = c.args.next in
     let at = c.requires.score in
@@ -43,13 +43,13 @@ returns c =
           let on : is_closed c.args.self.now.columns.path ≡ true = sym w.is_unopened.ensures ∙ w.if-not-is_unopened.false in
           let marked : c.selection.result.now ≡ opening_flags choice (tokens_of row) =
           c.selection.ensures ∙ rw w.self-is (ap (λ (m : Memory). m.each) w.in_ok-open.ensures.columns) in
-          rw w.self-is (steps_opening command row past c.args.room c.keep.new.out w.open.new.columns None (opening_length choice) follows score is on
-          (gives_opening choice row _ c.keep.new.out is w.in_ok-open.ensures.found marked c.in_ok-keep.ensures) w.in_ok-open.ensures.columns)
+          rw w.self-is (steps_opening command row past c.args.room c.keep-2.new.out w.open.new.columns None (opening_length choice) follows score is on
+          (gives_opening choice row _ c.keep-2.new.out is w.in_ok-open.ensures.found marked c.in_ok-keep.ensures) w.in_ok-open.ensures.columns)
       | else-asks w ↦ λ decide past follows score.
           let still : steers row ≡ false = sym c.asks.ensures.asks ∙ w.if-asks.false in
           let given = rw (c.selection.ensures, w.self-is) at c.in_ok-keep.ensures in
           rw w.self-is (
-            gives_still choice row past c.keep.new.out follows score c.asks.ensures.lawful still given,
+            gives_still choice row past c.keep-2.new.out follows score c.asks.ensures.lawful still given,
             follows_still choice row past follows score c.asks.ensures.lawful still,
           )
     ]

@@ -3,10 +3,5 @@ use Rattle.hum_stage.specs.Meaning.{opening}
 use Rattle.hum_nodes.proofs.Standing.{single_stands}
 use Rattle.hum_nodes.proofs.node.Node.command.Goals as goal
 
-pub returns-clause-stands : goal.returns-clause-stands
-returns-clause-stands g c m rest h =
-    single_stands g.S.Stage.stands (record { moment = opening m; stand = h; kind = refl; inputs = refl; given = refl })
-    refl c.readiness-is.ensures c.of_stage.ensures
-
 pub returns-clause-lawful : goal.returns-clause-lawful
 returns-clause-lawful g c m h = g.met.S.Stage.lawful c.args.stage (opening m) h

@@ -1,11 +1,11 @@
-use Rattle.std.proofs.Common.{inr, ap}
+use Rattle.std.proofs.Common.{◌∙◌, inr, ap}
 use Rattle.hum_assemble.specs.Change.{Ends}
-use Rattle.hum_stage.specs.Meaning.{after_end}
+use Rattle.hum_stage.specs.Meaning.{after_end, readiness_by}
 use Rattle.hum_nodes.specs.At.{with_end}
 use Rattle.hum_nodes.specs.Nodes.{commands}
 use Rattle.hum_nodes.proofs.Mergings as merging
 use Rattle.hum_nodes.proofs.Singles as single
-use Rattle.hum_nodes.proofs.Standing.{alone_as, as_merging, merging_stands, single_stands, wants_place}
+use Rattle.hum_nodes.proofs.Standing.{alone_as, as_merging, merging_stands, single_stands}
 use Rattle.hum_nodes.proofs.node.Node.stop.Goals as goal
 
 pub end-requires : goal.end-requires
@@ -16,10 +16,10 @@ end-requires g c =
 
 pub end-requires-in-Assemble : goal.end-requires-in-Assemble
 end-requires-in-Assemble g c =
-    let place = c.requires.may.0 in
     let may = c.requires.may.1 in
-    let at = c.place_of.ensures place (wants_place _ _ _ _ place c.requires.kind may.stand may.holds.wants) in
-    inr (merging.may_end (as_merging c.in-Assemble.is may.stand) c.args.end at may.holds)
+    let m = as_merging c.in-Assemble.is may.stand in
+    inr (merging.may_end m c.args.end (c.unwrap_or.ensures ∙ merging.wanted_place m c.wants.ensures.wanted may.holds.wants)
+    may.holds)
 
 pub returns-in-Command-clause-stopped : goal.returns-in-Command-clause-stopped
 returns-in-Command-clause-stopped g c rest place t h may =
@@ -32,12 +32,12 @@ returns-in-Command-clause-stopped g c rest place t h may =
       kind = w.kind;
       inputs = k.inputs;
       given = w.given;
-    }) s.0 c.readiness.ensures c.of_stage-self.ensures
+    }) s.0 (λ m stand. c.readiness_by-self.ensures ∙ ap readiness_by (c.state.ensures m stand))
 
 pub returns-in-Assemble-clause-stopped : goal.returns-in-Assemble-clause-stopped
 returns-in-Assemble-clause-stopped g c rest place t h may =
-    let at = c.place_of.ensures place (wants_place _ _ _ _ place c.requires.kind h may.wants) in
-    let works = merging.changed (as_merging c.in-Assemble.is h) (Ends c.args.end) at may.wants
-    c.end-in-Assemble.ensures.ended in
-    merging_stands g.S.Stage.stands {sources = c.in-Assemble.sources} works (h.alone (ap commands c.in-Assemble.is))
-    (c.of_assemble-self.ensures c.in-Assemble.sources.items _ works) c.taken_from-self.ensures c.deref.ensures.value
+    let m = as_merging c.in-Assemble.is h in
+    let at = c.unwrap_or.ensures ∙ merging.wanted_place m c.wants.ensures.wanted may.wants in
+    merging_stands g.S.Stage.stands {sources = c.in-Assemble.sources}
+    (merging.changed m (Ends c.args.end) at may.wants c.end-in-Assemble.ensures.ended)
+    (h.alone (ap commands c.in-Assemble.is)) c.readiness-self.ensures c.wanted-self.ensures c.deref.ensures.value

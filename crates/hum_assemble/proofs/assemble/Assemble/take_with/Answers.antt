@@ -6,7 +6,7 @@ use Rattle.hum_assemble.specs.Round.{any_due}
 use Rattle.hum_assemble.specs.Merge.{ahead, given_row, given_on}
 use Rattle.hum_assemble.proofs.Fronts.{next_by_groups}
 use Rattle.hum_assemble.proofs.Calls.{take_here, take_nothing, alive, told_taken}
-use Rattle.hum_assemble.proofs.assemble.Assemble.take.Goals as goal
+use Rattle.hum_assemble.proofs.assemble.Assemble.take_with.Goals as goal
 
 pub returns-in_default : goal.returns-in_default
 returns-in_default c =
@@ -18,6 +18,7 @@ returns-in_default c =
       groups = λ t h a.
           let h' = rw (← c.self.view_is) at h in
           next_by_groups t _ (take_nothing _ _ _ t h' (λ p e. c.in_default.not-Gives p (known.next ∙ e))) a;
+      ready = c.readiness.ensures;
       err = tt;
       stays_spent = λ e. let f = rw (← c.self.view_is) at e in let g = c.if-self.false in cc;
     }
@@ -54,7 +55,7 @@ pub returns-clause-groups : goal.returns-clause-groups
 returns-clause-groups c = λ t h a. next_by_groups t _ (returns-clause-ok c t h).0 a
 
 pub returns-then-self : goal.returns-then-self
-returns-then-self c = record { ok = tt; groups = tt; err = rw (← c.self.view_is) c.if-self.true; stays_spent = λ e. refl }
+returns-then-self c = record { ok = tt; groups = tt; ready = tt; err = rw (← c.self.view_is) c.if-self.true; stays_spent = λ e. refl }
 
 pub returns-in_err-row-clause-ok : goal.returns-in_err-row-clause-ok
 returns-in_err-row-clause-ok c = IfOk-from_err c.from_residual.result _ c.from_residual.ensures.0
