@@ -7,7 +7,7 @@ ghost use Rattle.hum_turns.specs.Counts.{most_in_all};
 ghost use Rattle.hum_turns.specs.Holds.{SomeReady};
 ghost use Rattle.hum_plan.specs.Stages.{IsTree};
 ghost use Rattle.hum_plan.specs.Seen.{stages_of};
-ghost use Rattle.hum_engine.specs.Scene.{plan_of, held_of, HoldsFew};
+ghost use Rattle.hum_engine.specs.Scene.{plan_of, held_of, rooms_of, HoldsFew};
 ghost use Rattle.hum_engine.specs.Readers.{failed_at, is_read_of, is_write};
 ghost use Rattle.hum_engine.specs.Nets.{NetAt, Tells, HasTurned, RunsBy, WroteFront};
 ghost use Rattle.hum_engine.specs.Nets.{CallsSink, FlushesSink, AtEach, HadFewEach, IsLinked};
@@ -171,6 +171,15 @@ impl<R: Source + Drop, W: Sink, S: Stage + Drop> Net<R, W, S> {
         ensures { AtEach S.Stage W.Sink self.now (λ start s now. IsLinked s now k result) }
     {
         self.engine.linked(k)
+    }
+
+    /// How many bytes the records take, beside their own size, that lie on its links and wait inside its stages: no
+    /// more than what they say needs.
+    pub fn room(&self) -> usize
+        ensures { AtEach S.Stage W.Sink self.now
+            (λ start s now. now.failure ≡ None → result ≤ rooms_of s now.links) }
+    {
+        self.engine.room()
     }
 
     /// The writer, as the turns left it: at each moment a prefix of the plan's text was written, however
