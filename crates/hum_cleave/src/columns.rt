@@ -10,11 +10,11 @@ ghost use Rattle.hum_cleave.specs.Columns.{opening_flags};
 ghost use Rattle.hum_cleave.specs.Cleave.{opened, cleave, column_command};
 
 use crate::merging::merge;
-use crate::records::{Buffers, give, give_text, put_together};
+use crate::records::{give, give_text, put_together};
 use hum_choices::CleaveOptions;
 use hum_columns::ChosenColumns;
 use hum_path::Marks;
-use hum_record::{Kind, Record, SpinedKind};
+use hum_record::{GrowingText, Kind, Record, Spare, SpinedKind};
 use hum_stage::{Command, Decides, Refusal};
 use std::alloc::{AllocError, Global};
 use std::collections::VecDeque;
@@ -46,7 +46,7 @@ fn open(
     options: &CleaveOptions,
     columns: &mut ChosenColumns,
     row: Record,
-    buffers: &mut Buffers,
+    pool: &mut Spare,
     out: &mut VecDeque<Record>,
 ) -> Result<(), Refusal>
     requires kind { row ≡ Spined Interpretation (tokens_of row) }
@@ -65,10 +65,10 @@ fn open(
         marks.each(),
         options.new_name(),
         &row,
-        &mut buffers.spare,
+        pool,
     )?;
     columns.open(&row, marks)?;
-    give(row, made, buffers, out)
+    give(row, made, pool, out)
 }
 
 /// The cleaved columns, and the spines that they are among.
@@ -77,7 +77,8 @@ pub struct CleaveColumns {
     alloc: Global,
     options: CleaveOptions,
     columns: ChosenColumns,
-    buffers: Buffers,
+    // where a joined token is made
+    text: GrowingText,
 }
 
 impl Decides for CleaveColumns {
@@ -105,15 +106,29 @@ impl Decides for CleaveColumns {
             alloc,
             options,
             columns: ChosenColumns::none(alloc),
-            buffers: Buffers::new(alloc),
+            text: GrowingText::new(alloc),
         }
     }
 
-    fn step(&mut self, next: Record, room: u64, out: &mut VecDeque<Record>) -> Result<(), Refusal> {
+    fn step(
+        &mut self,
+        next: Record,
+        room: u64,
+        pool: &mut Spare,
+        out: &mut VecDeque<Record>,
+    ) -> Result<(), Refusal> {
         if !is_interpretation(&next) {
             let separator = self.options.separator();
             let marks = self.columns.marks();
-            return give_text(self.alloc, separator, marks, next, &mut self.buffers, out);
+            return give_text(
+                self.alloc,
+                separator,
+                marks,
+                next,
+                &mut self.text,
+                pool,
+                out,
+            );
         }
         if self.columns.is_unopened() {
             return open(
@@ -121,12 +136,13 @@ impl Decides for CleaveColumns {
                 &self.options,
                 &mut self.columns,
                 next,
-                &mut self.buffers,
+                pool,
                 out,
             );
         }
         merge(self.alloc, self.columns.marks().each(), &next, room, out)?;
         self.columns.pass(self.alloc, &next)?;
+        pool.keep(next);
         Ok(())
     }
 }

@@ -17,34 +17,6 @@ use hum_record::{GrowingText, Kind, Record, RecordDraft, Spare, SpinedKind};
 use hum_stage::{Refusal, unless_long};
 use std::alloc::{AllocError, Global};
 use std::collections::VecDeque;
-use std::marker::Model;
-
-/// Where a joined token is made, and what is left of records that gave way to others.
-///
-/// Nothing of what stands in them shows.
-#[derive(Drop)]
-pub struct Buffers {
-    text: GrowingText,
-    pub spare: Spare,
-}
-
-impl Model for Buffers {
-    ghost use Rattle.std.specs.Prelude.{⊤};
-
-    ghost Value = { ⊤ };
-
-    ghost view = { λ b. tt };
-}
-
-impl Buffers {
-    /// Nothing was made yet.
-    pub fn new(alloc: Global) -> Buffers {
-        Buffers {
-            text: GrowingText::new(alloc),
-            spare: Spare::none(alloc),
-        }
-    }
-}
 
 /// The record with one token in place of those in the cleaved columns, unless it is too long.
 pub fn put_together(
@@ -53,7 +25,7 @@ pub fn put_together(
     marks: &[bool],
     one: &[u8],
     row: &Record,
-    spare: &mut Spare,
+    pool: &mut Spare,
 ) -> Result<Option<Record>, AllocError>
     requires shape { row.now ≡ Spined kind (tokens_of row.now) }
     requires valid { IsTextOf row.now (text_of row.now) }
@@ -61,7 +33,7 @@ pub fn put_together(
     requires as_wide { length marks.now ≡ width_of row.now }
     ensures { IfOk result (IsMade kind (together one.now marks.now (tokens_of row.now))) }
 {
-    let mut making = RecordDraft::new(alloc, kind, spare);
+    let mut making = RecordDraft::new(alloc, kind, pool);
     let mut is_done = false;
     for (j, mark) in marks.iter().enumerate() {
         if !*mark {
@@ -74,14 +46,14 @@ pub fn put_together(
     Ok(making.finish())
 }
 
-/// Gives what was made of a record. The record that gives way is done with.
+/// Gives what was made of a record. The record that gives way goes to the pool.
 ///
 /// # Errors
 /// L1 where that would be too long; or out of memory.
 pub fn give(
     row: Record,
     made: Option<Record>,
-    buffers: &mut Buffers,
+    pool: &mut Spare,
     out: &mut VecDeque<Record>,
 ) -> Result<(), Refusal>
     requires empty { out.old.items ≡ [] }
@@ -90,11 +62,11 @@ pub fn give(
         → Answers (one_record kind tokens) room out.new.items refused) }
 {
     out.push_back(unless_long(made)?)?;
-    buffers.spare.keep(row);
+    pool.keep(row);
     Ok(())
 }
 
-/// Gives what a record becomes that isn't an interpretation.
+/// Gives what a record becomes that isn't an interpretation. A joined token is made in the text.
 ///
 /// # Errors
 /// L1; or out of memory.
@@ -103,7 +75,8 @@ pub fn give_text(
     separator: &[u8],
     marks: &Marks,
     row: Record,
-    buffers: &mut Buffers,
+    text: &mut GrowingText,
+    pool: &mut Spare,
     out: &mut VecDeque<Record>,
 ) -> Result<(), Refusal>
     requires between { fits_in_token separator.now ≡ true }
@@ -122,17 +95,15 @@ pub fn give_text(
         Kind::Local => {
             let marks = marks.each();
             let one = leftmost_comment(marks, &row);
-            let spare = &mut buffers.spare;
-            let made = put_together(alloc, SpinedKind::Local, marks, one, &row, spare)?;
-            give(row, made, buffers, out)
+            let made = put_together(alloc, SpinedKind::Local, marks, one, &row, pool)?;
+            give(row, made, pool, out)
         }
         Kind::Values => {
             let marks = marks.each();
-            gather(alloc, separator, marks, &row, &mut buffers.text)?;
-            let one = buffers.text.as_slice();
-            let spare = &mut buffers.spare;
-            let made = put_together(alloc, SpinedKind::Values, marks, one, &row, spare)?;
-            give(row, made, buffers, out)
+            gather(alloc, separator, marks, &row, text)?;
+            let one = text.as_slice();
+            let made = put_together(alloc, SpinedKind::Values, marks, one, &row, pool)?;
+            give(row, made, pool, out)
         }
         _ => {
             out.push_back(row)?;

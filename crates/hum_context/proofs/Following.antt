@@ -1,7 +1,8 @@
 -- What is remembered goes on.
 use Rattle.std.proofs.Common.{◌≡◌, ◌∙◌, ◌≢◌, refl, sym, ap, ℕ, suc, ◌+◌, ◌≤◌, ◌<◌, true, false}
 use Rattle.std.proofs.Common.{List, [], ◌∷◌, ◌++◌, length, drop, get_or, length-append, append_assoc}
-use Rattle.std.proofs.Common.{arith, length-drop, Option, Some, None}
+use Rattle.std.proofs.Common.{arith, length-drop, ◌-◌, map, Bor, Option, Some, None}
+use Rattle.hum_record.specs.Room.{room_for, rooms_for}
 use Rattle.std.specs.Prelude.{Result, nat_le, slice_get, ◌==◌}
 use Rattle.std.proofs.lemmas.Bool.Decides.{nat_tests}
 use Rattle.hum_score.specs.declared.records.SpinedKind.TheVariants.{Values}
@@ -87,6 +88,24 @@ few_held o path gone walks held look past rows h =
     let e = follows_each o path gone walks held look past rows h in
     let counted = h.counted in
     omega (arith, few, counted, e)
+
+-- what is kept of those that wait are their records
+pub kept_rows : (o : Choice) (path : Path) (held : List Queued) (rows : List Row) → Knows o path held rows
+    → map (λ kept. kept.row) held ≡ rows
+kept_rows o path [] [] h = refl
+kept_rows o path [] (row ∷ rows) h = absurd h
+kept_rows o path (kept ∷ held) [] h = absurd h
+kept_rows o path (kept ∷ held) (row ∷ rows) h = rw (h.0.is, kept_rows o (after path row) held rows h.1) refl
+
+-- the room of those that were looked at, and of one more
+pub one_more : (seen : List (Bor Queued)) (next : Bor Queued) (before now one : ℕ)
+    → before ≤ rooms_for (map (λ kept. kept.row) (map (λ kept. kept.now) seen)) → one ≤ room_for next.now.row
+    → now ≤ before + one → now ≤ rooms_for (map (λ kept. kept.row) (map (λ kept. kept.now) (seen ++ next ∷ [])))
+one_more [] next before now one h o sum = omega (arith, h, o, sum)
+one_more (kept ∷ seen) next before now one h o sum =
+    let rest = one_more seen next (before - room_for kept.now.row) (now - room_for kept.now.row) one (omega (arith, h)) o
+    (omega (arith, sum)) in
+    omega (arith, rest)
 
 tail_known : (o : Choice) (path : Path) (held : List Queued) (row : Row) (rows : List Row)
     → Knows o path held (row ∷ rows) → Knows o (after path row) (drop 1 held) rows

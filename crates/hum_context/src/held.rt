@@ -2,7 +2,7 @@
 ghost use Rattle.std.specs.Prelude.{◌≡◌, ◌<◌, ◌≤◌, true, length, Some, IfOk};
 ghost use Rattle.std.specs.List.{list_all};
 ghost use Rattle.hum_score.specs.declared.records.SpinedKind.TheVariants.{Values};
-ghost use Rattle.hum_record.specs.{Contents.is_null, Nulls.null_row};
+ghost use Rattle.hum_record.specs.{Contents.is_null, Nulls.null_row, Room.room_for};
 ghost use Rattle.hum_score.specs.Row.{Row, kind_of, row_of, text_of, token_at, tokens_of, width_of};
 ghost use Rattle.hum_score.specs.Spelling.{IsTextOf, IsTokenOf};
 
@@ -109,6 +109,16 @@ impl HeldRecord {
         match &self.holding {
             HeldForm::Whole(row) => row.token(j),
             HeldForm::Nulls(_) => b".",
+        }
+    }
+
+    /// How many bytes the record takes, beside its own size, unless it is held by its width.
+    pub(crate) fn room(&self) -> usize
+        ensures { result ≤ room_for self.now }
+    {
+        match &self.holding {
+            HeldForm::Whole(row) => row.room(),
+            HeldForm::Nulls(_) => 0,
         }
     }
 

@@ -41,8 +41,6 @@ pub struct Collecting {
     next: Vec<Walk>,
     // where a new token is made
     text: Text,
-    // what is left of records that gave way to others
-    spare: Spare,
     // lists of what was heard of records that are gone
     spare_heard: SpareHeard,
 }
@@ -96,7 +94,12 @@ impl LooksAhead for Collecting {
         Collecting::new(alloc, options)
     }
 
-    fn put(&mut self, next: Record, held: &mut VecDeque<Queued>) -> Result<(), AllocError> {
+    fn put(
+        &mut self,
+        next: Record,
+        _pool: &mut Spare,
+        held: &mut VecDeque<Queued>,
+    ) -> Result<(), AllocError> {
         let below = below_row(self.alloc, &mut self.paths, &next)?;
         let queued = Queued::new(
             self.alloc,
@@ -109,7 +112,11 @@ impl LooksAhead for Collecting {
         Ok(())
     }
 
-    fn settle(&mut self, held: &mut VecDeque<Queued>) -> Result<Verdict, Refusal> {
+    fn settle(
+        &mut self,
+        pool: &mut Spare,
+        held: &mut VecDeque<Queued>,
+    ) -> Result<Verdict, Refusal> {
         // no score has more records
         if self.gone.saturating_add(held.len() as u64) > MOST_RECORDS {
             return Ok(Verdict::Waits);
@@ -131,13 +138,15 @@ impl LooksAhead for Collecting {
             &self.walks,
             wanted,
             &mut self.text,
-            &mut self.spare,
+            pool,
         )?
         else {
             return Err(Refusal::Rule(Rule::L1));
         };
         let row = self.let_go(held)?;
-        self.keep(row);
+        if let Some(row) = row.whole() {
+            pool.keep(row);
+        }
         Ok(Verdict::Gives(Some(made)))
     }
 
@@ -147,6 +156,15 @@ impl LooksAhead for Collecting {
             return 0;
         }
         lasting(held, wanted(&self.options.span))
+    }
+
+    // The records alone: what is heard of their tokens and where their spines go isn't counted.
+    fn room(&self, held: &VecDeque<Queued>) -> usize {
+        let mut room: usize = 0;
+        for kept in held {
+            room = room.saturating_add(kept.row.room());
+        }
+        room
     }
 }
 
@@ -166,7 +184,6 @@ impl Collecting {
             walks: Vec::new(alloc),
             next: Vec::new(alloc),
             text: Text::none(alloc),
-            spare: Spare::none(alloc),
             spare_heard: SpareHeard::none(alloc),
         }
     }
@@ -225,14 +242,5 @@ impl Collecting {
         let Queued { row, heard, .. } = kept;
         self.spare_heard.keep(heard);
         Ok(row)
-    }
-
-    /// Keeps the buffers of a record that gave way to another.
-    fn keep(&mut self, row: HeldRecord)
-        ensures { self.new ≡ record self.old { spare = self.new.spare } }
-    {
-        if let Some(row) = row.whole() {
-            self.spare.keep(row);
-        }
     }
 }

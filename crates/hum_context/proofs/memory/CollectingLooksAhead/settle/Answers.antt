@@ -118,7 +118,7 @@ returns-clause-settles c look past row rows h =
     (c.in_ok-made.ensures o path (tokens_of row) are.0 rows want h.some_wanted linked
     (rw c.deref.ensures.value stands) are.1) in
     let e = c.in_ok-row-2.ensures in
-    rw (c.keep.ensures, e.kept, made.0) (
+    rw (e.kept, made.0) (
       ap (λ l. l past row rows) h.command
           ∙ decided_by o past row rows are.0 (Ok (Spined Values are.0 ∷ [])) is are.1
           (fits_is are.0 (bytes_fit are.0 made.1)),
