@@ -1,0 +1,5 @@
+-- What is said of many cases.
+pub mod Ends
+pub mod Cases
+pub mod Answers
+pub mod Many
