@@ -3,3 +3,4 @@ pub mod Ends
 pub mod Cases
 pub mod Answers
 pub mod Many
+pub mod Talks

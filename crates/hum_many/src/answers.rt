@@ -1,8 +1,8 @@
 //! Answers to cases.
-ghost use Rattle.std.specs.Prelude.{◌≡◌, ◌||◌, [], IfOk, string_bytes, Some, length, nat_lt, false};
+ghost use Rattle.std.specs.Prelude.{◌≡◌, List, Some, nat_lt, false};
 ghost use Rattle.hum_words.specs.Bundle.{largest};
-ghost use Rattle.hum_packets.specs.Streams.{HasAnswered, is_write};
-ghost use Rattle.hum_many.specs.Answers.{told, CaseComes};
+ghost use Rattle.hum_packets.specs.Streams.{HasAnswered, Hands, is_write};
+ghost use Rattle.hum_many.specs.Answers.{told, CaseComes, held_outcome};
 ghost use Rattle.hum_many.specs.Cases.{Named, size};
 
 use crate::cases::Case;
@@ -44,7 +44,7 @@ pub(crate) fn tell<W: Sink + Drop>(
     outcome: Outcome,
 ) -> Result<(), Stop>
     ensures answered { HasAnswered W.Sink text.now (told outcome) answers.old answers.new result }
-    ensures marked { W.failed answers.new.sink ≡ (W.failed answers.old.sink || is_write result) }
+    ensures hands { Hands W.Sink answers.old answers.new (is_write result) }
 {
     let told = match (Told { outcome }).to_string(alloc) {
         Ok(told) => told,

@@ -1,7 +1,10 @@
 //! A plan and cases that are read, and their answers.
-ghost use Rattle.std.specs.Prelude.{◌≡◌, ◌||◌, ◌≢◌, false, List, IfOk, IfErr};
+ghost use Rattle.std.specs.Prelude.{◌≡◌, ◌||◌, false, nat_lt, OnOk, IfOk, IfErr};
+ghost use Rattle.hum_net.specs.Outcomes.{status_of};
+ghost use Rattle.hum_packets.specs.Streams.{Hands, is_write, coming, going};
 ghost use Rattle.hum_many.specs.Ends.{is_write_end};
-ghost use Rattle.hum_many.specs.Many.{ManyCome};
+ghost use Rattle.hum_many.specs.Many.{PlanComes, ManyCome};
+ghost use Rattle.hum_many.specs.Talks.{TalkedToEnd, TalkedTo, AllCome, HasClosed};
 
 use crate::answers::{run_case, tell};
 use crate::cases::read_case;
@@ -19,6 +22,9 @@ fn answer_cases<R: Source + Drop, W: Sink + Drop>(
     packets: &mut Packets<R>,
     answers: &mut Answers<W>,
 ) -> Result<(), Stop>
+    ensures all { OnOk result (TalkedToEnd R.Source W.Sink plan.now packets.old answers.old answers.new) }
+    ensures stops { IfErr result (TalkedTo R.Source W.Sink plan.now packets.old answers.old answers.new) }
+    ensures hands { Hands W.Sink answers.old answers.new (is_write result) }
 {
     for _ in 0..u64::MAX {
         let Some(case) = read_case(alloc, packets, answers)? else {
@@ -30,25 +36,64 @@ fn answer_cases<R: Source + Drop, W: Sink + Drop>(
     Err(Stop::Memory)
 }
 
+/// What comes of the plan's text.
+fn plan_outcome(alloc: Global, plan: &[u8]) -> Outcome
+    ensures { PlanComes plan.now result }
+{
+    match plan_stages(alloc, plan) {
+        Ok(_) => Outcome::Run(RunResult::Finished),
+        Err(outcome) => outcome,
+    }
+}
+
+/// Whether a plan of which this comes is refused.
+fn is_refused(outcome: Outcome) -> bool
+    ensures { result ≡ nat_lt 0 (status_of outcome) }
+{
+    outcome.status() > 0
+}
+
 /// Answers the plan, and then the cases: how that ends.
 fn answer_all<R: Source + Drop, W: Sink + Drop>(
     alloc: Global,
     packets: &mut Packets<R>,
     answers: &mut Answers<W>,
 ) -> Result<ManyEnd, Stop>
+    requires { packets.old.passed ≡ 0 }
+    ensures come { AllCome R.Source W.Sink packets.old answers.old answers.new result }
+    ensures hands { Hands W.Sink answers.old answers.new (is_write result) }
+    ensures end { IfOk result (λ end. is_write_end end ≡ false) }
 {
     let plan = read_text(alloc, packets, answers, LONGEST_PLAN + 1)?.bytes;
-    if let Err(outcome) = plan_stages(alloc, &plan) {
-        tell(alloc, answers, b"", outcome)?;
+    let outcome = plan_outcome(alloc, &plan);
+    tell(alloc, answers, b"", outcome)?;
+    if is_refused(outcome) {
         return Ok(ManyEnd::Plan(outcome));
     }
-    tell(alloc, answers, b"", Outcome::Run(RunResult::Finished))?;
     answer_cases(alloc, &plan, packets, answers)?;
     Ok(ManyEnd::Finished)
 }
 
+/// Does so, and tells how that ended.
+fn answer_to_end<R: Source + Drop, W: Sink + Drop>(
+    alloc: Global,
+    packets: &mut Packets<R>,
+    answers: &mut Answers<W>,
+) -> ManyEnd
+    requires { packets.old.passed ≡ 0 }
+    ensures come { ManyCome (coming R.Source packets.old) (going W.Sink answers.old) (going W.Sink answers.new) result }
+    ensures hands { Hands W.Sink answers.old answers.new (is_write_end result) }
+{
+    match answer_all(alloc, packets, answers) {
+        Ok(end) => end,
+        Err(stop) => end_of(stop),
+    }
+}
+
 /// Writes what was answered, where no write failed before.
-fn close<W: Sink + Drop>(answers: &mut Answers<W>, end: ManyEnd) -> ManyEnd {
+fn close<W: Sink + Drop>(answers: &mut Answers<W>, end: ManyEnd) -> ManyEnd
+    ensures closed { HasClosed W.Sink answers.old answers.new end result }
+{
     match end {
         ManyEnd::Write => ManyEnd::Write,
         _ => match answers.send() {
@@ -72,18 +117,12 @@ pub fn run_many<R: Source + Drop, W: Sink + Drop>(
 
     // A failed write or flush is told exactly where one set the output's mark.
     ensures marked { W.failed result.1 ≡ (W.failed output || is_write_end result.0) }
-
-    // Where no read can fail, none is told to.
-    ensures unread { ((reader : R) → R.failed reader ≡ false) → result.0 ≢ ManyEnd.Read }
 {
     let mut answers = Answers::new(alloc, output);
     let Ok(mut packets) = Packets::new(alloc, input) else {
         return (ManyEnd::Memory, answers.into_sink());
     };
-    let end = match answer_all(alloc, &mut packets, &mut answers) {
-        Ok(end) => end,
-        Err(stop) => end_of(stop),
-    };
+    let end = answer_to_end(alloc, &mut packets, &mut answers);
     let end = close(&mut answers, end);
     (end, answers.into_sink())
 }

@@ -1,31 +1,45 @@
 -- What is read ahead.
 use Rattle.std.proofs.Common.{◌≡◌, ℕ, ◌+◌, ◌-◌, ◌<◌, ◌≤◌, List, [], ◌∷◌, ◌++◌, length, take, drop, refl, sym, ap, ◌∙◌, arith, Bool, true, false, ◌||◌, Option, Some, None, append_assoc, append-nil, length-append, take-append-drop, slice_range}
-use Rattle.std.specs.Io.KnownBytes.{Consumes, Keeps, prepend_known}
-use Rattle.std.proofs.KnownBytes.{Keeps-refl, Keeps-trans}
+use Rattle.std.specs.Io.KnownBytes.{Appends, Consumes, Keeps, prepend_known}
+use Rattle.std.proofs.KnownBytes.{Keeps-refl, Keeps-trans, Appends-nil, Appends-trans, append_known-moved}
 use Rattle.std.specs.List.{copy_within}
 use Rattle.hum_text.proofs.WindowLemmas.{moved-window, window-front, grow-window}
 use Rattle.hum_text.specs.declared.calls.Source.{Ghosts as Source}
 use Rattle.hum_text.specs.declared.calls.Sink.{Ghosts as Sink}
-use Rattle.hum_packets.specs.Streams.{Reading, Writing, coming, going, Is, IsFront, Serves}
+use Rattle.hum_packets.specs.Streams.{Reading, Writing, coming, going, Is, IsFront, Grows, Hands, Serves}
 use Rattle.hum_packets.specs.Held.{IsFed}
-
-pub serves-refl : {W : Type 0} {sink : Sink W} (w : Writing W) → Serves sink w w false
-serves-refl {sink} w = record { kept = Keeps-refl _; marked = none (sink.failed w.sink) }
-  where
-    none : (p : Bool) → p ≡ (p || false)
-    none true = refl
-    none false = refl
 
 or_chain : (p q r f : Bool) → q ≡ (p || false) → r ≡ (q || f) → r ≡ (p || f)
 or_chain true q r f h k = k ∙ ap (λ x. x || f) h
 or_chain false q r f h k = k ∙ ap (λ x. x || f) h
 
-pub serves-trans : {W : Type 0} {sink : Sink W} {a b c : Writing W} {f : Bool} → Serves sink a b false → Serves sink b c f
-    → Serves sink a c f
-serves-trans {sink} {a} {b} {c} {f} x y = record {
-  kept = Keeps-trans _ _ _ x.kept y.kept;
+or_none-same : (p : Bool) → p ≡ (p || false)
+or_none-same true = refl
+or_none-same false = refl
+
+pub grows-refl : (a : Option (List ℕ)) → Grows a a
+grows-refl a = ([], Appends-nil a)
+
+pub grows-trans : (a b c : Option (List ℕ)) → Grows a b → Grows b c → Grows a c
+grows-trans a b c x y = (x.0 ++ y.0, Appends-trans a b c x.0 y.0 x.1 y.1)
+
+pub hands-refl : {W : Type 0} {sink : Sink W} (w : Writing W) → Hands sink w w false
+hands-refl {sink} w = record { grown = grows-refl (sink.contents w.sink); marked = or_none-same (sink.failed w.sink) }
+
+pub hands-trans : {W : Type 0} {sink : Sink W} {a b c : Writing W} {f : Bool} → Hands sink a b false → Hands sink b c f
+    → Hands sink a c f
+hands-trans {sink} {a} {b} {c} {f} x y = record {
+  grown = grows-trans _ _ _ x.grown y.grown;
   marked = or_chain (sink.failed a.sink) _ _ f x.marked y.marked;
 }
+
+pub serves-refl : {W : Type 0} {sink : Sink W} (w : Writing W) → Serves sink w w false
+serves-refl {sink} w = record { kept = Keeps-refl (going sink w); hands = hands-refl w }
+
+pub serves-trans : {W : Type 0} {sink : Sink W} {a b c : Writing W} {f : Bool} → Serves sink a b false → Serves sink b c f
+    → Serves sink a c f
+serves-trans {sink} {a} {b} {c} {f} x y =
+    record { kept = Keeps-trans _ _ _ x.kept y.kept; hands = hands-trans x.hands y.hands }
 
 pub fed-refl : {R : Type 0} {source : Source R} (r : Reading R) → IsFed source r r
 fed-refl r = record { more = []; behind = sym (append-nil r.pending); kept = Keeps-refl _; passed = refl }
@@ -101,3 +115,12 @@ all-coming (Some x) bs = refl
 pub same-reading : {R : Type 0} {s t : R} {a b p q : List ℕ} {m n : ℕ} → s ≡ t → a ≡ b → p ≡ q → m ≡ n
     → ◌≡◌ {A = Reading R} (record { source = s; last = a; pending = p; passed = m }) (record { source = t; last = b; pending = q; passed = n })
 same-reading h i j k = cc
+
+-- the first of those that wait were written
+pub handed : {W : Type 0} (sink : Sink W) (s t : W) (waiting : List ℕ) (n : ℕ) (f : Bool)
+    → Appends (sink.contents s) (sink.contents t) (take n waiting) → sink.failed t ≡ (sink.failed s || f)
+    → Serves sink (record { sink = s; waiting = waiting }) (record { sink = t; waiting = drop n waiting }) f
+handed sink s t waiting n f wrote failed = record {
+  kept = append_known-moved _ _ (take n waiting) (drop n waiting) waiting wrote (sym (take-append-drop n waiting));
+  hands = record { grown = (take n waiting, wrote); marked = failed };
+}

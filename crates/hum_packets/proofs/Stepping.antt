@@ -11,17 +11,17 @@ use Rattle.hum_packets.specs.declared.stop.Stop.{Stop}
 use Rattle.hum_packets.specs.declared.stop.Stop.TheVariants.{Broken, Read, Write, Memory}
 use Rattle.hum_packets.specs.Packets.{size_at, front, packet, end, neither}
 use Rattle.hum_packets.specs.Lists.{Then, Chain, IsPacket, IsEnd, Stops}
-use Rattle.hum_packets.specs.Streams.{Reading, coming, further, Is, IsFront, Took, Breaks, Ceases, Lost}
-use Rattle.hum_packets.specs.Held.{HoldsPacket, IsFed, Fed, TookOne}
+use Rattle.hum_packets.specs.Streams.{Reading, coming, further, Is, IsFront, Took, Breaks, Ceases, HasFailed, Lost}
+use Rattle.hum_packets.specs.Held.{HoldsPacket, IsFed, Fed, LostAhead, TookOne}
 use Rattle.hum_packets.proofs.Fronts.{front-wrong, front-short, front-cut, front-end, front-held, size-least, size_at-append}
 use Rattle.hum_packets.proofs.Feeding.{pending-front, kept-is, kept-front, kept-consumes, or_none, all-coming}
 
-consumes-is : (a b : Option (List ℕ)) (xs ys : List ℕ) → Consumes a b xs → Is b ys → Is a (xs ++ ys)
+pub consumes-is : (a b : Option (List ℕ)) (xs ys : List ℕ) → Consumes a b xs → Is b ys → Is a (xs ++ ys)
 consumes-is None b xs ys read is = tt
 consumes-is (Some x) None xs ys read is = absurd read
 consumes-is (Some x) (Some y) xs ys read is = read ∙ ap (λ (zs : List ℕ). xs ++ zs) is
 
-consumes-front : (a b : Option (List ℕ)) (xs ys : List ℕ) → Consumes a b xs → IsFront b ys → IsFront a (xs ++ ys)
+pub consumes-front : (a b : Option (List ℕ)) (xs ys : List ℕ) → Consumes a b xs → IsFront b ys → IsFront a (xs ++ ys)
 consumes-front None b xs ys read is = tt
 consumes-front (Some x) None xs ys read is = absurd read
 consumes-front (Some x) (Some y) xs ys read is =
@@ -90,7 +90,7 @@ module _ {R : Type 0} (source : Source R) where
     counts = x.counts;
     ahead = x.ahead;
   }
-  lost-as P Q a Read turn x = record { part = x.part; behind = x.behind; is = x.is; steps = turn _ _ x.steps }
+  lost-as P Q a Read turn x = record { part = x.part; behind = x.behind; is = x.is; steps = turn _ _ x.steps; failed = x.failed }
   lost-as P Q a Write turn x = tt
   lost-as P Q a Memory turn x = tt
 
@@ -115,6 +115,7 @@ module _ {R : Type 0} (source : Source R) where
     behind = y.behind;
     is = consumes-front _ _ _ _ x.consumes y.is;
     steps = (y.part, x.steps y.part, y.steps);
+    failed = y.failed;
   }
   lost-then P Q a b Write x y = tt
   lost-then P Q a b Memory x y = tt
@@ -138,7 +139,7 @@ module _ {R : Type 0} (source : Source R) where
     counts = y.counts ∙ ap (λ n. further n (length y.before)) x.passed;
     ahead = λ h. y.ahead (omega (arith, h, ap length x.behind, length-append a.pending x.more));
   }
-  fed-lost P a b Read x y = record { part = y.part; behind = y.behind; is = kept-front _ _ _ x.kept y.is; steps = y.steps }
+  fed-lost P a b Read x y = record { part = y.part; behind = y.behind; is = kept-front _ _ _ x.kept y.is; steps = y.steps; failed = y.failed }
   fed-lost P a b Write x y = tt
   fed-lost P a b Memory x y = tt
 
@@ -170,12 +171,13 @@ module _ {R : Type 0} (source : Source R) where
       stays r (r.pending ++ rest) at here (all-coming (source.remaining r.source) r.pending) (front-wrong r.pending rest four none)
       (λ h. omega (arith, h, length-append r.pending rest))
 
-  pub lost-read : (r : Reading R) → front r.pending ≡ neither → Lost source Stops r Read
-  lost-read r none = record {
+  pub lost-read : (r : Reading R) → front r.pending ≡ neither → HasFailed source → Lost source Stops r Read
+  lost-read r none failed = record {
     part = r.pending;
     behind = r.pending;
     is = pending-front (source.remaining r.source) r.pending;
     steps = (refl, none);
+    failed = failed;
   }
 
   took-held : {P : Step} (r : Reading R) (n : ℕ) (last : List ℕ) → 0 < n → n ≤ length r.pending
@@ -209,9 +211,16 @@ module _ {R : Type 0} (source : Source R) where
   pub lost-unheld : (r : Reading R) (n : ℕ) (stop : Stop) → (length r.pending < n → front r.pending ≡ neither) → Fed source n r (Err stop)
       → Lost source Stops r stop
   lost-unheld r n (Broken at) none fed = absurd fed
-  lost-unheld r n Read none fed = lost-read r (none fed)
+  lost-unheld r n Read none fed = lost-read r (none fed.0) fed.1
   lost-unheld r n Write none fed = tt
   lost-unheld r n Memory none fed = tt
+
+  pub lost-ahead : (a b : Reading R) (stop : Stop) → IsFed source a b → Fed source 1 b (Err stop) → LostAhead source a stop
+  lost-ahead a b (Broken at) fed h = absurd h
+  lost-ahead a b Read fed h =
+      fed-lost Stops a b Read fed (lost-unheld b 1 Read (λ few. front-short b.pending (omega (arith, few))) h)
+  lost-ahead a b Write fed h = tt
+  lost-ahead a b Memory fed h = absurd h
 
   -- the size that was pending is still
   pub still-says : {a b : Reading R} (n : ℕ) → IsFed source a b → 4 ≤ length a.pending → size_at a.pending ≡ Some n

@@ -36,6 +36,10 @@ abbrev pub IsFront : Option (List ℕ) → List ℕ → Type 0
 IsFront None part = Unit {0}
 IsFront (Some all) part = (rest : List ℕ) × (all ≡ part ++ rest)
 
+-- more bytes stand behind them
+abbrev pub Grows : Option (List ℕ) → Option (List ℕ) → Type 0
+Grows old new = (part : List ℕ) × Appends old new part
+
 -- whether it was a write that failed
 abbrev pub is_write : {A : Type 0} → Result A Stop → Bool
 is_write (Ok x) = false
@@ -66,12 +70,17 @@ module _ {R : Type 0} (source : Source R) where
     pub counts : at ≡ further old.passed (length before)
     pub ahead : 0 < length old.pending → 0 < length (before ++ behind)
 
-  -- A read has failed: of what was read no more is a packet.
+  -- A read of the source has failed.
+  abbrev pub HasFailed : Type 0
+  HasFailed = (reader : R) × (source.failed reader ≡ true)
+
+  -- So it has: of what was read no more is a packet.
   pub record Ceases (Step : List ℕ → List ℕ → Type 0) (old : Reading R) : Type 0 where
     pub part : List ℕ
     pub behind : List ℕ
     pub is : IsFront (coming old) part
     pub steps : Step part behind
+    pub failed : HasFailed
 
   -- what an error says of the bytes
   abbrev pub Lost : (List ℕ → List ℕ → Type 0) → Reading R → Stop → Type 0
@@ -93,10 +102,15 @@ module _ {W : Type 0} (sink : Sink W) where
   abbrev pub going : Writing W → Option (List ℕ)
   going w = append_known (sink.contents w.sink) w.waiting
 
-  -- Nothing was answered; a write has failed or not.
+  -- The sink has what it had, and maybe more; a write has failed or not.
+  pub record Hands (old new : Writing W) (failure : Bool) : Type 0 where
+    pub grown : Grows (sink.contents old.sink) (sink.contents new.sink)
+    pub marked : sink.failed new.sink ≡ (sink.failed old.sink || failure)
+
+  -- Nothing was answered.
   pub record Serves (old new : Writing W) (failure : Bool) : Type 0 where
     pub kept : Keeps (going old) (going new)
-    pub marked : sink.failed new.sink ≡ (sink.failed old.sink || failure)
+    pub hands : Hands old new failure
 
   pub record Answers (text told : List ℕ) (old new : Writing W) : Type 0 where
     pub answer : List ℕ

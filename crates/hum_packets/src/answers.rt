@@ -1,7 +1,7 @@
 //! Answers that are written.
 ghost use Rattle.std.specs.Prelude.{◌≡◌, ◌≤◌, [], ◌||◌, length, take, drop, is_err, OnOk, IfErr};
 ghost use Rattle.std.specs.Io.KnownBytes.{Appends};
-ghost use Rattle.hum_packets.specs.Streams.{HasAnswered, Serves, is_write};
+ghost use Rattle.hum_packets.specs.Streams.{HasAnswered, Hands, Serves, is_write};
 
 use crate::stop::Stop;
 use crate::writing::write_answer;
@@ -105,7 +105,9 @@ impl<W: Sink + Drop> Answers<W> {
         }
         let (written, result) = hand_on(&self.waiting, &mut self.sink);
         self.forget(written);
-        result?;
+        if result.is_err() {
+            return Err(Stop::Write);
+        }
         match self.sink.flush() {
             Ok(()) => Ok(()),
             Err(_) => Err(Stop::Write),
@@ -118,7 +120,7 @@ impl<W: Sink + Drop> Answers<W> {
     /// Out of memory, or a write failed.
     pub fn answer(&mut self, text: &[u8], told: &[u8]) -> Result<(), Stop>
         ensures answered { HasAnswered W.Sink text.now told.now self.old self.new result }
-        ensures marked { W.failed self.new.sink ≡ (W.failed self.old.sink || is_write result) }
+        ensures hands { Hands W.Sink self.old self.new (is_write result) }
     {
         let len = self.waiting.len();
         if write_answer(&mut self.waiting, text, told).is_err() {

@@ -1,11 +1,11 @@
 //! Packets that are read.
-ghost use Rattle.std.specs.Prelude.{◌≡◌, ◌+◌, ◌*◌, ◌<◌, ◌≤◌, [], length, take, drop};
+ghost use Rattle.std.specs.Prelude.{◌≡◌, ◌+◌, ◌*◌, ◌<◌, ◌≤◌, [], length, take, drop, true};
 ghost use Rattle.std.specs.Prelude.{IfOk, IfErr, OnErr, IfSome, slice_range, vec_len};
 ghost use Rattle.std.specs.Io.KnownBytes.{Keeps, Consumes, IsAtEnd};
 ghost use Rattle.hum_packets.specs.Packets.{digit_of, pair_of, joined, size_by, size_at};
 ghost use Rattle.hum_packets.specs.Lists.{Stops};
 ghost use Rattle.hum_packets.specs.Streams.{coming, further, Is, Lost, Serves, is_write};
-ghost use Rattle.hum_packets.specs.Held.{HoldsPacket, IsFed, Fed, Begins, TookOne};
+ghost use Rattle.hum_packets.specs.Held.{HoldsPacket, IsFed, Fed, Begins, LostAhead, TookOne};
 
 use crate::answers::Answers;
 use crate::stop::Stop;
@@ -133,6 +133,7 @@ fn read_once<R: Source, W: Sink + Drop>(
     ensures end { IfOk result (λ n. n ≡ 0 → IsAtEnd (R.remaining source.new)) }
     ensures err { OnErr result (Keeps (R.remaining source.old) (R.remaining source.new)) }
     ensures stop { IfErr result (λ stop. stop ≡ Stop.Read) }
+    ensures failed { OnErr result (R.failed source.new ≡ true) }
 {
     match source.read(&mut room[end..end + LARGEST_READ]) {
         Ok(n) => Ok(n),
@@ -193,6 +194,7 @@ impl<R: Source + Drop> Packets<R> {
         ensures more { IfOk result (λ some. Fed R.Source (length self.old.pending + 1) self.new (Ok some)) }
         ensures stop { IfErr result (λ stop. stop ≡ Stop.Read) }
         ensures same { OnErr result (self.new.pending ≡ self.old.pending) }
+        ensures failed { OnErr result (R.failed self.new.source ≡ true) }
     {
         self.room.copy_within(self.start..self.end, 0);
         self.end -= self.start;
@@ -226,7 +228,7 @@ impl<R: Source + Drop> Packets<R> {
     pub fn is_at_end<W: Sink + Drop>(&mut self, answers: &mut Answers<W>) -> Result<bool, Stop>
         ensures fed { IsFed R.Source self.old self.new }
         ensures end { IfOk result (λ end. Begins R.Source end self.new) }
-        ensures lost { IfErr result (Lost R.Source Stops self.old) }
+        ensures lost { IfErr result (LostAhead R.Source self.old) }
         ensures serves { Serves W.Sink answers.old answers.new (is_write result) }
     {
         Ok(!self.hold(1, answers)?)

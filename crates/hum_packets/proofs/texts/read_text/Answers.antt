@@ -49,3 +49,16 @@ loop-preserved g c =
           (c.in_ok-hold.ensures.held (concat packets) c.loop.invariant.2),
       serves-trans c.loop.invariant.3 c.in_ok-next.ensures.serves,
     )
+
+pub returns-in_err-next-clause-serves : goal.returns-in_err-next-clause-serves
+returns-in_err-next-clause-serves g c =
+    let p = err_from_is_err_and c.from_residual.result c.from_residual.ensures.1 in
+    rw (p.1, p.2) (serves-trans c.loop.invariant.3 c.in_err-next.ensures.serves)
+
+pub returns-then-not-branch-clause-serves : goal.returns-then-not-branch-clause-serves
+returns-then-not-branch-clause-serves g c = serves-trans c.loop.invariant.3 c.in_ok-next.ensures.serves
+
+pub returns-in_err-hold-clause-serves : goal.returns-in_err-hold-clause-serves
+returns-in_err-hold-clause-serves g c =
+    let p = err_from_is_err_and c.from_residual-in_err-hold.result c.from_residual-in_err-hold.ensures.1 in
+    rw (p.1, p.2, c.in_err-hold.ensures.stop) (serves-trans c.loop.invariant.3 c.in_ok-next.ensures.serves)

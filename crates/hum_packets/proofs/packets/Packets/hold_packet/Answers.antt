@@ -2,6 +2,7 @@ use Rattle.std.proofs.Common.{◌≡◌, ◌≤◌, ◌<◌, ◌∙◌, sym, ap,
 use Rattle.std.proofs.lemmas.Result.{err_from_is_err_and}
 use Rattle.hum_packets.specs.Packets.{size_at}
 use Rattle.hum_packets.proofs.Fronts.{front-short, front-cut}
+use Rattle.hum_packets.proofs.Feeding.{serves-trans}
 use Rattle.hum_packets.proofs.Stepping.{lost-unheld, lost-short, lost-cut, lost-wrong, still-says, fed-true, fed-false}
 use Rattle.hum_packets.proofs.packets.Packets.hold_packet.Goals as goal
 
@@ -58,3 +59,14 @@ returns-clause-held g c =
     let still = still-says g.R.Source n c.in_ok-hold-2.ensures.fed four says in
     let all : c.in_ok-hold-2.field-0 ≡ true = search rules in
     record { digits = still.0; says = still.1; whole = fed-true g.R.Source n c.hold-2.new.self c.in_ok-hold-2.field-0 all c.in_ok-hold-2.ensures.held }
+
+pub returns-in_err-hold-2-clause-serves : goal.returns-in_err-hold-2-clause-serves
+returns-in_err-hold-2-clause-serves g c =
+    let p = err_from_is_err_and c.from_residual-in_err-hold-2.result c.from_residual-in_err-hold-2.ensures.1 in
+    rw (p.1, p.2) (serves-trans c.in_ok-hold.ensures.serves c.in_err-hold-2.ensures.serves)
+
+pub returns-then-not-branch-2-clause-serves : goal.returns-then-not-branch-2-clause-serves
+returns-then-not-branch-2-clause-serves g c = serves-trans c.in_ok-hold.ensures.serves c.in_ok-hold-2.ensures.serves
+
+pub returns-clause-serves : goal.returns-clause-serves
+returns-clause-serves g c = serves-trans c.in_ok-hold.ensures.serves c.in_ok-hold-2.ensures.serves
