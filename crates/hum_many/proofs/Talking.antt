@@ -3,7 +3,7 @@ use Rattle.std.proofs.Common.{◌≡◌, ℕ, ◌+◌, ◌-◌, ◌^◌, ◌<◌
 use Rattle.std.specs.List.{concat}
 use Rattle.std.specs.Io.KnownBytes.{Appends, Consumes, Keeps, append_known, prepend_known}
 use Rattle.std.proofs.lemmas.List.{append_cancel_left}
-use Rattle.std.proofs.KnownBytes.{Appends-nil, Appends-trans, Appends-kept, Keeps-trans}
+use Rattle.std.proofs.KnownBytes.{Appends-nil, Appends-trans, Appends-kept, Keeps-refl, Keeps-trans}
 use Rattle.hum_text.specs.declared.calls.Source.{Ghosts as Source}
 use Rattle.hum_text.specs.declared.calls.Sink.{Ghosts as Sink}
 use Rattle.hum_turns.specs.declared.result.RunResult.TheVariants as ends
@@ -17,8 +17,9 @@ use Rattle.hum_net.specs.Bundles.{IsRefusal}
 use Rattle.hum_packets.specs.declared.stop.Stop.{Stop}
 use Rattle.hum_packets.specs.declared.stop.Stop.TheVariants as stop
 use Rattle.hum_packets.specs.Lists.{Chain, IsText, StopsInList}
-use Rattle.hum_packets.specs.Streams.{Reading, Writing, Took, Lost, Is, IsFront, Grows, Serves, Hands, Answers, HasAnswered, is_write, IsAnswer, further, coming, going}
+use Rattle.hum_packets.specs.Streams.{Reading, Writing, Took, Lost, Is, IsFront, Grows, Serves, Hands, Answers, HasAnswered, IsAnswer, further, coming, going}
 use Rattle.hum_packets.specs.Texts.{IsHeld}
+use Rattle.hum_packets.proofs.Feeding.{grows-trans}
 use Rattle.hum_packets.proofs.Stepping.{took-chain, took-then, took-as, chain-more, concat-one, consumes-is, consumes-front}
 use Rattle.hum_many.specs.declared.end.ManyEnd.{ManyEnd}
 use Rattle.hum_many.specs.declared.end.ManyEnd.TheVariants as end
@@ -27,7 +28,7 @@ use Rattle.hum_many.specs.Ends.{end_of, is_write_end}
 use Rattle.hum_many.specs.Cases.{Named, IsCase, IsPlan, StopsInCase, TookCase, EndsHere, LostCase, BreaksCase}
 use Rattle.hum_many.specs.Answers.{told, CaseComes, AnswersCase, AnswerEach}
 use Rattle.hum_many.specs.Many.{PlanComes, Accepts, AnsweredCases, RefusedPlan, StoppedInPlan, StoppedInCase, WroteFront, Written, ManyCome}
-use Rattle.hum_many.specs.Talks.{Talked, TalkedToEnd, TalkedTo}
+use Rattle.hum_many.specs.Talks.{Talked, TalkedToEnd, TalkedTo, HasClosed}
 
 each-more : (plan : List ℕ) (cases : List (List Named)) (answers : List (List ℕ)) (case : List Named) (answer : List ℕ)
     → AnswerEach plan cases answers → AnswersCase plan case answer → AnswerEach plan (cases ++ case ∷ []) (answers ++ answer ∷ [])
@@ -101,15 +102,15 @@ module _ {R W : Type 0} (source : Source R) (sink : Sink W) (plan : List ℕ) wh
       } in
       talked-more source sink plan t.case answered.answer talked t.took one (keeps-first _ _ _ answered.answer kept answered.wrote)
 
-  pub tell-stops : {a b c : Reading R} {w x y z : Writing W} {held : List Named} {large : Bool} (stop : Stop)
+  pub tell-stops : {a b c : Reading R} {w x z : Writing W} {held : List Named} {large : Bool} (y : Writing W) (stop : Stop)
       (t : TookCase source b c held large) (text out : List ℕ) (is : Outcome) → out ≡ text → Talked source sink plan a b w x
       → Keeps (going sink x) (going sink y) → CaseComes plan t.case text is → HasAnswered sink out (told is) y z (Err stop)
       → TalkedTo source sink plan a w z stop
-  tell-stops (stop.Broken at) t text out is same talked kept comes answered = absurd answered
-  tell-stops stop.Read t text out is same talked kept comes answered = absurd answered
-  tell-stops {a} {b} {c} stop.Write t text out is same talked kept comes answered =
+  tell-stops y (stop.Broken at) t text out is same talked kept comes answered = absurd answered
+  tell-stops y stop.Read t text out is same talked kept comes answered = absurd answered
+  tell-stops {a} {b} {c} y stop.Write t text out is same talked kept comes answered =
       record { last = c; talked = tell-more t text out is same talked kept comes answered; lost = tt }
-  tell-stops {a} {b} {c} stop.Memory t text out is same talked kept comes answered =
+  tell-stops {a} {b} {c} y stop.Memory t text out is same talked kept comes answered =
       record { last = b; talked = talked-kept source sink plan (talked-kept source sink plan talked kept) answered; lost = tt }
 
 module _ {R W : Type 0} (source : Source R) (sink : Sink W) (start : Reading R) (fresh : start.passed ≡ 0) where
@@ -292,12 +293,6 @@ plan-illegal plan is (inr refused) some = refused
 plan-illegal plan is (inl legal) some =
     let none : true ≡ false = some ∙ ap (λ o. nat_lt 0 (status_of o)) legal.0 in absurd (cc)
 
-pub end-write : (stop : Stop) {A : Type 0} → is_write {A = A} (Err stop) ≡ is_write_end (end_of stop)
-end-write (stop.Broken at) = refl
-end-write stop.Read = refl
-end-write stop.Write = refl
-end-write stop.Memory = refl
-
 module _ {R W : Type 0} (source : Source R) (sink : Sink W) (start : Reading R) (fresh : start.passed ≡ 0) (plan : List ℕ) (is_whole : Bool)
     (behind : Reading R) (held : IsHeld source (LONGEST_PLAN + 1) start behind plan is_whole) where
   -- the plan was read, and its answer failed
@@ -441,3 +436,25 @@ none-come known old = record {
   wrote = Appends-nil old;
   comes = (front-none known, record { tail = []; answers = []; are = inl refl; front = ([], refl) });
 }
+
+-- what came is told to the caller, once what waited was written, or a write has failed
+pub close-come : {R W : Type 0} (source : Source R) (sink : Sink W) (start : Reading R) (input : R) (first middle last : Writing W) (output : W)
+    (ended is : ManyEnd) → start ≡ record { source = input; last = []; pending = []; passed = 0 } → first ≡ record { sink = output; waiting = [] }
+    → ManyCome (coming source start) (going sink first) (going sink middle) ended → Hands sink first middle (is_write_end ended)
+    → HasClosed sink middle last ended is → ManyCome (source.remaining input) (sink.contents output) (sink.contents last.sink) is
+close-come source sink start input first middle last output ended is unread unasked come hands closed =
+    let from_input = subst (λ r. ManyCome (coming source r) (going sink first) (going sink middle) ended) unread come in
+    let here = subst (λ w. ManyCome (prepend_known [] (source.remaining input)) (going sink w) (going sink middle) ended) unasked from_input in
+    let grown = subst (λ w. Grows (sink.contents w.sink) (sink.contents middle.sink)) unasked hands.grown in
+    elim closed as (λ _. ManyCome (source.remaining input) (sink.contents output) (sink.contents last.sink) is) [
+      | inl sent ↦ subst (ManyCome (source.remaining input) (sink.contents output) (sink.contents last.sink)) (sym sent.1)
+          (sent-come (source.remaining input) (sink.contents output) (going sink middle) (going sink last) (sink.contents last.sink) ended here
+          sent.0.serves.kept (ap (append_known (sink.contents last.sink)) sent.0.sent))
+      | inr (inl failed) ↦ subst (ManyCome (source.remaining input) (sink.contents output) (sink.contents last.sink)) (sym failed.0)
+          (unsent-come (source.remaining input) (sink.contents output) (going sink middle) (sink.contents last.sink) last.waiting ended here
+          failed.1.kept (grows-trans _ _ _ grown failed.1.hands.grown))
+      | inr (inr before) ↦ subst (ManyCome (source.remaining input) (sink.contents output) (sink.contents last.sink)) (sym before.0)
+          (subst (λ w. ManyCome (source.remaining input) (sink.contents output) (sink.contents w.sink) end.Write) (sym before.2)
+          (unsent-come (source.remaining input) (sink.contents output) (going sink middle) (sink.contents middle.sink) middle.waiting ended here
+          (Keeps-refl (going sink middle)) grown))
+    ]

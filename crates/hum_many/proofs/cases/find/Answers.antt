@@ -6,13 +6,14 @@ use Rattle.hum_many.proofs.cases.find.Goals as goal
 pub returns-then-eq : goal.returns-then-eq
 returns-then-eq c =
     find-here c.args.scores.now c.args.name.now c.parts.result.1.now c.loop-score.score-index c.score-item.result c.loop-score.invariant
-    c.loop-score-test.true c.score-item.is ?
-    c.parts.ensures.text
+    c.loop-score-test.true c.score-item.is
+    (ap (λ n. bytes_eq n c.args.name.now) (sym c.parts.ensures.name) ∙ sym c.eq.ensures ∙ c.if-eq.true) c.parts.ensures.text
 
 pub loop-score-preserved : goal.loop-score-preserved
 loop-score-preserved c =
     find-next c.args.scores.now c.args.name.now c.loop-score.score-index c.score-item.result c.loop-score.invariant
-    c.loop-score-test.true c.score-item.is ?
+    c.loop-score-test.true c.score-item.is
+    (ap (λ n. bytes_eq n c.args.name.now) (sym c.parts.ensures.name) ∙ sym c.eq.ensures ∙ c.if-eq.false)
 
 pub returns : goal.returns
 returns c = find-none c.args.scores.now c.args.name.now c.loop-score.score-index c.loop-score.invariant c.loop-score-test.false

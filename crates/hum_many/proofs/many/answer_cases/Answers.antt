@@ -36,7 +36,7 @@ pub returns-in_err-tell-clause-stops : goal.returns-in_err-tell-clause-stops
 returns-in_err-tell-clause-stops g c =
     let p = err_from_is_err_and c.from_residual-in_err-tell.result c.from_residual-in_err-tell.ensures.1 in
     let took = rw c.in-Some.is at c.in_ok-case.ensures.took in
-    rw (p.1, p.2) (tell-stops g.R.Source g.W.Sink c.args.plan.now c.in_err-tell.field-0.0 took c.run_case-outcome.result.1.items c.deref.result.now
+    rw (p.1, p.2) (tell-stops g.R.Source g.W.Sink c.args.plan.now c.read_case.new.answers c.in_err-tell.field-0.0 took c.run_case-outcome.result.1.items c.deref.result.now
     c.run_case-outcome.result.0 c.deref.ensures.value c.loop.invariant.0 c.in_ok-case.ensures.serves.kept
     (c.run_case-outcome.ensures took.case took.large took.all) c.in_err-tell.ensures.answered)
 
