@@ -1,6 +1,6 @@
 # humpipe: build, show, test and measure.
 #
-#   make            proves each crate and builds ./humpipe
+#   make            proves each crate and builds ./humpipe and ./humpipe-many
 #   make demo       shows the main job on a score of examples/
 #   make test       the merge gate: make lint, the rows of tests/ and the examples of the docs by a program that isn't proved, every proof
 #                   from nothing, the edits that must be refused, tests, runs, and by the proved program the rows, make faults, growth, the Python
@@ -12,6 +12,7 @@
 #   make dist-test  installs them in fresh folders, and runs them there
 #   make rows       runs the rows of tests/ with the program
 #   make faults     runs small pipelines with it, while one call for memory, read, write or opened file after the other fails
+#   make many       runs the rows of tests/ and broken streams with ./humpipe-many
 #   make growth     counts the instructions of each command and measures its memory, over scores that grow; make test does so over fewer of them
 #   make docs       runs what the README and docs/ print, with it
 #   make python     runs the tests of the Python package, with it
@@ -43,15 +44,18 @@ crates = $(shell awk -F'[: ]+' '{ line[$$1] = $$0 } \
 		if (!(crate in line) || crate in reached) return; \
 		reached[crate]; n = split(line[crate], names); \
 		for (i = 2; i <= n; i++) reach(names[i]); print crate } \
-	END { reach("humpipe") }' crates.txt)
+	END { reach("humpipe"); reach("humpipe_many") }' crates.txt)
 files = $(shell find crates -name out -prune -o -name must-fail -prune -o -name edits -prune -o -type f -print)
+
+# the program for many cases that is there
+many = $${MANY:-$$(ls humpipe-many crates/humpipe_many/out/humpipe_many 2>/dev/null | head -n 1)}
 
 # the program that is there, for a recipe, and what makes one where none is
 there = $${PROGRAM:-$$(ls humpipe crates/humpipe/out/humpipe 2>/dev/null | head -n 1)}
 export PROGRAM
 needed = $(if $(PROGRAM)$(wildcard humpipe crates/humpipe/out/humpipe),,humpipe)
 
-.PHONY: all demo test early edits bench rows faults growth docs recipes python plots lint install dist dist-test clean
+.PHONY: all demo test early edits bench rows faults many growth docs recipes python plots lint install dist dist-test clean
 
 all: humpipe
 
@@ -82,7 +86,7 @@ room=$$(mktemp -d) && trap 'rm -rf "$$room"' EXIT INT TERM; \
 mkdir "$$room/.git" && cp HANDLES "$$room" && \
 for crate in $(crates); do grep "^$$crate:" crates.txt; done >"$$room/crates.txt" && \
 tar -c --exclude=out --exclude=must-fail --exclude=edits $(crates:%=crates/%) | tar -x -C "$$room" && \
-(cd "$$room" && $(jobs) rt ci) && mkdir -p $(dir $(log)) && cp "$$room/crates/humpipe/out/humpipe" humpipe
+(cd "$$room" && $(jobs) rt ci) && mkdir -p $(dir $(log)) && cp "$$room/crates/humpipe_many/out/humpipe_many" humpipe-many && cp "$$room/crates/humpipe/out/humpipe" humpipe
 endef
 
 humpipe: crates.txt HANDLES $(files)
@@ -117,6 +121,7 @@ test: lint early
 	elif test -n "$$program"; then \
 		for made in "$$program" "$$program.by-rattle"; do test ! -x "$$made" || python3 tests/check.py "$$made" || exit 1; done; \
 		python3 tests/faults.py "$$program" && \
+		python3 tests/many.py $(many) && \
 		python3 tests/growth.py "$$program" && \
 		HUMPIPE=$$(realpath "$$program") && export HUMPIPE && (cd python && python3 -m tests) && \
 		python3 packaging/check.py "$$program" && \
@@ -132,6 +137,9 @@ rows: humpipe
 
 faults: humpipe
 	@python3 tests/faults.py humpipe
+
+many: humpipe
+	@python3 tests/many.py humpipe-many
 
 growth: humpipe
 	@python3 tests/growth.py humpipe --whole
@@ -172,4 +180,4 @@ dist-test: dist
 	@python3 packaging/check.py --whole $(there)
 
 clean:
-	rm -rf humpipe dist crates/*/out bench/data
+	rm -rf humpipe humpipe-many dist crates/*/out bench/data

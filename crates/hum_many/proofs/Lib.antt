@@ -1,0 +1,4 @@
+pub mod Holding
+pub mod Coming
+pub mod Talking
+pub mod Reading

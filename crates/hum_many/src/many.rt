@@ -1,0 +1,128 @@
+//! A plan and cases that are read, and their answers.
+ghost use Rattle.std.specs.Prelude.{◌≡◌, ◌||◌, false, nat_lt, OnOk, IfOk, IfErr};
+ghost use Rattle.hum_net.specs.Outcomes.{status_of};
+ghost use Rattle.hum_packets.specs.Streams.{Hands, is_write, coming, going};
+ghost use Rattle.hum_many.specs.Ends.{is_write_end};
+ghost use Rattle.hum_many.specs.Many.{PlanComes, ManyCome};
+ghost use Rattle.hum_many.specs.Talks.{TalkedToEnd, TalkedTo, AllCome, HasClosed};
+
+use crate::answers::{run_case, tell};
+use crate::cases::read_case;
+use crate::end::{ManyEnd, end_of};
+use hum_net::{Outcome, RunResult, plan_stages};
+use hum_packets::{Answers, Packets, Stop, read_text};
+use hum_text::calls::{Sink, Source};
+use hum_words::LONGEST_PLAN;
+use std::alloc::Global;
+
+/// Answers the cases that are read, until there are none.
+fn answer_cases<R: Source + Drop, W: Sink + Drop>(
+    alloc: Global,
+    plan: &[u8],
+    packets: &mut Packets<R>,
+    answers: &mut Answers<W>,
+) -> Result<(), Stop>
+    ensures all { OnOk result (TalkedToEnd R.Source W.Sink plan.now packets.old answers.old answers.new) }
+    ensures stops { IfErr result (TalkedTo R.Source W.Sink plan.now packets.old answers.old answers.new) }
+    ensures hands { Hands W.Sink answers.old answers.new (is_write result) }
+{
+    for _ in 0..u64::MAX {
+        let Some(case) = read_case(alloc, packets, answers)? else {
+            return Ok(());
+        };
+        let (outcome, text) = run_case(alloc, plan, &case);
+        tell(alloc, answers, &text, outcome)?;
+    }
+    Err(Stop::Memory)
+}
+
+/// What comes of the plan's text.
+fn plan_outcome(alloc: Global, plan: &[u8]) -> Outcome
+    ensures { PlanComes plan.now result }
+{
+    match plan_stages(alloc, plan) {
+        Ok(_) => Outcome::Run(RunResult::Finished),
+        Err(outcome) => outcome,
+    }
+}
+
+/// Whether a plan of which this comes is refused.
+fn is_refused(outcome: Outcome) -> bool
+    ensures { result ≡ nat_lt 0 (status_of outcome) }
+{
+    outcome.status() > 0
+}
+
+/// Answers the plan, and then the cases: how that ends.
+fn answer_all<R: Source + Drop, W: Sink + Drop>(
+    alloc: Global,
+    packets: &mut Packets<R>,
+    answers: &mut Answers<W>,
+) -> Result<ManyEnd, Stop>
+    requires { packets.old.passed ≡ 0 }
+    ensures come { AllCome R.Source W.Sink packets.old answers.old answers.new result }
+    ensures hands { Hands W.Sink answers.old answers.new (is_write result) }
+    ensures end { IfOk result (λ end. is_write_end end ≡ false) }
+{
+    let plan = read_text(alloc, packets, answers, LONGEST_PLAN + 1)?.bytes;
+    let outcome = plan_outcome(alloc, &plan);
+    tell(alloc, answers, b"", outcome)?;
+    if is_refused(outcome) {
+        return Ok(ManyEnd::Plan(outcome));
+    }
+    answer_cases(alloc, &plan, packets, answers)?;
+    Ok(ManyEnd::Finished)
+}
+
+/// Does so, and tells how that ended.
+fn answer_to_end<R: Source + Drop, W: Sink + Drop>(
+    alloc: Global,
+    packets: &mut Packets<R>,
+    answers: &mut Answers<W>,
+) -> ManyEnd
+    requires { packets.old.passed ≡ 0 }
+    ensures come { ManyCome (coming R.Source packets.old) (going W.Sink answers.old) (going W.Sink answers.new) result }
+    ensures hands { Hands W.Sink answers.old answers.new (is_write_end result) }
+{
+    match answer_all(alloc, packets, answers) {
+        Ok(end) => end,
+        Err(stop) => end_of(stop),
+    }
+}
+
+/// Writes what was answered, where no write failed before.
+fn close<W: Sink + Drop>(answers: &mut Answers<W>, end: ManyEnd) -> ManyEnd
+    ensures closed { HasClosed W.Sink answers.old answers.new end result }
+{
+    match end {
+        ManyEnd::Write => ManyEnd::Write,
+        _ => match answers.send() {
+            Ok(()) => end,
+            Err(_) => ManyEnd::Write,
+        },
+    }
+}
+
+/// Reads a plan and cases, and answers each in turn. The output is handed back with how that ended.
+pub fn run_many<R: Source + Drop, W: Sink + Drop>(
+    alloc: Global,
+    input: R,
+    output: W,
+) -> (ManyEnd, W)
+    // The plan is answered, and then each case, in their order: with the text that comes of this plan and this case,
+    // and of nothing else, and how that ended. The input has ended behind the last; or the plan was refused; or what
+    // stands at a byte is no packet that may stand there, and all whole cases before it are answered; or a read
+    // failed, and those are answered that were read; or a write failed or memory ran out, and a front of that was written.
+    ensures come { ManyCome (R.remaining input) (W.contents output) (W.contents result.1) result.0 }
+
+    // A failed write or flush is told exactly where one set the output's mark.
+    ensures marked { W.failed result.1 ≡ (W.failed output || is_write_end result.0) }
+{
+    let mut answers = Answers::new(alloc, output);
+    let Ok(mut packets) = Packets::new(alloc, input) else {
+        return (ManyEnd::Memory, answers.into_sink());
+    };
+    let end = answer_to_end(alloc, &mut packets, &mut answers);
+    let end = close(&mut answers, end);
+    (end, answers.into_sink())
+}

@@ -1,0 +1,5 @@
+pub mod Fronts
+pub mod Feeding
+pub mod Stepping
+pub mod Cutting
+pub mod Backwards

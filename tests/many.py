@@ -1,0 +1,153 @@
+#!/usr/bin/env python3
+"""many.py PROGRAM: the rows of this folder with PROGRAM as humpipe-many, and broken streams.
+
+The bundle of each row is asked as a case, three times in one process, with a case between them that is refused and one without scores:
+it must be answered each time as the row says. Each plan of the files NAME.plans must be refused or accepted as they say. A stream of
+four lists is cut at each of its bytes, and at each place where a packet may begin stands what is none; it is sent byte by byte, and to
+an output that takes nothing. One line for each that fails; the last line is `N passed, M failed`."""
+import glob
+import os
+import re
+import subprocess
+import sys
+
+import check
+import made
+from packets import answer, answers, case, packets
+
+PLAN = packets(b'out: read a | extract -f 1\n')
+GOOD = case([(b'a', b'**x\t**y\n1\t2\n*-\t*-\n')])
+BAD = case([(b'a', b'**x\t**y\n1\t2\n3\n*-\t*-\n')])
+STREAM = [PLAN, GOOD, BAD, GOOD]
+FINE = (0, b'**x\n1\n*-\n', b'')
+WRONG = (1, b'**x\n1\n', b'humpipe: stage 1 (read), line 3: P2')
+ANSWERS = [(0, b'', b''), FINE, WRONG, FINE]
+MISSING = (3, b'', b'humpipe: stage 1 (read): cannot open')
+# what is no size
+JUNK = [b'000g', b'0001', b'0002', b'0003', b'fff1', b'ffff', b'-001', b' 005', b'0x05', b'+00c', b'\0\0\0\0']
+
+
+def run(program, given):
+    """The status of a run, its answers, and what it tells."""
+    ended = subprocess.run([program], input=given, capture_output=True, timeout=check.SECONDS)
+    return ended.returncode, answers(ended.stdout), ended.stderr.decode()
+
+
+def broken(place):
+    return f'humpipe-many: no packet that may stand at byte {place}\n'
+
+
+class Judge:
+    """Counts what is as it should be."""
+
+    def __init__(self):
+        self.passed = self.failed = 0
+
+    def want(self, name, found, wanted):
+        if found == wanted:
+            self.passed += 1
+        else:
+            self.failed += 1
+            print(f'{name}: {str(found)[:300]} and not {str(wanted)[:300]}')
+
+
+def split(bundle):
+    """The plan and the scores of a bundle."""
+    plan, *parts = re.split(rb'(?m)^--- ', bundle)
+    named = [part.partition(b'\n')[::2] for part in parts]
+    return plan, [(name.removesuffix(b'\r'), text) for name, text in named]
+
+
+def try_row(judge, program, row):
+    plan, scores = split(row.bundle)
+    torn = case([(name, b'**kern\n4c\n4d\t4e\n') for name, _ in scores] or [(b'a', b'')])
+    once = case(scores)
+    status, found, told = run(program, packets(plan) + once + torn + once + case([]) + once)
+    wanted = check.status_of(row.told), row.text, f'humpipe: {row.told}'.encode() if row.told else b''
+    if row.told.startswith('plan line'):
+        judge.want(row.place, (status, found, told), (2, [wanted], ''))
+    else:
+        judge.want(row.place, (status, found[:1], found[1::2], told), (0, [(0, b'', b'')], [wanted] * 3, ''))
+
+
+def try_plan(judge, program, plan):
+    found = run(program, packets(plan.plan) + case([]))
+    if plan.told:
+        judge.want(plan.place, found, (2, [(2, b'', f'humpipe: {plan.told}'.encode())], ''))
+    else:
+        status, said, told = found
+        judge.want(plan.place, (status, said[0], said[1][0], told), (0, (0, b'', b''), 3, ''))
+
+
+def try_cuts(judge, program):
+    stream = b''.join(STREAM)
+    ends = [len(b''.join(STREAM[: n + 1])) for n in range(len(STREAM))]
+    for cut in range(len(stream) + 1):
+        status, found, told = run(program, stream[:cut])
+        done = [said for said, end in zip(ANSWERS, ends) if end <= cut]
+        if cut in ends:
+            judge.want(f'cut at {cut}', (status, found, told), (0, done, ''))
+        else:
+            at = int(re.search(r'(\d+)\n$', told)[1])
+            judge.want(f'cut at {cut}', (status, found, told, at <= cut), (2, done, broken(at), True))
+    for n, place in enumerate(ends):
+        for junk in JUNK:
+            found = run(program, stream[:place] + junk + stream[place:] + b'x' * 70000)
+            judge.want(f'{junk} at {place}', found, (2, ANSWERS[: n + 1], broken(place)))
+
+
+def try_forms(judge, program):
+    read = packets(b'out: read a\n')
+    judge.want('a size in capitals', run(program, read + b'0005a000B!!1234\n00000000')[1:], ([(0, b'', b''), (0, b'!!1234\n', b'')], ''))
+    judge.want('empty packets', run(program, b'0004' + read + b'0005a' + b'0004' * 5 + b'00000000')[1:], ([(0, b'', b''), (0, b'', b'')], ''))
+    judge.want('no plan', run(program, b'0000' + GOOD), (2, [(2, b'', b'humpipe: plan line 1, word 0: N4')], ''))
+    judge.want('a plan that is too long', run(program, packets(b'#' * 65537) + GOOD), (2, [(2, b'', b'humpipe: plan line 1, word 0: N1')], ''))
+    judge.want('a name of no byte', run(program, PLAN + b'00040005x00000000' + GOOD)[1], [(0, b'', b''), MISSING, FINE])
+    judge.want('no scores', run(program, PLAN + b'0000' * 3 + GOOD)[1], [(0, b'', b'')] + [MISSING] * 3 + [FINE])
+    others = case([(b'b', b'z'), (b'a', b'**x\t**y\n1\t2\n*-\t*-\n'), (b'a', b'never'), (b'/x\0\n', bytes(range(256)))])
+    judge.want('the first of a name', run(program, PLAN + others)[1], [(0, b'', b''), FINE])
+    large = case([(b'a', b'x' * 67_108_864)])
+    judge.want('a case that is too large', run(program, PLAN + large + GOOD)[1], [(0, b'', b''), (2, b'', b'humpipe: bundle too large'), FINE])
+    line = b'!!' + b'x' * 60 + b'\n'
+    most = line * (67_108_863 // len(line))
+    judge.want('a case as large as can be', run(program, read + case([(b'a', most)]))[1], [(0, b'', b''), (0, most, b'')])
+
+
+def try_ends(judge, program):
+    asked = subprocess.Popen([program], stdin=subprocess.PIPE, stdout=subprocess.PIPE, bufsize=0)
+    with os.fdopen(os.dup(asked.stdout.fileno()), 'rb') as out:
+        for part, wanted in zip(STREAM, ANSWERS):
+            for byte in part:
+                asked.stdin.write(bytes([byte]))
+            judge.want('byte by byte', answer(out), wanted)
+    asked.stdin.close()
+    judge.want('byte by byte, at the end', asked.wait(), 0)
+    if os.path.exists('/dev/full'):
+        with open('/dev/full', 'wb') as full:
+            ended = subprocess.run([program], input=b''.join(STREAM), stdout=full, stderr=subprocess.PIPE)
+        judge.want('a full output', (ended.returncode, ended.stderr), (3, b'humpipe-many: write failed\n'))
+    folder = os.open('/', os.O_RDONLY)
+    ended = subprocess.run([program], stdin=folder, capture_output=True)
+    os.close(folder)
+    judge.want('a folder as input', (ended.returncode, ended.stdout, ended.stderr), (3, b'', b'humpipe-many: read failed\n'))
+
+
+def main():
+    program = os.path.abspath(sys.argv[1])
+    judge = Judge()
+    rows = [row for path in sorted(glob.glob(f'{check.HERE}/*.rows')) for row in check.rows_of(path)]
+    for row in rows + [it for it in made.cases(rows) if isinstance(it, check.Row)]:
+        if len(row.bundle) < 67_000_000:
+            try_row(judge, program, row)
+    for path in sorted(glob.glob(f'{check.HERE}/*.plans')):
+        for plan in check.plans_of(path):
+            try_plan(judge, program, plan)
+    try_cuts(judge, program)
+    try_forms(judge, program)
+    try_ends(judge, program)
+    print(f'{judge.passed} passed, {judge.failed} failed')
+    sys.exit(judge.failed > 0)
+
+
+if __name__ == '__main__':
+    main()
