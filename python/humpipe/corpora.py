@@ -223,6 +223,9 @@ def _write_table(results: str, scores: Iterable[Score], made: Made) -> None:
         rows = ['\t'.join(HEAD)]
         for score in scores:
             entry = _latest(entries.get(score.name, []))
+            if entry and entry.status == 0 and not os.path.lexists(os.path.join(results, score.name)):
+                # ended between its entry and its result
+                entry = None
             cells = (str(entry.status), entry.stage, entry.line, entry.rule, entry.meaning) if entry else NOT_RUN
             rows.append('\t'.join((shown(score.name), *cells)))
         file = os.path.join(results, KEPT, uuid.uuid4().hex)

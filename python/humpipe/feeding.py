@@ -3,6 +3,7 @@ import os
 import stat
 import subprocess
 import threading
+from contextlib import suppress
 from functools import lru_cache
 from multiprocessing.util import Finalize
 from tempfile import TemporaryDirectory
@@ -110,12 +111,14 @@ class Feed:
 
     def close(self) -> None:
         self.process.kill()
-        with self.process:
+        with suppress(OSError), self.process:
+            # what it hasn't taken is lost with it
             pass
         self._forget()
 
     def __del__(self) -> None:
-        if self.owner == os.getpid() and self.process.returncode is None:
+        process = getattr(self, 'process', None)
+        if process and self.owner == os.getpid() and process.returncode is None:
             self.close()
 
     def _put(self, packets: bytes) -> None:
@@ -128,7 +131,10 @@ class Feed:
 
     def _packet(self) -> bytes:
         """The data of the next packet; none at the end of a list."""
-        size = int(self._read(4), 16)
+        try:
+            size = int(self._read(4), 16)
+        except ValueError as error:
+            raise Gone from error
         return self._read(size - 4) if size else b''
 
     def _rest(self) -> bytes:
@@ -142,8 +148,8 @@ class Feed:
 
     def _read(self, size: int) -> bytes:
         assert self.process.stdout
-        found = self.process.stdout.read(size)
-        if len(found) < size:
+        found = self.process.stdout.read(size) if size >= 0 else b''
+        if len(found) != size:
             raise Gone
         return found
 
