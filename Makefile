@@ -1,6 +1,6 @@
 # humpipe: build, show, test and measure.
 #
-#   make            proves each crate and builds ./humpipe
+#   make            proves each crate and builds ./humpipe and ./humpipe-many
 #   make demo       shows the main job on a score of examples/
 #   make test       the merge gate: make lint, the rows of tests/ and the examples of the docs by a program that isn't proved, every proof
 #                   from nothing, the edits that must be refused, tests, runs, and by the proved program the rows, make faults, growth, the Python
@@ -11,6 +11,7 @@
 #   make dist       a release in dist/: a tarball, a Debian package, a Python wheel and its source, an extension for Visual Studio Code, and checksums
 #   make dist-test  installs them in fresh folders, and runs them there
 #   make rows       runs the rows of tests/ with the program
+#   make many       runs the rows, and broken streams, by humpipe-many
 #   make faults     runs small pipelines with it, while one call for memory, read, write or opened file after the other fails
 #   make growth     counts the instructions of each command and measures its memory, over scores that grow; make test does so over fewer of them
 #   make docs       runs what the README and docs/ print, with it
@@ -37,21 +38,23 @@ LANES ?= $(shell sort -k2,2nr tests/measured.txt | awk -v memory=$(memory) -v mo
 jobs = $(shell test $(memory) -ge $$((4000 * $(processors))) || echo RT_JOBS=$(LANES))
 
 log = crates/humpipe/out/log
-# the crates that the program is made of: each line of crates.txt names those that a crate uses
+# the crates that the programs are made of: each line of crates.txt names those that a crate uses
 crates = $(shell awk -F'[: ]+' '{ line[$$1] = $$0 } \
 	function reach(crate, names, n, i) { \
 		if (!(crate in line) || crate in reached) return; \
 		reached[crate]; n = split(line[crate], names); \
 		for (i = 2; i <= n; i++) reach(names[i]); print crate } \
-	END { reach("humpipe") }' crates.txt)
+	END { reach("humpipe"); reach("humpipe_many") }' crates.txt)
 files = $(shell find crates -name out -prune -o -name must-fail -prune -o -name edits -prune -o -type f -print)
 
 # the program that is there, for a recipe, and what makes one where none is
 there = $${PROGRAM:-$$(ls humpipe crates/humpipe/out/humpipe 2>/dev/null | head -n 1)}
+# humpipe-many beside it, or where rt leaves it
+many = $$(realpath -e -- "$$(dirname -- "$$program")/humpipe-many" 2>/dev/null || realpath -e crates/humpipe_many/out/humpipe_many 2>/dev/null)
 export PROGRAM
 needed = $(if $(PROGRAM)$(wildcard humpipe crates/humpipe/out/humpipe),,humpipe)
 
-.PHONY: all demo test early edits bench rows faults growth docs recipes python plots lint install dist dist-test clean
+.PHONY: all demo test early edits bench rows many faults growth docs recipes python plots lint install dist dist-test clean
 
 all: humpipe
 
@@ -82,7 +85,8 @@ room=$$(mktemp -d) && trap 'rm -rf "$$room"' EXIT INT TERM; \
 mkdir "$$room/.git" && cp HANDLES "$$room" && \
 for crate in $(crates); do grep "^$$crate:" crates.txt; done >"$$room/crates.txt" && \
 tar -c --exclude=out --exclude=must-fail --exclude=edits $(crates:%=crates/%) | tar -x -C "$$room" && \
-(cd "$$room" && $(jobs) rt ci) && mkdir -p $(dir $(log)) && cp "$$room/crates/humpipe/out/humpipe" humpipe
+(cd "$$room" && $(jobs) rt ci) && mkdir -p $(dir $(log)) && cp "$$room/crates/humpipe_many/out/humpipe_many" humpipe-many && \
+cp "$$room/crates/humpipe/out/humpipe" humpipe
 endef
 
 humpipe: crates.txt HANDLES $(files)
@@ -118,7 +122,8 @@ test: lint early
 		for made in "$$program" "$$program.by-rattle"; do test ! -x "$$made" || python3 tests/check.py "$$made" || exit 1; done; \
 		python3 tests/faults.py "$$program" && \
 		python3 tests/growth.py "$$program" && \
-		HUMPIPE=$$(realpath "$$program") && export HUMPIPE && (cd python && python3 -m tests) && \
+		python3 tests/many.py "$$program" "$(many)" && \
+		HUMPIPE=$$(realpath "$$program") && HUMPIPE_MANY=$(many) && export HUMPIPE HUMPIPE_MANY && (cd python && python3 -m tests) && \
 		python3 packaging/check.py "$$program" && \
 		python3 tests/recipes.py "$$program" && \
 		python3 docs/check.py "$$program"; \
@@ -129,6 +134,9 @@ bench: humpipe
 
 rows: humpipe
 	@python3 tests/check.py humpipe
+
+many: humpipe
+	@python3 tests/many.py humpipe humpipe-many
 
 faults: humpipe
 	@python3 tests/faults.py humpipe
@@ -151,9 +159,9 @@ plots: $(needed)
 # What needs a program that isn't there is left out, and told.
 has = command -v $(1) >/dev/null || { echo 'left out: what $(1) would read (no $(1))'; exit 0; };
 lint:
-	@$(call has,groff) test -z "$$(LC_ALL=C.UTF-8 groff -ww -man -Tutf8 -z man/humpipe.1 2>&1 | tee /dev/stderr)"
-	@$(call has,man) test -z "$$(LC_ALL=C.UTF-8 man --warnings -l -Tutf8 -Z man/humpipe.1 2>&1 >/dev/null | tee /dev/stderr)"
-	@$(call has,mandoc) mandoc -Tlint man/humpipe.1
+	@$(call has,groff) test -z "$$(LC_ALL=C.UTF-8 groff -ww -man -Tutf8 -z man/humpipe.1 man/humpipe-many.1 2>&1 | tee /dev/stderr)"
+	@$(call has,man) test -z "$$(for page in man/*.1; do LC_ALL=C.UTF-8 man --warnings -l -Tutf8 -Z $$page 2>&1 >/dev/null; done | tee /dev/stderr)"
+	@$(call has,mandoc) mandoc -Tlint man/humpipe.1 man/humpipe-many.1
 	@sh -n examples/corpus.sbatch && sh -n install.sh && sh -n packaging/dist.sh && sh -n bench/corpus.sh && bash -n completions/humpipe.bash
 	@$(call has,shellcheck) shellcheck examples/corpus.sbatch install.sh packaging/dist.sh bench/corpus.sh completions/humpipe.bash
 	@$(call has,mypy) cd python && mypy --strict --no-error-summary --cache-dir=/dev/null humpipe
@@ -172,4 +180,4 @@ dist-test: dist
 	@python3 packaging/check.py --whole $(there)
 
 clean:
-	rm -rf humpipe dist crates/*/out bench/data
+	rm -rf humpipe humpipe-many dist crates/*/out bench/data

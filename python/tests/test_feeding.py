@@ -13,7 +13,7 @@ from humpipe import feeding
 
 from .support import FROM_STDIN, PROGRAM, Runs, made_score
 
-FEEDS = os.path.join(os.path.dirname(os.path.abspath(shutil.which(PROGRAM) or '.')), 'humpipe-many')
+FEEDS = os.environ.get('HUMPIPE_MANY') or os.path.join(os.path.dirname(os.path.abspath(shutil.which(PROGRAM) or '.')), 'humpipe-many')
 
 # a program that passes on what it is asked to the one that is kept, and does something else at a case
 ODD = '''#!/usr/bin/env python3
