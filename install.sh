@@ -43,10 +43,10 @@ files() {
 
 $does 755 "$program" "$to/bin/humpipe"
 $does 644 "$here/man/humpipe.1" "$to/share/man/man1/humpipe.1"
-[ "$does" = place ] && [ ! -x "$many" ] || {
+if [ "$does" = take ] || [ -x "$many" ]; then
     $does 755 "$many" "$to/bin/humpipe-many"
     $does 644 "$here/man/humpipe-many.1" "$to/share/man/man1/humpipe-many.1"
-}
+fi
 for name in LICENSE NOTICE CHANGELOG.md CITATION.cff VERSION; do
     $does 644 "$here/$name" "$manual/$name"
 done
