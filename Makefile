@@ -38,7 +38,7 @@ LANES ?= $(shell sort -k2,2nr tests/measured.txt | awk -v memory=$(memory) -v mo
 jobs = $(shell test $(memory) -ge $$((4000 * $(processors))) || echo RT_JOBS=$(LANES))
 
 log = crates/humpipe/out/log
-# the crates that the program is made of: each line of crates.txt names those that a crate uses
+# the crates that the programs are made of: each line of crates.txt names those that a crate uses
 crates = $(shell awk -F'[: ]+' '{ line[$$1] = $$0 } \
 	function reach(crate, names, n, i) { \
 		if (!(crate in line) || crate in reached) return; \
@@ -86,7 +86,8 @@ room=$$(mktemp -d) && trap 'rm -rf "$$room"' EXIT INT TERM; \
 mkdir "$$room/.git" && cp HANDLES "$$room" && \
 for crate in $(crates); do grep "^$$crate:" crates.txt; done >"$$room/crates.txt" && \
 tar -c --exclude=out --exclude=must-fail --exclude=edits $(crates:%=crates/%) | tar -x -C "$$room" && \
-(cd "$$room" && $(jobs) rt ci) && mkdir -p $(dir $(log)) && cp "$$room/crates/humpipe_many/out/humpipe_many" humpipe-many && cp "$$room/crates/humpipe/out/humpipe" humpipe
+(cd "$$room" && $(jobs) rt ci) && mkdir -p $(dir $(log)) && cp "$$room/crates/humpipe_many/out/humpipe_many" humpipe-many && \
+cp "$$room/crates/humpipe/out/humpipe" humpipe
 endef
 
 humpipe: crates.txt HANDLES $(files)
@@ -123,7 +124,7 @@ test: lint early
 		python3 tests/faults.py "$$program" && \
 		python3 tests/many.py $(many) && \
 		python3 tests/growth.py "$$program" && \
-		HUMPIPE=$$(realpath "$$program") && export HUMPIPE && (cd python && python3 -m tests) && \
+		HUMPIPE=$$(realpath "$$program") && HUMPIPE_MANY=$$(realpath $(many)) && export HUMPIPE HUMPIPE_MANY && (cd python && python3 -m tests) && \
 		python3 packaging/check.py "$$program" && \
 		python3 tests/recipes.py "$$program" && \
 		python3 docs/check.py "$$program"; \
@@ -159,9 +160,9 @@ plots: $(needed)
 # What needs a program that isn't there is left out, and told.
 has = command -v $(1) >/dev/null || { echo 'left out: what $(1) would read (no $(1))'; exit 0; };
 lint:
-	@$(call has,groff) test -z "$$(LC_ALL=C.UTF-8 groff -ww -man -Tutf8 -z man/humpipe.1 2>&1 | tee /dev/stderr)"
-	@$(call has,man) test -z "$$(LC_ALL=C.UTF-8 man --warnings -l -Tutf8 -Z man/humpipe.1 2>&1 >/dev/null | tee /dev/stderr)"
-	@$(call has,mandoc) mandoc -Tlint man/humpipe.1
+	@$(call has,groff) test -z "$$(LC_ALL=C.UTF-8 groff -ww -man -Tutf8 -z man/humpipe.1 man/humpipe-many.1 2>&1 | tee /dev/stderr)"
+	@$(call has,man) test -z "$$(for page in man/*.1; do LC_ALL=C.UTF-8 man --warnings -l -Tutf8 -Z $$page 2>&1 >/dev/null; done | tee /dev/stderr)"
+	@$(call has,mandoc) mandoc -Tlint man/humpipe.1 man/humpipe-many.1
 	@sh -n examples/corpus.sbatch && sh -n install.sh && sh -n packaging/dist.sh && sh -n bench/corpus.sh && bash -n completions/humpipe.bash
 	@$(call has,shellcheck) shellcheck examples/corpus.sbatch install.sh packaging/dist.sh bench/corpus.sh completions/humpipe.bash
 	@$(call has,mypy) cd python && mypy --strict --no-error-summary --cache-dir=/dev/null humpipe

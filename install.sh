@@ -1,11 +1,12 @@
 #!/bin/sh
-# install.sh [--uninstall] [PREFIX]: installs humpipe below PREFIX, /usr/local if nothing is said: the program, its man page, the manual with examples and
-# the editors' files, and the completions of three shells. --uninstall takes away what was installed there. PROGRAM is another program than the one
-# beside this script; DESTDIR goes before PREFIX.
+# install.sh [--uninstall] [PREFIX]: installs humpipe below PREFIX, /usr/local if nothing is said: the programs humpipe and humpipe-many, their man pages, the manual with examples and
+# the editors' files, and the completions of three shells. --uninstall takes away what was installed there. PROGRAM is another humpipe than the one
+# beside this script, with its humpipe-many beside it; DESTDIR goes before PREFIX.
 set -eu
 unset CDPATH
 here=$(cd -- "$(dirname -- "$0")" && pwd)
 program=${PROGRAM:-$here/humpipe}
+many=$(dirname -- "$program")/humpipe-many
 does=place
 if [ "${1-}" = --uninstall ]; then
     does=take
@@ -42,6 +43,10 @@ files() {
 
 $does 755 "$program" "$to/bin/humpipe"
 $does 644 "$here/man/humpipe.1" "$to/share/man/man1/humpipe.1"
+if [ "$does" = take ] || [ -x "$many" ]; then
+    $does 755 "$many" "$to/bin/humpipe-many"
+    $does 644 "$here/man/humpipe-many.1" "$to/share/man/man1/humpipe-many.1"
+fi
 for name in LICENSE NOTICE CHANGELOG.md CITATION.cff VERSION; do
     $does 644 "$here/$name" "$manual/$name"
 done

@@ -164,6 +164,7 @@ def tarball(checks, dist, room):
     checks.ends_well('install.sh', './install.sh', prefix, cwd=folder)
     runs_first_pipeline(checks, 'install.sh', linked(os.path.join(room, 'by-prefix'), os.path.join(prefix, 'bin', 'humpipe')))
     shows_page(checks, 'install.sh', 'man', '-M', os.path.join(prefix, 'share', 'man'), 'humpipe')
+    runs_a_case(checks, 'install.sh', os.path.join(prefix, 'bin', 'humpipe'))
     by_install(checks, folder, room)
     python(checks, 'tarball: python', sys.executable, folder, env={'PYTHONPATH': os.path.join(folder, 'python'), 'HUMPIPE': os.path.join(folder, 'humpipe')})
     surroundings = {'HUMPIPE': os.path.join(folder, 'humpipe'), 'PYTHONDONTWRITEBYTECODE': '1'}
@@ -197,6 +198,17 @@ def by_install(checks, folder, room):
     checks.tell('install.sh --uninstall: what is left', left == [mine] and sorted(os.listdir(prefix)) == ['bin'], f'{left} {os.listdir(prefix)}')
 
 
+def runs_a_case(checks, what, program):
+    """Whether humpipe-many, beside the program, answers a case."""
+    many = os.path.join(os.path.dirname(program), 'humpipe-many')
+    if not os.path.exists(many):
+        checks.leave_out(f'{what}: humpipe-many', 'not made')
+        return
+    asked = b'000fout: read a0000' b'0005a000b**a\n*-\n00000000'
+    found = subprocess.run([many], input=asked, capture_output=True, env={'PATH': PATH})
+    checks.tell(f'{what}: humpipe-many', found.stdout == b'0000000500000' b'000b**a\n*-\n0000000500000', str(found))
+
+
 def python(checks, what, interpreter, folder, **more):
     """Whether the Python package runs the program."""
     code = "import humpipe; print(humpipe.run('out: read a | mint', {'a': '**kern\\n4c\\n4d\\n*-\\n'}), end=''); print(humpipe.program_version())"
@@ -220,6 +232,7 @@ def wheel(checks, dist, room):
                      env={'HOME': room})
     python(checks, 'wheel', interpreter, room)
     runs_first_pipeline(checks, 'wheel', linked(os.path.join(room, 'by-wheel'), os.path.join(venv, 'bin', 'humpipe')))
+    runs_a_case(checks, 'wheel', os.path.join(venv, 'bin', 'humpipe'))
     checks.ends_well('pip check', interpreter, '-m', 'pip', 'check', env={'HOME': room})
     text = checks.ends_well('pip show', interpreter, '-m', 'pip', 'show', '-f', 'humpipe', env={'HOME': room})
     checks.tell('wheel: licences', 'licenses/LICENSE' in text and 'licenses/NOTICE' in text and 'page.css' in text, text)
@@ -255,6 +268,7 @@ def package(checks, dist, room, is_whole):
     runs_first_pipeline(checks, 'dpkg -x', linked(os.path.join(room, 'by-dpkg-x'), os.path.join(root, 'usr', 'bin', 'humpipe')))
     shows_page(checks, 'dpkg -x', 'man', '-M', os.path.join(root, 'usr', 'share', 'man'), 'humpipe')
     depends(checks, files[0], os.path.join(root, 'usr', 'bin', 'humpipe'))
+    runs_a_case(checks, 'dpkg -x', os.path.join(root, 'usr', 'bin', 'humpipe'))
     if is_whole:
         by_dpkg_root(checks, files[0], room)
         by_debootstrap(checks, files[0], room)

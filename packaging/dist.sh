@@ -1,5 +1,5 @@
 #!/bin/sh
-# dist.sh PROGRAM [FOLDER]: makes the release of PROGRAM in FOLDER, dist if nothing is said: a tarball, a Debian package, a Python wheel with the program in it,
+# dist.sh PROGRAM [FOLDER]: makes the release of PROGRAM, and of humpipe-many beside it, in FOLDER, dist if nothing is said: a tarball, a Debian package, a Python wheel with the program in it,
 # the source of the Python package, an extension for Visual Studio Code, and SHA256SUMS. In it is what git tracks, and nothing else.
 #
 # The same files give the same bytes. What stands in them has the date SOURCE_DATE_EPOCH; if nothing is said, that of the version in
@@ -11,6 +11,8 @@ export LC_ALL=C TZ=UTC0
 [ $# -ge 1 ] || { echo 'usage: dist.sh PROGRAM [FOLDER]' >&2; exit 2; }
 top=$(cd -- "$(dirname -- "$0")/.." && pwd)
 program=$(realpath -- "$1")
+many=$(dirname -- "$program")/humpipe-many
+[ -x "$many" ] || many=$top/crates/humpipe_many/out/humpipe_many
 mkdir -p -- "${2:-dist}"
 dist=$(cd -- "${2:-dist}" && pwd)
 version=$(cat "$top/VERSION")
@@ -47,8 +49,9 @@ grow() {
     mkdir "$tree"
     (cd "$top" && tracked | grep -v "^docs/.*\.py$\|^python/make_codes.py$" | tar -c --no-recursion -T -) | tar -x -C "$tree"
     cp "$program" "$tree/humpipe"
+    if [ -x "$many" ]; then cp "$many" "$tree/humpipe-many"; else echo 'left out: humpipe-many (not beside the program)'; fi
     strip=$(command -v strip || true)
-    [ -z "$strip" ] || "$strip" --strip-unneeded "$tree/humpipe"
+    [ -z "$strip" ] || "$strip" --strip-unneeded "$tree"/humpipe*
     python3 "$top/packaging/pages.py" "$tree"
     settle "$tree"
 }
@@ -57,15 +60,15 @@ tarball() {
     tar -C "$room" --sort=name --format=ustar --owner=0 --group=0 --numeric-owner -cf - "$name" | gzip -9n >"$dist/$name.tar.gz"
 }
 
-# The version of the C library that the program needs, and that it needs no other library.
+# The version of the C library that the programs need, and that they need no other library.
 libc() {
-    ldd "$program" | awk '{ print $1 }' | while read -r library; do
+    ldd "$tree"/humpipe* | awk '$1 !~ /:$/' | awk '{ print $1 }' | while read -r library; do
         case $library in
             linux-vdso.so.1 | libc.so.6 | */ld-linux-x86-64.so.2) ;;
             *) echo "dist.sh: the program needs $library, and no package is named for it" >&2; exit 1 ;;
         esac
     done
-    grep -ao 'GLIBC_[0-9.]*' "$program" | sed 's/GLIBC_//' | sort -uV | tail -n 1
+    grep -aho 'GLIBC_[0-9.]*' "$tree"/humpipe* | sed 's/GLIBC_//' | sort -uV | tail -n 1
 }
 
 # The Debian package, by debhelper in a copy of the tree. The Python module comes from the wheel.
@@ -87,7 +90,7 @@ grow
 tarball
 python3 "$top/packaging/vsix.py" "$tree" "$dist"
 if python3 -c 'import tomllib' 2>/dev/null; then
-    python3 "$top/packaging/wheel.py" "$tree" "$tree/humpipe" "$(libc)" "$dist"
+    python3 "$top/packaging/wheel.py" "$tree" "$(libc)" "$dist"
     if command -v dh >/dev/null && command -v dh_python3 >/dev/null; then package; else echo 'left out: the Debian package (no debhelper and dh-python)'; fi
 else
     echo 'left out: the wheel, the source distribution and the Debian package (no Python 3.11)'

@@ -2,7 +2,7 @@
 """version.py [--check]: writes the version of the file VERSION wherever a format asks for it. With --check it changes nothing, and
 tells where another version stands; status 1 if one does.
 
-A new version: change VERSION, give it a heading in CHANGELOG.md, and run this. CITATION.cff and the man page take that heading's date."""
+A new version: change VERSION, give it a heading in CHANGELOG.md, and run this. CITATION.cff and the man pages take that heading's date."""
 import os
 import re
 import sys
@@ -12,6 +12,7 @@ TOP = os.path.dirname(os.path.dirname(os.path.abspath(__file__)))
 # where the version stands: a file, and what it is between
 PLACES = [
     ('man/humpipe.1', r'(^\.TH HUMPIPE 1 \S+ "humpipe )([^"]*)(")'),
+    ('man/humpipe-many.1', r'(^\.TH HUMPIPE-MANY 1 \S+ "humpipe )([^"]*)(")'),
     ('CITATION.cff', r'(^version: )(\S+)($)'),
     ('python/humpipe/__init__.py', r"(^__version__ = ')([^']*)(')"),
     ('editors/vscode/package.json', r'(^  "version": ")([^"]*)(")'),
@@ -23,6 +24,7 @@ PLACES = [
 DATES = [
     ('CITATION.cff', r'(^date-released: )(\S+)($)'),
     ('man/humpipe.1', r'(^\.TH HUMPIPE 1 )(\S+)( )'),
+    ('man/humpipe-many.1', r'(^\.TH HUMPIPE-MANY 1 )(\S+)( )'),
 ]
 
 

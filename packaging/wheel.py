@@ -1,5 +1,5 @@
 #!/usr/bin/env python3
-"""wheel.py TREE PROGRAM GLIBC FOLDER: makes the Python packages of a release in FOLDER, from the files of TREE: a wheel with the program in it, for Linux
+"""wheel.py TREE GLIBC FOLDER: makes the Python packages of a release in FOLDER, from the files of TREE: a wheel with the programs in it, for Linux
 on x86-64 with this version of the C library (2.34), and the source distribution with licence and tests. The same files give the same bytes.
 
 A wheel is a zip file with some metadata (https://packaging.python.org/specifications/binary-distribution-format)."""
@@ -16,6 +16,7 @@ import zipfile
 
 EPOCH = int(os.environ['SOURCE_DATE_EPOCH'])
 LICENCES = ('LICENSE', 'NOTICE')
+PROGRAMS = ('humpipe', 'humpipe-many')
 
 
 def read(*names):
@@ -42,12 +43,12 @@ def below(tree, folder):
                   for place, _, names in os.walk(os.path.join(tree, folder)) for name in names)
 
 
-def wheel(tree, program, glibc, version):
+def wheel(tree, glibc, version):
     """The name and the bytes of the wheel."""
     tag = f'py3-none-manylinux_{glibc.replace(".", "_")}_x86_64'
     info = f'humpipe-{version}.dist-info'
     files = {f'humpipe/{name}': read(tree, 'python', 'humpipe', name) for name in below(tree, 'python/humpipe')}
-    files[f'humpipe-{version}.data/scripts/humpipe'] = read(program)
+    files.update({f'humpipe-{version}.data/scripts/{name}': read(tree, name) for name in PROGRAMS if os.path.exists(os.path.join(tree, name))})
     files.update({f'{info}/licenses/{name}': read(tree, name) for name in LICENCES})
     files[f'{info}/METADATA'] = metadata(tree, version)
     files[f'{info}/WHEEL'] = f'Wheel-Version: 1.0\nGenerator: humpipe\nRoot-Is-Purelib: false\nTag: {tag}\n'.encode()
@@ -89,9 +90,9 @@ def source(tree, version):
 
 
 def main():
-    tree, program, glibc, folder = sys.argv[1:]
+    tree, glibc, folder = sys.argv[1:]
     version = read(tree, 'VERSION').decode().strip()
-    for name, data in wheel(tree, program, glibc, version), source(tree, version):
+    for name, data in wheel(tree, glibc, version), source(tree, version):
         with open(os.path.join(folder, name), 'wb') as file:
             file.write(data)
 

@@ -10,11 +10,12 @@ from typing import Iterable, List, NamedTuple, Optional, Set, Tuple
 
 from .codes import CODES
 from .faults import Fault, RunError, unread
+from .feeding import answer
 from .folders import KEPT, TABLE, Score, found, shown
 from .journal import Entry, Journal, Known, Made, alone, hash_of, known
-from .many import checked, each, kept_file, lost, with_bar
+from .many import checked, each, lost, with_bar
 from .plans import STANDARD_INPUT, reads
-from .program import Path, program, run_score
+from .program import Path, program
 from .running import Plan
 
 NOT_RUN = ('-', '-', '-', '-', 'not run yet')
@@ -120,7 +121,7 @@ def _settle(plan: bytes, timeout: Optional[float], again: bool, scratch: str, jo
             return Settled(entry, None, True)
     file = os.path.join(scratch, uuid.uuid4().hex)
     with open(file, 'xb') as out:
-        fault = run_score(kept_file(plan), job.score.path, stdout=out, timeout=timeout).error
+        fault = answer(plan, job.score.path, stdout=out, timeout=timeout).error
     if fault is None:
         return Settled(Entry(name, 0, score, hash_of(file)), file)
     os.unlink(file)
@@ -222,6 +223,9 @@ def _write_table(results: str, scores: Iterable[Score], made: Made) -> None:
         rows = ['\t'.join(HEAD)]
         for score in scores:
             entry = _latest(entries.get(score.name, []))
+            if entry and entry.status == 0 and not os.path.lexists(os.path.join(results, score.name)):
+                # ended between its entry and its result
+                entry = None
             cells = (str(entry.status), entry.stage, entry.line, entry.rule, entry.meaning) if entry else NOT_RUN
             rows.append('\t'.join((shown(score.name), *cells)))
         file = os.path.join(results, KEPT, uuid.uuid4().hex)

@@ -1,16 +1,14 @@
 """Runs a plan over many scores."""
 import os
-import threading
 from concurrent.futures import Executor, Future
-from functools import lru_cache, partial
-from multiprocessing.util import Finalize
+from functools import partial
 from queue import SimpleQueue
-from tempfile import TemporaryDirectory
 from typing import Any, Callable, Dict, Generator, Iterable, Iterator, NamedTuple, Optional, Sized, TypeVar
 
 from .faults import Error, Fault, RunError
+from .feeding import answer
 from .plans import STANDARD_INPUT, reads
-from .program import Call, Path, Threads, ended, file_of, processors, program, run_score
+from .program import Call, Path, Threads, ended, file_of, processors, program
 from .running import ERRORS, Plan, plan_bytes
 
 Job = TypeVar('Job')
@@ -51,11 +49,11 @@ def checked(plan: Plan) -> bytes:
 
 def _outcome(plan: bytes, encoding: str, timeout: Optional[float], path: Path) -> Outcome:
     """The outcome of one score, in a thread or a process."""
-    answer = run_score(kept_file(plan), path, timeout=timeout)
-    text = answer.written.decode(encoding, ERRORS)
-    if answer.error:
-        answer.error.text = text
-    return Outcome(os.fspath(path), text, answer.error)
+    found = answer(plan, path, timeout=timeout)
+    text = found.written.decode(encoding, ERRORS)
+    if found.error:
+        found.error.text = text
+    return Outcome(os.fspath(path), text, found.error)
 
 
 def _lost(path: Path, error: Exception) -> Outcome:
@@ -107,8 +105,7 @@ def each(work: Callable[[Job], Result], jobs: Iterable[Job], lost: Callable[[Job
         for future in waiting:
             future.cancel()
         if threads:
-            threads.stop()
-            threads.shutdown()
+            threads.close()
 
 
 def _submitted(executor: Any, work: Callable[[Job], Result], job: Job) -> 'Future[Result]':
@@ -119,25 +116,6 @@ def _submitted(executor: Any, work: Callable[[Job], Result], job: Job) -> 'Futur
         submitted = Future()
         submitted.set_exception(error)
     return submitted
-
-
-_kept = threading.Lock()
-
-
-def kept_file(text: bytes) -> str:
-    """The path of a file with this text, which is there until the process ends."""
-    with _kept:
-        return os.path.join(_kept_folder(text).name, 'plan.hpl')
-
-
-@lru_cache(maxsize=None)
-def _kept_folder(text: bytes) -> 'TemporaryDirectory[str]':
-    folder = TemporaryDirectory(prefix='humpipe-')
-    # at the end of this process, be it one of a pool or not
-    Finalize(None, folder.cleanup, exitpriority=0)
-    with open(os.path.join(folder.name, 'plan.hpl'), 'xb') as file:
-        file.write(text)
-    return folder
 
 
 def with_bar(results: Iterator[Result], jobs: Iterable[Any], progress: Optional[bool]) -> Iterator[Result]:

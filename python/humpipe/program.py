@@ -9,8 +9,8 @@ import tempfile
 import threading
 from concurrent.futures import ThreadPoolExecutor
 from contextlib import contextmanager
-from functools import lru_cache
-from typing import IO, Any, Dict, Iterator, List, NamedTuple, Optional, Set, Union
+from functools import lru_cache, partial
+from typing import IO, Any, Callable, Dict, Iterator, List, NamedTuple, Optional, Set, Tuple, Union
 
 from .faults import Error, Missing, OutOfTime, RunError, error_of, unread
 
@@ -96,6 +96,14 @@ class Threads(ThreadPoolExecutor):
             for process in self._running:
                 process.kill()
 
+    def close(self) -> None:
+        """Ends the programs and the threads, those too that were kept for more scores."""
+        self.stop()
+        self.shutdown()
+        for process in self._running:
+            with process:
+                pass
+
 
 class Call(NamedTuple):
     """How the program is called: the words, what is its standard input, and the folder that it runs in."""
@@ -108,9 +116,7 @@ class Call(NamedTuple):
 @contextmanager
 def started(call: Call, stdout: Union[int, IO[bytes]], stderr: Union[int, IO[bytes]]) -> Iterator['subprocess.Popen[bytes]']:
     """A program that runs, and is ended at the end."""
-    threads: Optional[Threads] = getattr(_pool, 'threads', None)
-    more: Dict[str, Any] = {'stdin': call.stdin, 'stdout': stdout, 'stderr': stderr, 'cwd': call.cwd}
-    process = threads.begin(call.words, more) if threads else subprocess.Popen(call.words, **more)
+    process, forget = begun(call.words, stdin=call.stdin, stdout=stdout, stderr=stderr, cwd=call.cwd)
     try:
         with process:
             try:
@@ -119,8 +125,16 @@ def started(call: Call, stdout: Union[int, IO[bytes]], stderr: Union[int, IO[byt
                 process.kill()
                 raise
     finally:
-        if threads:
-            threads.end(process)
+        forget()
+
+
+def begun(words: List[str], **more: Any) -> Tuple['subprocess.Popen[bytes]', Callable[[], None]]:
+    """A program that runs, and what to call once it has ended. In a thread of `Threads` it ends with them."""
+    threads: Optional[Threads] = getattr(_pool, 'threads', None)
+    if threads is None:
+        return subprocess.Popen(words, **more), lambda: None
+    process = threads.begin(words, more)
+    return process, partial(threads.end, process)
 
 
 def ended(call: Call, *, stdout: Union[int, IO[bytes]] = subprocess.PIPE, timeout: Optional[float] = None) -> Answer:
@@ -167,7 +181,7 @@ def call_on(plan: str, score: Path) -> Iterator[Call]:
 
 
 def run_score(plan: str, score: Path, *, stdout: Union[int, IO[bytes]] = subprocess.PIPE, timeout: Optional[float] = None) -> Answer:
-    """Runs a plan's file on one score: the one place where that is done for the many scores of `map`, `table` and a corpus."""
+    """Runs a plan's file on one score by a process of its own."""
     try:
         with call_on(plan, score) as call:
             return ended(call, stdout=stdout, timeout=timeout)
