@@ -1,216 +1,242 @@
 -- One step of a run: the actor that is asked, and what its turn leaves known of who is ready.
-use Rattle.std.proofs.Common.{◌≡◌, ◌∙◌, ℕ, ◌+◌, ◌<◌, ◌≤◌, Bool, true, false, List, [], length, Option, Some, None, refl}
-use Rattle.std.proofs.Common.{sym, ap, subst, arith, ⊎_elim, ◌⊎◌, inl, inr, slice_set, slice_get, get_or, ◌∷◌, Vec}
-use Rattle.std.proofs.Common.{Global}
-use Rattle.std.specs.Prelude.{is_some, is_none, IfSome, ◌&&◌}
+use Rattle.std.proofs.Common.{◌≡◌, ◌∙◌, ℕ, ◌+◌, ◌-◌, ◌<◌, ◌≤◌, Bool, true, false, List, [], ◌∷◌, length, Option, Some, None, refl}
+use Rattle.std.proofs.Common.{sym, ap, subst, arith, ⊎_elim, slice_get, get_or, is_none, ◌&&◌}
+use Rattle.std.specs.Prelude.{is_some}
 use Rattle.std.proofs.Math.Bool.{and-false}
+use Rattle.std.proofs.lemmas.Bool.{false≢true, cases_lt}
+use Rattle.std.proofs.lemmas.Option.{slice_get-get_or, slice_get_within}
 use Rattle.hum_text.specs.declared.calls.Source.{Ghosts as Source}
 use Rattle.hum_text.specs.declared.calls.Sink.{Ghosts as Sink}
 use Rattle.hum_stage.specs.declared.contract.Stage.{Ghosts as Stage}
-use Rattle.hum_turns.specs.Links.{has_some}
-use Rattle.hum_turns.specs.Turns.{ready}
-use Rattle.hum_turns.proofs.Near.{ready_sink}
-use Rattle.std.proofs.lemmas.Bool.{false≢true, cases_Bool, cases_lt}
-use Rattle.std.proofs.lemmas.Option.{slice_get-get_or, none-some}
 use Rattle.hum_score.specs.Row.{Row}
-use Rattle.hum_turns.specs.Plan.{last}
-use Rattle.hum_turns.specs.declared.order.Side.{Side}
 use Rattle.hum_turns.specs.declared.order.Side.TheVariants as side
+use Rattle.hum_turns.specs.Plan.{last}
 use Rattle.hum_turns.specs.Near.{touched}
 use Rattle.hum_turns.specs.Failures.{Now, is_ready, result}
-use Rattle.hum_turns.specs.Orders.{Order, ready_list, LeansTo}
+use Rattle.hum_turns.specs.Orders.{Order, ready_list, chosen, some_true}
+use Rattle.hum_turns.proofs.Near.{ready_reader}
 use Rattle.hum_turns.proofs.States.{sink_state, last_less}
 use Rattle.hum_turns.proofs.Writing.{still}
-use Rattle.hum_nodes.proofs.Followed.{read_none}
+use Rattle.hum_nodes.proofs.Standing.{source_bytes}
 use Rattle.hum_engine.specs.declared.net.Net.{Net}
-use Rattle.hum_engine.specs.declared.net.Turned.{Turned}
-use Rattle.hum_engine.specs.declared.search.Search.{Search}
-use Rattle.hum_engine.specs.Search.{IsNearer, outer, passed, stayed, changed, skipped, reached, is_left}
-use Rattle.hum_engine.specs.Scene.{Scene, plan_of, moved, before_all}
-use Rattle.hum_engine.specs.Nets.{NetAt, AtEach, AreOver, GoesTo, IsChanged, Sees, IsRunning, MayAsk, MayStep}
-use Rattle.hum_engine.specs.Nets.{MayAdvance, HasPicked, IsNext, HasMoved, HasRested, HasWorked, HasStepped}
-use Rattle.hum_engine.specs.Nets.{HasAdvanced, IsCloser, FlushesLast, IsFront}
-use Rattle.hum_engine.proofs.Advancing.{pick_now, none_yet, then_at, marks_none}
-use Rattle.hum_engine.proofs.Flags.{IsTurn, touched_below, two_set}
-use Rattle.hum_engine.proofs.HeldUp.{held_by, held_unready}
-use Rattle.hum_engine.proofs.Leaning.{leaning_choice}
-use Rattle.hum_engine.proofs.Moving.{nth}
-use Rattle.hum_engine.proofs.Netting.{is_at, not_over, at_now, ready_at}
-use Rattle.hum_engine.proofs.Running.{at_some, relisted, picked, any_ready, unfailed_at, no_rests, seen}
-use Rattle.hum_engine.proofs.Searching.{IsTaker, front_passed, passed_fewer, front_changed, front_skipped}
-use Rattle.hum_engine.proofs.Searching.{others_as_ready, reached_on, reached_over, left_side}
-use Rattle.hum_engine.proofs.Searching.{skipped_side}
+use Rattle.hum_engine.specs.Looks.{Look, FromLeft, FromRight, Unseen, Sees, leaning}
+use Rattle.hum_engine.specs.Scene.{Scene, plan_of, moved, before_all, IsFull}
+use Rattle.hum_engine.specs.Nets.{NetAt, AtEach, AreOver, GoesTo, MayAsk, MayGo, MayStep, HasPicked, HasRested}
+use Rattle.hum_engine.specs.Nets.{HasGone, HasWorked, HasAdvanced}
+use Rattle.hum_engine.proofs.Advancing.{pick_now, rested_on, then_at}
+use Rattle.hum_engine.proofs.Feeding.{room_same}
+use Rattle.hum_engine.proofs.Leaning.{left_choice, right_choice}
+use Rattle.hum_engine.proofs.Looking.{IsTurn, IsTaker, touched_below, took, left_moved, left_passed}
+use Rattle.hum_engine.proofs.Looking.{right_moved, right_passed, right_more}
+use Rattle.hum_engine.proofs.Netting.{is_at, not_over, ready_at}
+use Rattle.hum_engine.proofs.Running.{any_ready, no_rests, now_unfailed, picked, relisted, seen, some_ready, unfailed_at}
 
--- a search, or none
-searches : (look : Option Search) → ((by : Search) × (look ≡ Some by)) ⊎ (look ≡ None)
-searches (Some by) = inl (by, refl)
-searches None = inr refl
+-- A source whose link is full isn't ready.
+full_unready : {S R W : Type 0} {stage : Stage S} {writer : Sink W} {k : ℕ} {net : Net S R W} {start : Option (List ℕ)}
+    {s : Scene} {now : Now Row} → NetAt stage writer start s net now → result (plan_of s) now ≡ None → IsFull k net.web
+    → is_ready (plan_of s) s.size now k ≡ false
+full_unready {stage = stage} {k = k} {net = net} {s = s} {now = now} h none f =
+    let st = h.going (now_unfailed h none) in
+    let less : k < s.count = omega (arith, slice_get_within net.web.nodes.items k f.node f.is, st.count) in
+    let some = source_bytes stage.stands f.node _ _ f.source (st.nodes k f.node f.is) in
+    sym (ready_at h none k (sym (ready_reader (plan_of s) s.size k now.links less some
+    ∙ ap (λ b. is_none (now.links k).mark && b) (sym (room_same k st f.its) ∙ f.full) ∙ and-false _)))
 
-each_some : {A : Type 0} (P : A → Type 0) (o : Option A) → ((x : A) → o ≡ Some x → P x) → IfSome o P
-each_some P (Some x) h = h x refl
-each_some P None h = tt
-
--- what one knows
-pub front_of : {S R W : Type 0} {look : Option Search} {by : Search} (s : Scene) (now : Now Row) (net : Net S R W)
-    → look ≡ Some by → Sees look s now net → IsFront by s now
-front_of s now net is sees = subst (λ l. Sees l s now net) is sees
-
--- The actor k that is asked: where a search stands, or else the order's pick.
-pub record Asked {S R W O : Type 0} (stage : Stage S) (writer : Sink W)
-    (order : Order O) (look : Option Search) (k : ℕ) (p q : O) (net : Net S R W) : Type 0 where
+-- The actor k that is asked, which the order picks if it is ready.
+pub record Asked {S R W O : Type 0} (stage : Stage S) (writer : Sink W) (order : Order O) (look : Look) (k : ℕ) (p q : O)
+    (net : Net S R W) : Type 0 where
   pub may : MayStep stage writer look net
-  pub here : (by : Search) → look ≡ Some by → (k ≡ by.from) × (q ≡ p) × LeansTo by.side order.pick order.next p
-  pub picked : look ≡ None → AtEach stage writer net (λ start s now. result (plan_of s) now ≡ None
-      → Sees None s now net → HasPicked order (plan_of s) s.size p q now k)
+  pub ask : MayAsk stage writer k net
+  pub picks : AtEach stage writer net (λ start s now. result (plan_of s) now ≡ None → Sees look s now
+      → is_ready (plan_of s) s.size now k ≡ true → HasPicked order (plan_of s) s.size p q now k)
 
-module _ {S R W O : Type 0} {stage : Stage S} {writer : Sink W} {order : Order O} {o : O} {look : Option Search}
-    {net : Net S R W} (may : MayAdvance stage writer order o look net) where
-  pub search_few : {by : Search} → look ≡ Some by → (by.from < 256) × (by.behind < 257)
-  search_few is =
-      let m = pick_now may.step in
-      let front = front_of m.running.scene m.running.now net is m.sees in
-      (omega (arith, m.running.at.plan.few, front.within), omega (arith, m.running.at.plan.few, front.last))
+module _ {S R W : Type 0} {stage : Stage S} {writer : Sink W} {k : ℕ} {net : Net S R W} where
+  pub left_few : MayStep stage writer (FromLeft k) net → k < 256
+  left_few may = let m = pick_now may in omega (arith, m.running.at.plan.few, m.sees.0)
 
-  pub asked : {p : O} {k : ℕ} → IsNext stage writer order o p look net k
-      → Asked stage writer order look k o p net
-  asked {p} {k} next = record {
-    may = may.step;
-    here = λ by is.
-        let at = at_some (λ b. (k ≡ b.from) × (p ≡ o)) look by is next.from in
-        (at.0, at.1, at_some (λ b. LeansTo b.side order.pick order.next o) look by is may.leans);
-    picked = next.picked;
-  }
+  pub right_few : MayStep stage writer (FromRight k) net → k < 256
+  right_few may = let m = pick_now may in omega (arith, m.running.at.plan.few, m.sees.0)
 
-  -- by a search
-  pub asked_from : {by : Search} {k : ℕ} → look ≡ Some by → k ≡ by.from → Asked stage writer order look k o o net
-  asked_from {by} is from = asked (record { from = rw is (from, refl); picked = λ isnt. absurd (none-some by (sym isnt ∙ is)) })
-
-module _ {S R W O : Type 0} {stage : Stage S} {writer : Sink W} {order : Order O} {look : Option Search} {k : ℕ} {p q : O}
-    {net : Net S R W} (a : Asked stage writer order look k p q net) where
-  chosen_now : {start : Option (List ℕ)} {s : Scene} {now : Now Row} → look ≡ None → NetAt stage writer start s net now
-      → result (plan_of s) now ≡ None → Sees look s now net → (k ≤ s.count) × (is_ready (plan_of s) s.size now k ≡ true)
-  chosen_now {start} {s} {now} isnt h none sees =
-      picked h (order.pick p (ready_list (plan_of s) s.size now)) none
-      (a.picked isnt start s now h none (subst (λ l. Sees l s now net) isnt sees)).choice
-
-  pub may_ask : MayAsk stage writer k net
-  may_ask =
-      let m = pick_now a.may in
+  pub left_asked : MayStep stage writer (FromLeft k) net → Asked stage writer (leaning side.Left) (FromLeft k) k tt tt net
+  left_asked may =
+      let m = pick_now may in
       record {
-        running = m.running;
-        going = m.going;
-        within = ⊎_elim
-            (λ is. omega (arith, (a.here is.0 is.1).0, (front_of m.running.scene m.running.now net is.1 m.sees).within))
-            (λ isnt. (chosen_now isnt m.running.at m.going m.sees).0)
-            (searches look);
+        may = may;
+        ask = record { running = m.running; going = m.going; within = m.sees.0 };
+        picks = λ start s now h none sees ready.
+            record { choice = left_choice s now sees.0 ready sees; next = refl };
       }
 
+  pub right_asked : MayStep stage writer (FromRight k) net
+      → Asked stage writer (leaning side.Right) (FromRight k) k tt tt net
+  right_asked may =
+      let m = pick_now may in
+      record {
+        may = may;
+        ask = record { running = m.running; going = m.going; within = m.sees.0 };
+        picks = λ start s now h none sees ready.
+            record { choice = right_choice s now sees.0 ready sees; next = refl };
+      }
+
+-- The flags were set: which of the actors are ready.
+module _ {S R W : Type 0} {stage : Stage S} {writer : Sink W} {old net : Net S R W}
+    (same : net ≡ record old { actors = net.actors }) (len : length net.actors.items ≡ length old.actors.items) where
+  pub flags_set : {reader : Source R} {O : Type 0} {order : Order O} {p : O} → MayStep stage writer Unseen old
+      → HasAdvanced stage reader writer order p p Unseen Unseen old net false
+  flags_set may = rested_on may same len (λ start s now h none sees. tt)
+
+  pub flags_may : MayStep stage writer Unseen old → MayStep stage writer Unseen net
+  flags_may may = subst (MayStep stage writer Unseen) (sym same) (record {
+    start = may.start;
+    scene = may.scene;
+    now = may.now;
+    rests = may.rests;
+    at = λ rests over. relisted refl len (may.at rests over);
+    going = may.going;
+    sees = λ rests over. tt;
+  })
+
+  pub flags_list : AtEach stage writer old (λ start s now. net.actors.items ≡ ready_list (plan_of s) s.size now)
+      → AtEach stage writer net (λ start s now. net.actors.items ≡ ready_list (plan_of s) s.size now)
+  flags_list list start s now h = list start s now
+      (relisted (ap (λ (n : Net S R W). record n { actors = old.actors }) (sym same)) (sym len) h)
+
+module _ {S R W : Type 0} {stage : Stage S} {writer : Sink W} {net : Net S R W} (may : MayStep stage writer Unseen net)
+    (list : AtEach stage writer net (λ start s now. net.actors.items ≡ ready_list (plan_of s) s.size now)) where
+  pub flags_pick : {flags : List Bool} → flags ≡ net.actors.items → some_true flags ≡ true
+  flags_pick is =
+      let m = pick_now may in
+      let r = m.running in
+      some_ready r.at m.going (is ∙ list r.start r.scene r.now r.at)
+
+  -- The actor that is chosen by them.
+  module _ {k : ℕ} (pick : ℕ) {flags : List Bool} (of : flags ≡ net.actors.items) (is : k ≡ chosen flags pick) where
+    chosen_ready : AtEach stage writer net (λ start s now. result (plan_of s) now ≡ None
+        → (k ≤ s.count) × (is_ready (plan_of s) s.size now k ≡ true))
+    chosen_ready start s now h none =
+        picked h pick none (is ∙ ap (λ l. chosen l pick) (of ∙ list start s now h))
+
+    pub flags_go : MayGo stage writer k net
+    flags_go =
+        let m = pick_now may in
+        let r = m.running in
+        let g = chosen_ready r.start r.scene r.now r.at m.going in
+        record { start = r.start; scene = r.scene; now = r.now; at = r.at; within = g.0; ready = g.1 }
+
+    pub flags_ready : AtEach stage writer net (λ start s now. result (plan_of s) now ≡ None → k ≤ s.count
+        → is_ready (plan_of s) s.size now k ≡ true)
+    flags_ready start s now h none within = (chosen_ready start s now h none).1
+
+    pub flags_asked : {O : Type 0} {order : Order O} {p q : O} {given : List Bool} → given ≡ net.actors.items
+        → pick ≡ order.pick p given → q ≡ order.next p given → Asked stage writer order Unseen k p q net
+    flags_asked {order = order} {p} {q} {given} from picks after =
+        let m = pick_now may in
+        let r = m.running in
+        record {
+          may = may;
+          ask = record {
+            running = r;
+            going = m.going;
+            within = (chosen_ready r.start r.scene r.now r.at m.going).0;
+          };
+          picks = λ start s now h none sees ready.
+              let e = list start s now h in
+              record {
+                choice = is ∙ ap (chosen flags) (picks ∙ ap (order.pick p) (from ∙ e))
+                    ∙ ap (λ l. chosen l (order.pick p (ready_list (plan_of s) s.size now))) (of ∙ e);
+                next = after ∙ ap (order.next p) (from ∙ e);
+              };
+        }
+
+module _ {S R W O : Type 0} {stage : Stage S} {writer : Sink W} {order : Order O} {look : Look} {k : ℕ} {p q : O}
+    {net : Net S R W} (a : Asked stage writer order look k p q net) where
   within_all : {start : Option (List ℕ)} {s : Scene} {now : Now Row} → NetAt stage writer start s net now → k ≤ s.count
-  within_all h = omega (arith, may_ask.within, may_ask.running.at.actors, h.actors)
-
-  pub leans_on : {by : Search} {to : Side} → look ≡ Some by → to ≡ by.side → LeansTo to order.pick order.next q
-  leans_on {by} is same = let w = a.here by is in rw (same, w.1) w.2
-
-  leans_still : IfSome look (λ by. LeansTo by.side order.pick order.next q)
-  leans_still = each_some (λ by. LeansTo by.side order.pick order.next q) look (λ by is. leans_on is refl)
-
-  -- It isn't ready, so there is a search.
-  module _ {new : Net S R W} (rests : HasRested stage writer k net new) where
-    pub never_picked : look ≡ None → ⊥
-    never_picked isnt =
-        let m = pick_now a.may in
-        let ready = chosen_now isnt m.running.at m.going m.sees in
-        false≢true (sym (rests.idle m.running.start m.running.scene m.running.now m.running.at m.going ready.0) ∙ ready.1)
-
-    unready_at : {by : Search} {start : Option (List ℕ)} {s : Scene} {now : Now Row} → look ≡ Some by
-        → NetAt stage writer start s net now → result (plan_of s) now ≡ None
-        → is_ready (plan_of s) s.size now by.from ≡ false
-    unready_at {by} {start} {s} {now} is h none =
-        ap (is_ready (plan_of s) s.size now) (sym (a.here by is).0) ∙ rests.idle start s now h none (within_all h)
-
-    -- The search goes on.
-    pub stepped_past : {reader : Source R} {by after : Search} → look ≡ Some by → after ≡ passed by
-        → HasStepped stage reader writer order p q look (Some after) net new false
-    stepped_past {reader} {by} {after} is to =
-        rw (to, rests.same) (record {
-          reads = λ i. [];
-          read = λ i. read_none _ _;
-          goes = λ start s now over h none sees. (
-            record { turns = []; counted = omega arith; to = now; driven = (still now, (a.here by is).1); at = h },
-            record {
-              tells = ap is_some (sym none);
-              sees = λ none. front_passed (front_of s now net is sees) (unready_at is h none) (any_ready h none);
-            },
-          );
-        })
-
-    pub past_advanced : {reader : Source R} {by after : Search} → look ≡ Some by → after ≡ passed by
-        → HasAdvanced stage reader writer order p q look (Some after) net new false
-    past_advanced is to = record {
-      stepped = stepped_past is to;
-      leans = leans_on is (ap (λ (b : Search). b.side) to);
-      marks = marks_none rests.same (none_yet a.may);
-      flushes = rw rests.same (record { none_before = λ on. refl; once = omega arith });
-    }
-
-    pub past_closer : {by after : Search} → look ≡ Some by → after ≡ passed by → IsCloser look (Some after) net new false
-    past_closer is to =
-        let m = pick_now a.may in
-        let at = m.running.at in
-        let front = front_of m.running.scene m.running.now net is m.sees in
-        let fewer = passed_fewer front (unready_at is at m.going) (any_ready at m.going) at.plan.few in
-        rw (to, is) (inr (inr (ap (λ (n : Net S R W). n.turns) rests.same, fewer)))
+  within_all h = omega (arith, a.ask.within, a.ask.running.at.actors, h.actors)
 
   -- It was ready, and has had its turn.
-  module _ {reader : Source R} {link : ℕ} {behind : Net S R W} {is_over : Bool}
-      (m : HasMoved stage reader writer k link net behind is_over) where
+  module _ {reader : Source R} {behind : Net S R W} {is_over : Bool}
+      (ready : AtEach stage writer net (λ start s now. result (plan_of s) now ≡ None → k ≤ s.count
+      → is_ready (plan_of s) s.size now k ≡ true))
+      (gone : HasGone stage reader writer k net behind is_over) where
     -- what has come of one moment
-    record Next (start : Option (List ℕ)) (s : Scene) (now : Now Row) : Type 0 where
-      going : result (plan_of s) now ≡ None
-      sees : Sees look s now net
-      picks : HasPicked order (plan_of s) s.size p q now k
-      within : k ≤ s.count
-      goes : GoesTo stage writer start s k now behind is_over
-      link_is : IsChanged k (moved s now.links) behind.failure link
+    pub record Next (start : Option (List ℕ)) (s : Scene) (now : Now Row) : Type 0 where
+      pub going : result (plan_of s) now ≡ None
+      pub sees : Sees look s now
+      pub picks : HasPicked order (plan_of s) s.size p q now k
+      pub within : k ≤ s.count
+      pub was : NetAt stage writer start (before_all gone.turned.reads s) net now
+      pub able : is_ready (plan_of s) s.size now k ≡ true
+      pub goes : GoesTo stage writer start s k now behind is_over
 
     next_at : (start : Option (List ℕ)) (s : Scene) (now : Now Row) → AreOver behind.web.nodes.items s.rests
-        → NetAt stage writer start (before_all m.turned.reads s) net now
-        → result (plan_of s) now ≡ None → Sees look s now net → Next start s now
+        → NetAt stage writer start (before_all gone.turned.reads s) net now
+        → result (plan_of s) now ≡ None → Sees look s now → Next start s now
     next_at start s now over h none sees =
-        let mid : Scene = before_all m.turned.reads s in
+        let mid : Scene = before_all gone.turned.reads s in
         let within : k ≤ s.count = within_all h in
-        let ready : is_ready (plan_of s) s.size now k ≡ true = m.ready start mid now h none in
+        let able : is_ready (plan_of s) s.size now k ≡ true = ready start mid now h none within in
         record {
           going = none;
           sees = sees;
-          picks = ⊎_elim
-              (λ is.
-              let at = a.here is.0 is.1 in
-              record {
-                choice = leaning_choice s now within ready order p is.0.side at.2 (λ j less near.
-                    (front_of s now net is.1 sees).nearer j less (subst (IsNearer is.0.side j) at.0 near));
-                next = at.1 ∙ sym (at.2.stays (ready_list (plan_of s) s.size now));
-              })
-              (λ isnt. a.picked isnt start mid now h none
-              (subst (λ l. Sees l mid now net) isnt (seen look s mid.rests now net sees)))
-              (searches look);
+          picks = a.picks start mid now h none (seen look s mid.rests now sees) able;
           within = within;
-          goes = m.turned.turns start s now over h within ready;
-          link_is = m.changes (moved mid now.links)
-              (record { at = is_at stage writer start mid net now k h ready; within = within });
+          was = h;
+          able = able;
+          goes = gone.turned.turns start s now over h within able;
         }
 
-    module _ {start : Option (List ℕ)} {s : Scene} {now : Now Row} (n : Next start s now)
+    pub moved_on : {after : Look}
+        → ((start : Option (List ℕ)) (s : Scene) (now : Now Row) (n : Next start s now)
+        → result (plan_of s) n.goes.to ≡ None → Sees after s n.goes.to)
+        → HasAdvanced stage reader writer order p q look after net behind is_over
+    moved_on known = record {
+      stepped = record {
+        reads = gone.turned.reads;
+        read = gone.turned.read;
+        goes = λ start s now over h none sees.
+            let n = next_at start s now over h none sees in (
+              record {
+                turns = k ∷ [];
+                counted = gone.turns;
+                to = n.goes.to;
+                driven = (n.goes.to, n.picks.choice, n.goes.turn, (still n.goes.to, n.picks.next));
+                at = n.goes.at;
+              },
+              record { tells = n.goes.tells; sees = λ goes. known start s now n goes },
+            );
+      };
+      marks = gone.marks;
+      flushes = gone.flushes;
+    }
+
+    -- a moment of it, while the run goes on
+    next_now : is_over ≡ false → (start : Option (List ℕ)) × (s : Scene) × (now : Now Row)
+        × (n : Next start s now) × (result (plan_of s) n.goes.to ≡ None)
+    next_now not_yet =
+        let t = then_at a.may reader behind gone.turned.reads (λ i. []) gone.turned.read (no_rests behind) in
+        let n = next_at a.may.start (record t.scene { rests = λ i. [] }) t.now (no_rests behind) t.at t.going t.sees in
+        (a.may.start, record t.scene { rests = λ i. [] }, t.now, n, not_over _ n.goes.tells not_yet)
+
+  -- It has changed this link.
+  module _ {reader : Source R} {link : ℕ} {behind : Net S R W} (w : HasWorked stage reader writer k link net behind false) where
+    abbrev Goes : Option (List ℕ) → Scene → Now Row → Type 0
+    Goes start s now = Next w.ready w.gone start s now
+
+    module _ {start : Option (List ℕ)} {s : Scene} {now : Now Row} (n : Goes start s now)
         (goes : result (plan_of s) n.goes.to ≡ None) where
       turn_of : IsTurn s k link now n.goes.to
-      turn_of = record {
-        plan = n.goes.at.plan;
-        turn = n.goes.turn;
-        going = n.going;
-        none = goes;
-        within = n.within;
-        link_is = ⊎_elim (λ is. is) (λ own. absurd (own.1 (unfailed_at n.goes.at goes))) n.link_is;
-      }
+      turn_of =
+          let mid : Scene = before_all w.gone.turned.reads s in
+          record {
+            plan = n.goes.at.plan;
+            turn = n.goes.turn;
+            going = n.going;
+            none = goes;
+            within = n.within;
+            link_is = ⊎_elim (λ is. is) (λ own. absurd (own.1 (unfailed_at n.goes.at goes)))
+                (w.changes (moved mid now.links)
+                (record { at = is_at stage writer start mid net now k n.was n.able; within = n.within }));
+          }
 
       link_within : link < s.count
       link_within = ⊎_elim
@@ -225,161 +251,85 @@ module _ {S R W O : Type 0} {stage : Stage S} {writer : Sink W} {order : Order O
           let at = n.goes.at.takers.behind link taker is in
           record { alone = λ j takes. n.goes.at.takers.alone link taker j is takes; behind = at.0; most = at.1 }
 
-    stepped_by : {after : Option Search} (flags : Vec Bool Global) → length flags.items ≡ length behind.actors.items
-        → ((start : Option (List ℕ)) (s : Scene) (now : Now Row) → (n : Next start s now)
-        → result (plan_of s) n.goes.to ≡ None → Sees after s n.goes.to (record behind { actors = flags }))
-        → HasStepped stage reader writer order p q look after net (record behind { actors = flags }) is_over
-    stepped_by flags len known = record {
-      reads = m.turned.reads;
-      read = m.turned.read;
-      goes = λ start s now over h none sees.
-          let n = next_at start s now over h none sees in (
-            record {
-              turns = k ∷ [];
-              counted = m.turns;
-              to = n.goes.to;
-              driven = (n.goes.to, n.picks.choice, n.goes.turn, (still n.goes.to, n.picks.next));
-              at = relisted refl len n.goes.at;
-            },
-            record { tells = n.goes.tells; sees = λ goes. known start s now n goes },
-          );
-    }
+      some_taker : slice_get behind.takers.items link ≡ Some (get_or behind.takers.items link 0)
+      some_taker = slice_get-get_or behind.takers.items link 0 (omega (arith, link_within, n.goes.at.takers.many))
 
-    -- and the run is over
-    pub stepped_out : is_over ≡ true → {after : Option Search}
-        → HasStepped stage reader writer order p q look after net behind is_over
-    stepped_out is = stepped_by behind.actors refl
-        (λ start s now n goes. absurd (false≢true (sym (n.goes.tells ∙ ap is_some goes) ∙ is)))
+    pub link_few : link < length behind.takers.items
+    link_few =
+        let t = next_now w.ready w.gone refl in omega (arith, link_within t.3 t.4, t.3.goes.at.takers.many)
 
-    -- a moment of it, while the run goes on
-    next_now : is_over ≡ false → (start : Option (List ℕ)) × (s : Scene) × (now : Now Row)
-        × (n : Next start s now) × (result (plan_of s) n.goes.to ≡ None)
-    next_now not_yet =
-        let t = then_at a.may reader behind m.turned.reads (λ i. []) m.turned.read (no_rests behind) in
-        let n = next_at a.may.start (record t.scene { rests = λ i. [] }) t.now (no_rests behind) t.at t.going t.sees in
-        (a.may.start, record t.scene { rests = λ i. [] }, t.now, n, not_over _ n.goes.tells not_yet)
+-- What is known then, from the left:
+module _ {S R W : Type 0} {stage : Stage S} {reader : Source R} {writer : Sink W} {k : ℕ} {net behind : Net S R W}
+    (may : MayStep stage writer (FromLeft k) net) where
+  left_seen : {link : ℕ} (w : HasWorked stage reader writer k link net behind false) {start : Option (List ℕ)} {s : Scene}
+      {now : Now Row} (n : Next (left_asked may) w.ready w.gone start s now) (goes : result (plan_of s) n.goes.to ≡ None)
+      → Sees (FromLeft link) s n.goes.to
+  left_seen w n goes =
+      let a = left_asked may in left_moved (turn_of a w n goes) (taker_of a w n goes (some_taker a w n goes)) n.sees
 
-    pub link_few : is_over ≡ false → link < length behind.takers.items
-    link_few not_yet =
-        let t = next_now not_yet in
-        omega (arith, link_within t.3 t.4, t.3.goes.at.takers.many)
+  pub left_on : {link : ℕ} → HasWorked stage reader writer k link net behind false
+      → HasAdvanced stage reader writer (leaning side.Left) tt tt (FromLeft k) (FromLeft link) net behind false
+  left_on w = moved_on (left_asked may) w.ready w.gone (λ start s now n goes. left_seen w n goes)
 
-    -- A search looks further, or the run is over.
-    searched : {by after : Search} → look ≡ Some by
-        → ((start : Option (List ℕ)) (s : Scene) (now : Now Row) → (n : Next start s now) → result (plan_of s) n.goes.to ≡ None
-        → k ≡ by.from → IsFront by s now → IsFront after s n.goes.to)
-        → HasStepped stage reader writer order p q look (Some after) net behind is_over
-    searched {by} is known = stepped_by behind.actors refl
-        (λ start s now n goes. known start s now n goes (a.here by is).0 (front_of s now net is n.sees))
+  pub left_filled : HasWorked stage reader writer k k net behind false → IsFull k behind.web
+      → HasAdvanced stage reader writer (leaning side.Left) tt tt (FromLeft k) (FromLeft (k + 1)) net behind false
+  left_filled w full = moved_on (left_asked may) w.ready w.gone (λ start s now n goes.
+      left_passed (full_unready n.goes.at goes full) (any_ready n.goes.at goes) (left_seen w n goes))
 
-    searched_on : {by after : Search} → look ≡ Some by
-        → ((taker : ℕ) → slice_get behind.takers.items link ≡ Some taker
-        → (start : Option (List ℕ)) (s : Scene) (now : Now Row) → (n : Next start s now) → result (plan_of s) n.goes.to ≡ None
-        → k ≡ by.from → IsFront by s now → IsFront after s n.goes.to)
-        → HasStepped stage reader writer order p q look (Some after) net behind is_over
-    searched_on is known = ⊎_elim (λ over. stepped_out over) (λ on. searched is
-        (known (get_or behind.takers.items link 0) (slice_get-get_or behind.takers.items link 0 (link_few on))))
-        (cases_Bool is_over)
+  pub left_over : {link : ℕ} → HasWorked stage reader writer k link net behind true
+      → HasAdvanced stage reader writer (leaning side.Left) tt tt (FromLeft k) Unseen net behind true
+  left_over w = moved_on (left_asked may) w.ready w.gone (λ start s now n goes. tt)
 
-    pub stepped_on : {by after : Search} → look ≡ Some by
-        → ((taker : ℕ) → slice_get behind.takers.items link ≡ Some taker → after ≡ changed by (outer by.side link taker))
-        → HasStepped stage reader writer order p q look (Some after) net behind is_over
-    stepped_on is to = searched_on is
-        (λ taker at start s now n goes here front.
-        subst (λ l. IsFront l s n.goes.to) (sym (to taker at)) (front_changed (turn_of n goes) (taker_of n goes at) here front))
+  pub left_rested : HasRested stage writer k net behind
+      → HasAdvanced stage reader writer (leaning side.Left) tt tt (FromLeft k) (FromLeft (k + 1)) net behind false
+  left_rested h = rested_on may (rw h.same refl) (rw h.same refl) (λ start s now at none sees.
+      left_passed (h.idle start s now at none sees.0) (any_ready at none) sees)
 
--- A turn as it is told, and what the search makes of it.
-module _ {S R W O : Type 0} {stage : Stage S} {writer : Sink W} {order : Order O} {look : Option Search} {k : ℕ} {p q : O}
-    {net : Net S R W} (a : Asked stage writer order look k p q net) {reader : Source R} {behind : Net S R W} {turned : Turned}
-    (w : HasWorked stage reader writer k net behind turned) where
-  abbrev pub Steps : Option Search → Net S R W → Bool → Type 0
-  Steps after new is_over = HasStepped stage reader writer order p q look after net new is_over
+  pub left_waits : behind ≡ net
+      → HasAdvanced stage reader writer (leaning side.Left) tt tt (FromLeft k) (FromLeft k) net behind false
+  left_waits same = rested_on may (rw same refl) (rw same refl) (λ start s now at none sees. sees)
 
-  abbrev pub Advances : Option Search → Net S R W → Bool → Type 0
-  Advances after new over = HasAdvanced stage reader writer order p q look after net new over
+-- from the right:
+module _ {S R W : Type 0} {stage : Stage S} {reader : Source R} {writer : Sink W} {k : ℕ} {net behind : Net S R W}
+    (may : MayStep stage writer (FromRight k) net) where
+  pub right_on : {link : ℕ} → HasWorked stage reader writer k link net behind false
+      → {taker : ℕ} → slice_get behind.takers.items link ≡ Some taker
+      → HasAdvanced stage reader writer (leaning side.Right) tt tt (FromRight k) (FromRight taker) net behind false
+  right_on w at =
+      let a = right_asked may in
+      moved_on a w.ready w.gone (λ start s now n goes. right_moved (turn_of a w n goes) (taker_of a w n goes at) n.sees)
 
-  pub worked : HasMoved stage reader writer k turned.link net behind turned.is_over
-  worked = record {
-    ready = λ start s now h none. w.ready start s now h none (within_all a h);
-    turned = w.gone.turned;
-    changes = w.gone.link;
-    turns = w.gone.turns;
-  }
+  pub right_took : {link : ℕ} → HasWorked stage reader writer k link net behind false → link < k
+      → HasAdvanced stage reader writer (leaning side.Right) tt tt (FromRight k) (FromRight k) net behind false
+  right_took {link} w less =
+      let a = right_asked may in
+      moved_on a w.ready w.gone (λ start s now n goes.
+      let t = turn_of a w n goes in
+      let u = taker_of a w n goes (some_taker a w n goes) in
+      subst (λ i. Sees (FromRight i) s n.goes.to) (sym (u.alone k (took t (λ e. omega (arith, less, e)))))
+      (right_moved t u n.sees))
 
-  -- The run is over, or goes on.
-  module _ {is_over : Bool} (is_so : turned.is_over ≡ is_over) where
-    told_so : {after : Option Search} (flags : Vec Bool Global) → IfSome after (λ by. LeansTo by.side order.pick order.next q)
-        → Steps after (record behind { actors = flags }) turned.is_over → Advances after (record behind { actors = flags }) is_over
-    told_so {after} flags leans stepped = record {
-      stepped = subst (Steps after (record behind { actors = flags })) is_so stepped;
-      leans = leans;
-      marks = record { reads = w.gone.marks.reads; writes = w.gone.marks.writes; takers = w.gone.marks.takers };
-      flushes = subst (FlushesLast (writer.flushes net.sink) (writer.flushes behind.sink)) is_so w.gone.flushes;
-    }
+  pub right_over : {link : ℕ} → HasWorked stage reader writer k link net behind true
+      → HasAdvanced stage reader writer (leaning side.Right) tt tt (FromRight k) Unseen net behind true
+  right_over w = moved_on (right_asked may) w.ready w.gone (λ start s now n goes. tt)
 
-    pub on_advanced : {by after : Search} → look ≡ Some by → after.side ≡ by.side
-        → ((taker : ℕ) → slice_get behind.takers.items turned.link ≡ Some taker
-        → after ≡ changed by (outer by.side turned.link taker)) → Advances (Some after) behind is_over
-    on_advanced is same to = told_so behind.actors (leans_on a is same) (stepped_on a worked is to)
+  pub right_rested : HasRested stage writer k net behind
+      → HasAdvanced stage reader writer (leaning side.Right) tt tt (FromRight k) (FromRight (k - 1)) net behind false
+  right_rested h = rested_on may (rw h.same refl) (rw h.same refl) (λ start s now at none sees.
+      right_passed (h.idle start s now at none sees.0) (any_ready at none) sees)
 
-    pub over_advanced : {by after : Search} → turned.is_full ≡ true → look ≡ Some by → is_left by.side ≡ true
-        → after ≡ skipped by turned.link → Advances (Some after) behind is_over
-    over_advanced {by} full is left to = told_so behind.actors (leans_on a is (ap (λ (b : Search). b.side) to ∙ skipped_side by turned.link))
-        (searched_on a worked is
-        (λ taker at start s now n goes here front. subst (λ l. IsFront l s n.goes.to) (sym to)
-        (front_skipped (turn_of a worked n goes) (taker_of a worked n goes at) (left_side by turned.link taker left) here front
-        (held_by n.goes.at goes n.within (w.gone.full full)) (any_ready n.goes.at goes))))
+pub right_some : {S R W : Type 0} {stage : Stage S} {writer : Sink W} {k : ℕ} {net behind : Net S R W}
+    → MayStep stage writer (FromRight k) net → HasRested stage writer k net behind → 0 < k
+right_some may h =
+    let m = pick_now may in
+    let r = m.running in
+    right_more (h.idle r.start r.scene r.now r.at m.going m.sees.0) (any_ready r.at m.going) m.sees
 
-    -- It has taken a record, and the search is from the left.
-    pub reached_advanced : {by after : Search} → turned.has_taken ≡ true → look ≡ Some by → is_left by.side ≡ true
-        → after ≡ reached by turned.link turned.is_full → Advances (Some after) behind is_over
-    reached_advanced {by} taken is left to =
-        let below : turned.link < by.from = omega (arith, (w.gone.room taken).0, (a.here by is).0) in
-        ⊎_elim
-        (λ full. over_advanced full is left (to ∙ ap (reached by turned.link) full ∙ reached_over by turned.link below))
-        (λ isnt. on_advanced is (ap (λ (b : Search). b.side) to)
-        (λ taker at. to ∙ ap (reached by turned.link) isnt ∙ reached_on by turned.link taker left below))
-        (cases_Bool turned.is_full)
-
-  pub out_advanced : turned.is_over ≡ true → Advances look behind true
-  out_advanced over = told_so over behind.actors (leans_still a) (stepped_out a worked over)
-
-  -- The run goes on.
-  module _ (on : turned.is_over ≡ false) where
-    pub link_by : turned.link < length behind.takers.items
-    link_by = link_few a worked on
-
-    -- The two ends of the link may be asked,
-    module _ {taker : ℕ} (read : taker ≡ get_or behind.takers.items turned.link taker) where
-      taker_at : slice_get behind.takers.items turned.link ≡ Some taker
-      taker_at = nth behind.takers.items turned.link taker link_by read
-
-      pub ends_by : MayAsk stage writer turned.link behind × MayAsk stage writer taker behind
-      ends_by =
-          let t = next_now a worked on in
-          let r : IsRunning stage writer behind =
-          record { start = t.0; scene = t.1; now = t.3.goes.to; at = t.3.goes.at } in (
-            record { running = r; going = t.4; within = omega (arith, link_within a worked t.3 t.4) },
-            record { running = r; going = t.4; within = (taker_of a worked t.3 t.4 taker_at).most },
-          )
-
-      -- and are, where there is no search.
-      pub else_advanced : {new : Net S R W} → look ≡ None → new ≡ record behind { actors = new.actors }
-          → length new.actors.items ≡ length behind.actors.items
-          → AtEach stage writer behind (λ start s now. result (plan_of s) now ≡ None
-          → turned.link ≤ s.count → taker ≤ s.count → new.actors.items ≡ slice_set
-          (slice_set behind.actors.items turned.link (is_ready (plan_of s) s.size now turned.link))
-          taker (is_ready (plan_of s) s.size now taker))
-          → Advances look new false
-      else_advanced {new} isnt same len asked =
-          subst (λ n. Advances look n false) (sym same) (told_so on new.actors (leans_still a)
-          (stepped_by a worked new.actors len (λ start s now n goes.
-          let f = is_ready (plan_of s) s.size now in
-          let g = is_ready (plan_of s) s.size n.goes.to in
-          let who = taker_of a worked n goes taker_at in
-          subst (λ l. Sees l s n.goes.to (record behind { actors = new.actors })) (sym isnt)
-          (asked start s n.goes.to n.goes.at goes (omega (arith, link_within a worked n goes)) who.most
-          ∙ ap (λ l. slice_set (slice_set l turned.link (g turned.link)) taker (g taker))
-          (ap (λ v. v.items) w.gone.actors ∙ subst (λ l. Sees l s now net) isnt n.sees)
-          ∙ two_set f g (s.count + 1) turned.link taker
-          (λ j low apart other. others_as_ready (turn_of a worked n goes) who j (omega (arith, low)) apart other)))))
+-- or by the flags, nothing.
+pub flags_on : {S R W O : Type 0} {stage : Stage S} {reader : Source R} {writer : Sink W} {order : Order O} {k : ℕ} {p q : O}
+    {net behind : Net S R W} {is_over : Bool} (a : Asked stage writer order Unseen k p q net)
+    → AtEach stage writer net (λ start s now. result (plan_of s) now ≡ None → k ≤ s.count
+    → is_ready (plan_of s) s.size now k ≡ true)
+    → HasGone stage reader writer k net behind is_over
+    → HasAdvanced stage reader writer order p q Unseen Unseen net behind is_over
+flags_on a ready gone = moved_on a ready gone (λ start s now n goes. tt)

@@ -55,14 +55,13 @@ module _ {S R : Type 0} {stage : Stage S} {k : ℕ} {web : Web S R} {node : Node
 
   -- What one does next that isn't a source is known whatever else the web stands for.
   pub doing_is : {other : Readiness} → r ≡ other → is_source node ≡ false → IsDoing stage k web other
-  doing_is is none =
-      (
-        one_kind k web says_at none,
-        λ u at less.
-            let here = at.stand.nodes k node says_at in
-            record {
-              actor = record { at = at; less = less };
-              bytes = stage_bytes stage.stands node (u.rests k) _ none here;
-              does = sym (sym is ∙ told _ _ here ∙ ap (λ b. readiness_at b (doing_of (at_of u.kinds u.links k))) none);
-            },
-      )
+  doing_is is none = (
+    one_kind k web says_at none,
+    λ u at less.
+        let here = at.stand.nodes k node says_at in
+        record {
+          actor = record { at = at; less = less };
+          bytes = stage_bytes stage.stands node (u.rests k) _ none here;
+          does = sym (sym is ∙ told _ _ here ∙ ap (λ b. readiness_at b (doing_of (at_of u.kinds u.links k))) none);
+        },
+  )

@@ -1,10 +1,10 @@
 -- A turn of a source of a web.
 use Rattle.std.proofs.Common.{◌≡◌, ◌∙◌, ℕ, ◌<◌, Bool, true, false, ◌||◌, List, ◌++◌, length, Option, Some, refl, sym}
 use Rattle.std.proofs.Common.{ap, arith, slice_get, slice_set, get_or, length-set, eq-eqb, ne_eqb, nat_lt, is_none}
-use Rattle.std.proofs.Common.{inl, Result, Ok, Err}
+use Rattle.std.proofs.Common.{Result, Ok, Err}
 use Rattle.std.specs.Prelude.{IfOk, OnErr}
 use Rattle.std.proofs.lemmas.Option.{slice_get_within, same_Some}
-use Rattle.std.proofs.lemmas.Bool.{cond-true, cond-false, and_parts, false≢true}
+use Rattle.std.proofs.lemmas.Bool.{cond-true, cond-false, and_parts}
 use Rattle.circular_buffer.proofs.Places.{slice_get-some}
 use Rattle.hum_text.specs.declared.calls.Source.{Ghosts as Source}
 use Rattle.hum_stage.specs.declared.contract.Stage.{Ghosts as Stage}
@@ -24,7 +24,7 @@ use Rattle.hum_engine.specs.declared.link.Link as port
 use Rattle.hum_engine.specs.Links.{room}
 use Rattle.hum_engine.specs.declared.web.Web.{Web}
 use Rattle.hum_engine.specs.Scene.{Scene, plan_of, at_of, Stands, MayTurn, Fed, Somewhere}
-use Rattle.hum_engine.specs.Scene.{IsKind, IsFull, HasFullLink, KeepsOthers}
+use Rattle.hum_engine.specs.Scene.{IsKind, IsFull, KeepsOthers}
 use Rattle.hum_engine.proofs.Moving.{OthersStand, nth, set_other, set_here}
 use Rattle.hum_engine.proofs.Polling.{LinkGoes, links_by, polls}
 
@@ -68,7 +68,7 @@ room_same k {s = s} {link = link} st at =
     ap (λ n. nat_lt n link.waiting.capacity) (ap length p.waiting) ∙ ap (nat_lt (length (s.links k).waiting)) p.capacity
 
 -- What was just put lies there.
-pub still_here : {S R : Type 0} (nodes : List (Node S R)) (k : ℕ) (node after x : Node S R)
+pub still_here : {A : Type 0} (nodes : List A) (k : ℕ) (node after x : A)
     → slice_get nodes k ≡ Some node → x ≡ get_or (slice_set nodes k after) k x → x ≡ after
 still_here nodes k node after x was e =
     let n = slice_get_within nodes k node was in
@@ -106,11 +106,19 @@ module _ {S R : Type 0} {stage : Stage S} {k : ℕ} {old : Web S R} {node : Node
     is_after = ap (λ (ns : List (Node S R)). slice_get ns k) nodes ∙ set_here old.nodes.items k after node polled_at
 
     -- its link may be full
-    pub source_full : {link : port.Link} (put : port.Link) → is_source after ≡ true → slice_get old.links.items k ≡ Some link
-        → new.links.items ≡ slice_set old.links.items k put → HasFullLink k new → IsFull k new
-    source_full {link} put kind its links full =
+    pub source_full : {link x : port.Link} {b : Bool} (put : port.Link) → is_source after ≡ true
+        → slice_get old.links.items k ≡ Some link → new.links.items ≡ slice_set old.links.items k put
+        → x ≡ get_or (slice_set old.links.items k put) k x → b ≡ room x → b ≡ false → IsFull k new
+    source_full {link} {x} put kind its links value tells full =
         let now = ap (λ ls. slice_get ls k) links ∙ set_here old.links.items k put link its in
-        record { node = after; is = is_after; gives = inl kind; link = put; its = now; full = full put now }
+        record {
+          node = after;
+          is = is_after;
+          source = kind;
+          link = put;
+          its = now;
+          full = ap room (sym (still_here old.links.items k link put x its value)) ∙ sym tells ∙ full;
+        }
 
     -- its turn, by what has come of it
     pub fed : {reader : Source R} {link : port.Link} {r : Result Polled ReadError} {p : Polled} (put : port.Link)
@@ -175,21 +183,18 @@ module _ {S R : Type 0} {stage : Stage S} {k : ℕ} {old : Web S R} {node : Node
 
       -- and what its turn tells
       module _ (kind : IsKind true k old) where
-        pub told_read : {link : port.Link} {p : Polled} {full : Bool} (put : port.Link)
+        pub told_read : {link : port.Link} {p : Polled} (put : port.Link)
             → slice_get old.links.items k ≡ Some link → r ≡ Ok p
             → IfOk r (HasPolled (StandsAs stage.stands node) (StandsAs stage.stands after) (ended_of node) (ended_of after)
             (remaining_of reader.remaining node) (remaining_of reader.remaining after))
-            → LinkGoes p link put → new.links.items ≡ links_by p old.links.items k put → (full ≡ true → IsFull k new)
-            → HasTold stage reader k old new
-            (Ok (record { link = k; is_full = full; has_taken = false }))
-        told_read put its is polled goes links full = record {
+            → LinkGoes p link put → new.links.items ≡ links_by p old.links.items k put
+            → HasTold stage reader k old new (Ok k)
+        told_read put its is polled goes links = record {
           turned = fed put its is polled goes links;
           link = λ s actor.
               let less : k < s.count = omega (arith, turn.holds.actor.less, turn.holds.actor.at.stand.count, actor.at.stand.count) in
               let some = source_bytes stage.stands node (s.rests k) _ (kind node polled_at) (actor.at.stand.nodes k node polled_at) in
               sym (source_touches (plan_of s) actor.at.reached.ok s.size k s.links (source_is (plan_of s) k less some));
-          full = full;
-          room = λ has. absurd (false≢true has);
           read = λ h. kind;
           asked = asked_ok is;
         }
@@ -198,4 +203,4 @@ module _ {S R : Type 0} {stage : Stage S} {k : ℕ} {old : Web S R} {node : Node
             → OnErr r (HasStayed (ended_of node) (ended_of after) (remaining_of reader.remaining node) (remaining_of reader.remaining after))
             → HasTold stage reader k old new (Err e)
         told_failed is stays =
-            record { turned = tt; link = tt; full = tt; room = tt; read = λ h. kind; asked = asked_err is stays }
+            record { turned = tt; link = tt; read = λ h. kind; asked = asked_err is stays }

@@ -1,15 +1,15 @@
 -- The actor that an order picks which leans to a side.
 use Rattle.std.proofs.Common.{◌≡◌, ◌∙◌, ℕ, zero, suc, ◌+◌, ◌<◌, ◌≤◌, Bool, true, false, List, [], ◌∷◌, get_or, refl, sym, ap}
-use Rattle.std.proofs.Common.{arith}
+use Rattle.std.proofs.Common.{arith, subst}
 use Rattle.std.proofs.lemmas.Bool.{false≢true, false_from_ne_true, cond-true, cond-false}
-use Rattle.hum_score.specs.Row.{Row}
+use Rattle.hum_score.specs.Row.{Row, text_of}
 use Rattle.hum_turns.specs.declared.order.Side.{Side}
 use Rattle.hum_turns.specs.declared.order.Side.TheVariants as side
-use Rattle.hum_turns.specs.Orders.{Order, first_true, last_true, some_true, outermost, chosen, choice, ready_list, LeansTo}
+use Rattle.hum_turns.specs.Orders.{Order, first_true, last_true, some_true, chosen, choice, ready_list, LeansTo, Driven}
 use Rattle.hum_turns.specs.Failures.{Now, is_ready}
 use Rattle.hum_turns.proofs.Picking.{entry, entry_is}
 use Rattle.hum_engine.specs.Scene.{Scene, plan_of}
-use Rattle.hum_engine.specs.Search.{IsNearer}
+use Rattle.hum_engine.specs.Looks.{Sees, FromLeft, FromRight, leaning}
 use Rattle.hum_engine.proofs.Running.{some_at}
 
 -- A flag that is set, and none in front of it.
@@ -35,29 +35,38 @@ last_by (b ∷ bs) (suc k) h above =
     ap suc (last_by bs k h (λ j more. above (suc j) (omega (arith, more))))
     ∙ sym (cond-true _ _ _ (some_at bs k h))
 
--- Who is ready, and nobody nearer to the side, is furthest to it.
+-- Who is ready, and nobody to its left or to its right, is the choice of the order that leans there.
 module _ (s : Scene) (now : Now Row) {k : ℕ} (within : k ≤ s.count) (is : is_ready (plan_of s) s.size now k ≡ true) where
   here : get_or (ready_list (plan_of s) s.size now) k false ≡ true
   here = entry (is_ready (plan_of s) s.size now) (s.count + 1) k (omega (arith, within)) ∙ is
 
-  outer_is : (to : Side) → ((j : ℕ) → j ≤ s.count → IsNearer to j k → is_ready (plan_of s) s.size now j ≡ false)
-      → k ≡ outermost to (ready_list (plan_of s) s.size now)
-  outer_is side.Left nobody =
-      let f = is_ready (plan_of s) s.size now in
-      first_by (ready_list (plan_of s) s.size now) k here
-      (λ j less. entry f (s.count + 1) j (omega (arith, less, within)) ∙ nobody j (omega (arith, less, within)) less)
-  outer_is side.Right nobody =
-      let f = is_ready (plan_of s) s.size now in
-      last_by (ready_list (plan_of s) s.size now) k here
-      (λ j more. false_from_ne_true _ (λ set.
-      let e = entry_is f (s.count + 1) j set in false≢true (sym (nobody j (omega (arith, e.0)) more) ∙ e.1)))
+  chosen_here : (pick : ℕ) → k ≡ pick → k ≡ chosen (ready_list (plan_of s) s.size now) pick
+  chosen_here pick same = rw (← same) (sym (cond-true _ k (first_true (ready_list (plan_of s) s.size now)) here))
 
-  -- so it is the choice of an order that leans to that side
-  pub leaning_choice : {O : Type 0} (order : Order O) (o : O) (to : Side)
-      → LeansTo to order.pick order.next o
-      → ((j : ℕ) → j ≤ s.count → IsNearer to j k → is_ready (plan_of s) s.size now j ≡ false)
-      → k ≡ choice order (plan_of s) s.size o now
-  leaning_choice order o to leans nobody =
-      let list = ready_list (plan_of s) s.size now in
-      sym (ap (chosen list) (leans.outermost_is list ∙ sym (outer_is to nobody))
-      ∙ cond-true _ k (first_true list) here)
+  pub left_choice : Sees (FromLeft k) s now → k ≡ choice (leaning side.Left) (plan_of s) s.size tt now
+  left_choice sees =
+      let f = is_ready (plan_of s) s.size now in
+      chosen_here _ (first_by (ready_list (plan_of s) s.size now) k here
+      (λ j less. entry f (s.count + 1) j (omega (arith, less, within)) ∙ sees.1 j less))
+
+  pub right_choice : Sees (FromRight k) s now → k ≡ choice (leaning side.Right) (plan_of s) s.size tt now
+  right_choice sees =
+      let f = is_ready (plan_of s) s.size now in
+      chosen_here _ (last_by (ready_list (plan_of s) s.size now) k here
+      (λ j more. false_from_ne_true _ (λ set.
+      let e = entry_is f (s.count + 1) j set in
+      false≢true (sym (sees.1 j more (omega (arith, e.0))) ∙ e.1))))
+
+-- What is driven by that order is driven by each that leans to its side.
+pub leans_alike : {O : Type 0} (to : Side) (order : Order O) (o : O) (s : Scene) → LeansTo to order.pick order.next o
+    → (ks : List ℕ) (old new : Now Row) → Driven (leaning to) (plan_of s) s.size text_of tt old ks new tt
+    → Driven order (plan_of s) s.size text_of o old ks new o
+leans_alike to order o s leans [] old new d = (d.0, refl)
+leans_alike {O} to order o s leans (k ∷ ks) old new d =
+    let list = ready_list (plan_of s) s.size old in (
+      d.0,
+      d.1 ∙ ap (chosen list) (sym (leans.outermost_is list)),
+      d.2,
+      subst (λ (p : O). Driven order (plan_of s) s.size text_of p d.0 ks new o) (sym (leans.stays list))
+          (leans_alike to order o s leans ks d.0 new d.3),
+    )

@@ -14,11 +14,9 @@ pub mod Settling
 pub mod Showing
 pub mod Netting
 pub mod Bounds
-pub mod Flags
+pub mod Looking
 pub mod Noting
 pub mod Leaning
-pub mod HeldUp
-pub mod Searching
 pub mod Running
 pub mod Advancing
 pub mod Choosing

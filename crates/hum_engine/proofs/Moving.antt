@@ -40,14 +40,6 @@ pub set_here : {X : Type 0} (xs : List X) (k : ℕ) (y x : X) → slice_get xs k
     → slice_get (slice_set xs k y) k ≡ Some y
 set_here xs k y x h = slice_get-set_same xs k y (slice_get_within xs k x h)
 
--- where something stood something stands
-pub set_there : {X : Type 0} (xs : List X) (i k : ℕ) (y x : X) → slice_get xs k ≡ Some x
-    → (z : X) × (slice_get (slice_set xs i y) k ≡ Some z)
-set_there xs i k y x h = elim (cases_eq k i) [
-  | inl is ↦ (y, rw is (set_here xs i y x (rw is at h)))
-  | inr other ↦ (x, set_other xs i y k other ∙ h)
-]
-
 pub nth : {X : Type 0} (xs : List X) (i : ℕ) (x : X) → i < length xs → x ≡ get_or xs i x
     → slice_get xs i ≡ Some x
 nth xs i x h e = slice_get_read xs (length xs) i x refl h e

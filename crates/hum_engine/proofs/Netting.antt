@@ -103,14 +103,6 @@ module _ {S R W : Type 0} (stage : Stage S) (writer : Sink W) (start : Option (L
   pub unfailed_now : result (plan_of s) now ≡ None → now.failure ≡ None
   unfailed_now none = unfailed_at h none
 
-  pub actor_now : result (plan_of s) now ≡ None → k ≤ s.count → IsActor stage k net.web (moved s now.links)
-  actor_now none within = record { at = at_now h none; within = within }
-
-  pub ready_by : (b : Bool) → result (plan_of s) now ≡ None → k ≤ s.count
-      → ((t : Scene) → IsActor stage k net.web t → b ≡ ready (plan_of t) t.size t.links k)
-      → b ≡ is_ready (plan_of s) s.size now k
-  ready_by b none within tells = ready_at h none k (tells (moved s now.links) (actor_now none within))
-
 -- The bytes of one source alone.
 
 only_at : (k : ℕ) (read : List ℕ) → only k read k ≡ read

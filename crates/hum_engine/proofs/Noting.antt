@@ -8,7 +8,7 @@ use Rattle.hum_turns.specs.Near.{IsOneOf}
 use Rattle.hum_turns.proofs.States.{last_next}
 use Rattle.hum_nodes.specs.At.{set_each}
 use Rattle.hum_engine.specs.Scene.{Scene, plan_of, IsNetPlan, AreTakers}
-use Rattle.hum_engine.proofs.Flags.{index_all}
+use Rattle.hum_engine.proofs.Looking.{index_all}
 use Rattle.hum_engine.proofs.Moving.{set_cases}
 
 pub length-set_each : (places : List ℕ) (k : ℕ) (list : List ℕ) → length (set_each places k list) ≡ length list

@@ -26,11 +26,11 @@ use Rattle.hum_turns.proofs.Ending.{every_end}
 use Rattle.hum_turns.proofs.Against.{meaning_fine}
 use Rattle.hum_nodes.proofs.Fining.{fine_is}
 use Rattle.hum_engine.specs.declared.net.Net.{Net}
-use Rattle.hum_engine.specs.declared.search.Search.{Search}
+use Rattle.hum_engine.specs.Looks.{Look, FromLeft, FromRight, Unseen, Sees}
 use Rattle.hum_engine.specs.Scene.{Scene, plan_of, moved, Stands}
-use Rattle.hum_engine.specs.Nets.{NetAt, AtEach, AreOver, IsRunning, IsNet, Leads, RunsTo, Outcome, WroteFront, WroteAll, Sees}
+use Rattle.hum_engine.specs.Nets.{NetAt, AtEach, AreOver, IsRunning, IsNet, Leads, RunsTo, Outcome, WroteFront, WroteAll}
 use Rattle.hum_engine.proofs.Netting.{unfailed_now}
-use Rattle.hum_engine.proofs.Searching.{AnyReady}
+use Rattle.hum_engine.proofs.Looking.{AnyReady}
 
 pub at_some : {A : Type 0} (P : A → Type 0) (o : Option A) (x : A) → o ≡ Some x → IfSome o P → P x
 at_some P (Some y) x is h = subst P (same_Some y x is) h
@@ -52,19 +52,11 @@ pub no_rests : {S R W : Type 0} (net : Net S R W) → AreOver net.web.nodes.item
 no_rests net i e = refl
 
 -- What is known of who is ready hangs on no bytes that are still to come.
-pub seen : {S R W : Type 0} (look : Option Search) (s : Scene) (rests : ℕ → List ℕ) (now : Now Row)
-    (net : Net S R W) → Sees look s now net → Sees look (record s { rests = rests }) now net
-seen None s rests now net sees = sees
-seen (Some look) s rests now net f =
-    record {
-      within = f.within;
-      nearer = f.nearer;
-      between = f.between;
-      beyond = f.beyond;
-      last = f.last;
-      waits = λ j left past low.
-          ⊎_elim inl (λ held. inr (record { gives = held.gives; full = held.full })) (f.waits j left past low);
-    }
+pub seen : (look : Look) (s : Scene) (rests : ℕ → List ℕ) (now : Now Row) → Sees look s now
+    → Sees look (record s { rests = rests }) now
+seen (FromLeft k) s rests now sees = sees
+seen (FromRight k) s rests now sees = sees
+seen Unseen s rests now sees = tt
 
 pub some_at : (bs : List Bool) (k : ℕ) → get_or bs k false ≡ true → some_true bs ≡ true
 some_at [] k h = absurd (false≢true h)

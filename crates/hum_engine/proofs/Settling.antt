@@ -20,17 +20,19 @@ use Rattle.hum_turns.proofs.Near.{ready_sink}
 use Rattle.hum_nodes.specs.Polls.{is_failed_read}
 use Rattle.hum_nodes.proofs.Standing.{reads_few}
 use Rattle.hum_engine.specs.declared.net.Net.{Net}
-use Rattle.hum_engine.specs.declared.net.Turned.{Turned}
 use Rattle.hum_engine.specs.declared.web.Moved.{Moved}
+use Rattle.hum_engine.specs.declared.web.Moved.TheVariants as moves
 use Rattle.hum_engine.specs.declared.web.Web.{Web}
 use Rattle.hum_engine.specs.Readers.{failed_at, is_read_of, is_write}
-use Rattle.hum_engine.specs.Scene.{Scene, plan_of, moved, Somewhere, IsAt, HasActor, IsKind, HasRoom, Fed}
-use Rattle.hum_engine.specs.Told.{HasTold, AsksOne}
-use Rattle.hum_engine.specs.Nets.{AtEach, MayAsk, HasTurned, HasGone, HasWorked, MarksFailures, failed_by, turned_by}
-use Rattle.hum_engine.specs.Nets.{fault_by}
+use Rattle.hum_engine.specs.Scene.{Scene, plan_of, moved, Somewhere, IsAt, IsActor, HasActor, IsKind, HasRoom, Fed}
+use Rattle.hum_engine.specs.Told.{HasTold, HasActed, ComesTo, GivesOn, AsksOne}
+use Rattle.hum_engine.specs.Nets.{AtEach, MayAsk, HasTurned, HasWorked, HasCome, HasGivenOn, IsChanged, SinkActed}
+use Rattle.hum_engine.specs.Nets.{MarksFailures}
+use Rattle.hum_engine.specs.Nets.{failed_by, turned_by, turns_by, fault_by}
 use Rattle.hum_engine.proofs.Bounds.{turns_few}
 use Rattle.hum_engine.proofs.Netting.{at_now, ready_at, unfailed_at, unheard_at, ready_result, source_here}
-use Rattle.hum_engine.proofs.Netting.{stage_turned}
+use Rattle.hum_engine.proofs.Netting.{stage_turned, sink_turned, may_write}
+use Rattle.hum_engine.proofs.Stepping.{sink_touches}
 use Rattle.hum_engine.proofs.Showing.{shows_alike}
 
 -- An actor that may be asked.
@@ -89,9 +91,10 @@ abbrev pub fault_of : {A : Type 0} → ℕ → Result A ReadError → Option Run
 fault_of k (Ok x) = None
 fault_of k (Err e) = Some (fault_by k e)
 
-failed_so : (k : ℕ) (told : Result Moved ReadError) → failed_by k told None ≡ fault_of k told
-failed_so k (Ok moved) = refl
-failed_so k (Err e) = refl
+-- the link that it has changed; where it has failed, its own may stand for it
+link_by : ℕ → Result ℕ ReadError → ℕ
+link_by k (Ok link) = link
+link_by k (Err e) = k
 
 -- The marks of all readers, where it marks its own or none.
 told_marks : {S R A : Type 0} {reader : Source R} {k : ℕ} {old new : Web S R}
@@ -139,50 +142,95 @@ told_marked {k = k} {old = old} {told = told} is a net = rw net (record {
   takers = refl;
 })
 
-module _ {S R W : Type 0} {stage : Stage S} {reader : Source R} {writer : Sink W} {k : ℕ} {old : Net S R W} {web : Web S R}
+changes_by : {S R : Type 0} {stage : Stage S} {reader : Source R} {k : ℕ} {old web : Web S R} (told : Result ℕ ReadError)
+    → HasTold stage reader k old web told → (s : Scene) → IsActor stage k old s
+    → IsChanged k s (fault_of k told) (link_by k told)
+unfolding link_by
+changes_by (Ok link) h s a = inl (h.link s a)
+changes_by (Err e) h s a = inr (refl, λ none. none-some _ (sym none))
+
+-- the net, where the turn hasn't failed
+unfailed_on : {S R W : Type 0} {stage : Stage S} {writer : Sink W} {k n : ℕ} {old new : Net S R W} {web : Web S R}
+    → MayAsk stage writer k old → new ≡ record old { web = web; turns = n; failure = old.failure }
+    → new ≡ record old { web = web; turns = n; failure = None }
+unfailed_on {n = n} {old} {web = web} m net =
+    net ∙ ap (λ f. record old { web = web; turns = n; failure = f }) (asked_unfailed m)
+
+module _ {S R W : Type 0} {stage : Stage S} (reader : Source R) {writer : Sink W} {k : ℕ} {old : Net S R W} {web : Web S R}
     (other : k ≡ length old.web.nodes.items → ⊥) where
-  gone : (told : Result Moved ReadError) → HasTold stage reader k old.web web told
-      → HasGone stage reader writer k old
-      (record old { web = web; turns = old.turns + 1; failure = fault_of k told }) (turned_by k told)
-  gone (Ok moved) h = record {
-    turned = told_turned (Ok moved) other h.turned h.read h.asked;
-    link = λ s a. inl (h.link s a);
-    marks = told_marked {told = Ok moved} refl h.asked refl;
-    flushes = record { none_before = λ on. refl; once = omega arith };
-    turns = refl;
-    actors = refl;
-    full = h.full;
-    room = h.room;
-  }
-  gone (Err e) h = record {
-    turned = told_turned (Err e) other tt h.read h.asked;
-    link = λ s a. inr (refl, λ none. none-some _ (sym none));
-    marks = told_marked {told = Err e} refl h.asked refl;
-    flushes = record { none_before = λ on. refl; once = omega arith };
-    turns = refl;
-    actors = refl;
-    full = λ full. absurd (false≢true full);
-    room = λ taken. absurd (false≢true taken);
+  -- It was ready and has had its turn, in which it asks for no more than it may.
+  worked : (told : Result ℕ ReadError) → HasActed stage reader k old.web web told
+      → HasWorked stage reader writer k (link_by k told) old
+      (record old { web = web; turns = old.turns + 1; failure = fault_of k told }) (is_some (fault_of k told))
+  worked told h = record {
+    ready = stage_ready other h.was_ready;
+    gone = record {
+      turned = told_turned told other h.tells.turned h.tells.read h.tells.asked;
+      marks = told_marked {told = told} refl h.tells.asked refl;
+      flushes = record { none_before = λ on. refl; once = omega arith };
+      turns = refl;
+      actors = refl;
+    };
+    changes = changes_by told h.tells;
+    little = record {
+      once = h.tells.asked.once;
+      others = λ i o. shows_alike old.web.nodes.items web.nodes.items i (h.tells.asked.others i o);
+      sink = λ start s now n r here. absurd (other (here ∙ sym (at_now n (ready_result n k r)).stand.count));
+      unasked = λ apart. refl;
+    };
   }
 
-  -- It is ready and has had its turn, in which it asks for no more than it may.
-  pub settled : {told : Result Moved ReadError} {new : Net S R W} {answer : Turned}
-      → MayAsk stage writer k old
-      → AtEach stage writer old (λ start s now. result (plan_of s) now ≡ None → k ≤ s.count
-      → is_ready (plan_of s) s.size now k ≡ true)
-      → HasTold stage reader k old.web web told → answer ≡ turned_by k told
-      → new ≡ record old { web = web; turns = old.turns + 1; failure = failed_by k told old.failure }
-      → HasWorked stage reader writer k old new answer
-  settled {told = told} m ready h turned net =
-      let so = ap (failed_by k told) (asked_unfailed m) ∙ failed_so k told in
-      rw (turned, net ∙ ap (λ f. record old { web = web; turns = old.turns + 1; failure = f }) so) (record {
-        ready = ready;
-        gone = gone told h;
-        little = record {
-          once = h.asked.once;
-          others = λ i o. shows_alike old.web.nodes.items web.nodes.items i (h.asked.others i o);
-          sink = λ start s now n r here.
-              absurd (other (here ∙ sym (at_now n (ready_result n k r)).stand.count));
-          unasked = λ apart. refl;
-        };
-      })
+  module _ (m : MayAsk stage writer k old) {new : Net S R W} where
+    pub came : (moved : Moved) → ComesTo stage reader k old.web web moved
+        → new ≡ record old { web = web; turns = turns_by moved old.turns; failure = failed_by k moved old.failure }
+        → HasCome stage reader writer k old new (turned_by moved)
+    unfolding link_by
+    came moves.Waits h net = record {
+      idle = stage_ready other h.idle;
+      same = net ∙ ap (λ w. record old { web = w }) h.same;
+    }
+    came moves.Gave h net = rw (unfailed_on m net) (worked (Ok k) h)
+    came moves.Filled h net = rw (unfailed_on m net) (worked (Ok k) h.0, h.1)
+    came (moves.Took link) h net = rw (unfailed_on m net) (worked (Ok link) h.0, h.1, h.2)
+    came (moves.Heard link) h net = rw (unfailed_on m net) (worked (Ok link) h.0, h.1)
+    came (moves.Failed e) h net = (k, rw net (worked (Err e) h))
+
+    pub given_on : (moved : Moved) → GivesOn stage reader k old.web web moved
+        → new ≡ record old { web = web; turns = turns_by moved old.turns; failure = failed_by k moved old.failure }
+        → HasGivenOn stage reader writer k old new (turned_by moved)
+    unfolding link_by
+    given_on moves.Waits h net = net ∙ ap (λ w. record old { web = w }) h
+    given_on moves.Gave h net = rw (unfailed_on m net) (worked (Ok k) h)
+    given_on moves.Filled h net = rw (unfailed_on m net) (worked (Ok k) h.0, h.1)
+    given_on (moves.Took link) h net = absurd h
+    given_on (moves.Heard link) h net = absurd h
+    given_on (moves.Failed e) h net = (k, rw net (worked (Err e) h))
+
+-- The sink was ready and has had its turn, which is counted.
+pub sunk : {S R W : Type 0} {stage : Stage S} {reader : Source R} {writer : Sink W} {k link : ℕ} {old mid : Net S R W}
+    {is_over : Bool} → k ≡ length old.web.nodes.items → SinkActed stage reader writer old mid is_over
+    → ((s : Scene) → IsAt stage old.web s → link ≡ last (plan_of s))
+    → HasWorked stage reader writer k link old (record mid { turns = mid.turns + 1 }) is_over
+sunk {k = k} {link} {mid = mid} here o last_is =
+    let turns = ap (λ n. n.turns) o.rest in
+    let actors = ap (λ n. n.actors) o.rest in
+    let takers = ap (λ n. n.takers) o.rest in
+    record {
+      ready = λ start s now h none within. sink_ready here o.was_ready start s now h none;
+      gone = record {
+        turned = rw (turns, actors, takers) (sink_turned mid.failure here o.went o.shows);
+        marks = record { reads = λ i. rw (o.unread i, or-false) (o.shows i).mark; writes = o.marked; takers = takers };
+        flushes = o.flushed_last;
+        turns = ap (λ n. n + 1) turns;
+        actors = actors;
+      };
+      changes = λ s h. inl (sink_touches s k link (here ∙ h.at.stand.count) (last_is s h.at));
+      little = record {
+        once = inl ((o.shows k).calls_made, (o.shows k).mark);
+        others = λ i other. o.shows i;
+        sink = λ start s now h ready is.
+            let may = may_write h k ready (omega (arith, is)) in
+            (o.asked (moved s now.links) may, o.flushes (moved s now.links) may);
+        unasked = λ other. absurd (other here);
+      };
+    }

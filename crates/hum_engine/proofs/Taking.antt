@@ -28,7 +28,7 @@ use Rattle.hum_engine.specs.declared.link.Link as port
 use Rattle.hum_engine.specs.Links.{Goes, next_of}
 use Rattle.hum_engine.specs.Writing.{IsFront}
 use Rattle.hum_engine.specs.Scene.{Scene, plan_of, at_of, NodesStand, LinksStand, IsTree, IsReached}
-use Rattle.hum_engine.proofs.Flags.{index_all}
+use Rattle.hum_engine.proofs.Looking.{index_all}
 use Rattle.hum_engine.proofs.Moving.{Did, put_at, put_becomes, ins_of, at_same, shows_same, nodes_set, links_set}
 
 -- What comes next from a link.

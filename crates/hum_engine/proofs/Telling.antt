@@ -19,18 +19,23 @@ use Rattle.hum_nodes.specs.Nodes.{StandsAs, is_source}
 use Rattle.hum_nodes.proofs.Followed.{read_none}
 use Rattle.hum_nodes.proofs.Standing.{any_rest, reads_few}
 use Rattle.hum_engine.specs.declared.net.Net.{Net}
-use Rattle.hum_engine.specs.declared.search.Search.{Search}
+use Rattle.hum_engine.specs.Looks.{Look, FromLeft, FromRight, Unseen, Sees, leaning, still_to_ask}
 use Rattle.hum_engine.specs.Readers.{ended_at}
 use Rattle.hum_engine.specs.Scene.{Scene, plan_of, at_of, before_all}
-use Rattle.hum_engine.specs.Search.{beginning}
-use Rattle.hum_engine.specs.Nets.{NetAt, AtEach, IsNet, IsRunning, MayAdvance, HasAdvanced, MarksFailures, IsCloser}
-use Rattle.hum_engine.specs.Nets.{still_to_ask, Sees, HasRun, Tells, HasRunOn, RunsBy}
-use Rattle.hum_engine.proofs.Advancing.{pick_now, led_on, running_on, marks_none, advanced_none, advanced_twice, may_then}
+use Rattle.hum_engine.specs.Nets.{NetAt, AtEach, IsNet, IsRunning, MayStep, HasAdvanced, MarksFailures, IsCloser}
+use Rattle.hum_engine.specs.Nets.{HasRun, Tells, HasRunOn, RunsBy}
+use Rattle.hum_engine.proofs.Advancing.{pick_now, led_on, running_on, rested_on, advanced_twice, may_then}
+use Rattle.hum_engine.proofs.Leaning.{leans_alike}
 use Rattle.hum_engine.proofs.Bounds.{turns_few}
 use Rattle.hum_engine.proofs.Netting.{ends_alike, has_told, not_over}
-use Rattle.hum_engine.proofs.Running.{first_running, now_unfailed, unfailed_at, relisted, restated, runs_to, seen}
+use Rattle.hum_engine.proofs.Running.{first_running, now_unfailed, restated, runs_to}
 use Rattle.hum_engine.proofs.Running.{no_rests}
-use Rattle.hum_engine.proofs.Searching.{sees_first, leans_first, few_still}
+
+-- few actors are still to be asked
+few_still : (look : Look) → still_to_ask look ≤ 256
+few_still (FromLeft k) = omega arith
+few_still (FromRight k) = omega arith
+few_still Unseen = omega arith
 
 second_nil : (xs ys : List ℕ) → xs ++ ys ≡ [] → ys ≡ []
 second_nil [] ys h = h
@@ -91,106 +96,132 @@ module _ {S R W : Type 0} {stage : Stage S} {writer : Sink W} where
           (rested (λ i n at src. ap (λ (r : ℕ → List ℕ). r i) is ∙ (left_at i).1 n at src) h);
     }
 
--- A run goes on. It began with these flags, by which so much was known of who is ready, and has come to this net.
+-- A run goes on, from where nothing was known of who is ready: it has come to this net, and so much is known.
 pub record Ran {S R W O : Type 0} (stage : Stage S) (reader : Source R)
-    (writer : Sink W) (order : Order O) (o p : O) (look : Option Search)
-    (old new : Net S R W) : Type 0 where
-  pub before : Option Search
-  pub flags : Vec Bool Global
-  pub len : length flags.items ≡ length old.actors.items
-  pub going : AtEach stage writer old (λ start s now. result (plan_of s) now ≡ None)
-  pub sees : AtEach stage writer old (λ start s now. Sees before s now (record old { actors = flags }))
-  pub leans : IfSome before (λ by. LeansTo by.side order.pick order.next o)
-  pub advanced : HasAdvanced stage reader writer order o p before look
-      (record old { actors = flags }) new false
+    (writer : Sink W) (order : Order O) (o p : O) (look : Look) (old new : Net S R W) : Type 0 where
+  pub may : MayStep stage writer Unseen old
+  pub advanced : HasAdvanced stage reader writer order o p Unseen look old new false
 
 module _ {S R W O : Type 0} {stage : Stage S} {reader : Source R} {writer : Sink W} {order : Order O} {o : O}
-    {old : Net S R W} (r : IsNet stage writer old) where
-  pub begun : {look : Option Search} {new : Net S R W} (to : Option Side) {sink : ℕ} {over : Bool}
-      → AtEach stage writer old (λ start s now. over ≡ is_some (result (plan_of s) now)) → over ≡ false
-      → new ≡ record old { actors = new.actors } → length new.actors.items ≡ length old.actors.items
-      → AtEach stage writer old (λ start s now. new.actors.items ≡ ready_list (plan_of s) s.size now)
-      → IfSome to (λ side. LeansTo side order.pick order.next o) → sink ≡ length new.web.nodes.items → look ≡ beginning to sink
-      → Ran stage reader writer order o o look old new
-  begun {look} {new} to {sink} {over} tells on same len list leans count is =
-      let going : AtEach stage writer old (λ start s now. result (plan_of s) now ≡ None) =
-      λ start s now h. not_over _ (tells start s now h) on in
-      let leans_so : IfSome look (λ by. LeansTo by.side order.pick order.next o) =
-      rw is (leans_first to sink order.pick order.next o leans) in
-      let first = first_running r in
-      record {
-        before = look;
-        flags = new.actors;
-        len = len;
-        going = going;
-        sees = λ start s now h. rw is (sees_first to sink s now (record old { actors = new.actors })
-            (count ∙ ap (λ (n : Net S R W). length n.web.nodes.items) same ∙ (h.going (now_unfailed h (going start s now h))).count)
-            (list start s now h));
-        leans = leans_so;
-        advanced = advanced_none leans_so (unfailed_at first.at (going first.start first.scene first.now first.at)) same;
-      }
+    {old : Net S R W} where
+  pub ran_first : MayStep stage writer Unseen old → Ran stage reader writer order o o Unseen old old
+  ran_first may = record { may = may; advanced = rested_on may refl refl (λ start s now h none sees. tt) }
 
-  module _ {p : O} {look : Option Search} {net : Net S R W} (ran : Ran stage reader writer order o p look old net) where
-    may_begin : MayAdvance stage writer order o ran.before (record old { actors = ran.flags })
-    may_begin = record {
-      step = record {
-        start = r.start;
-        scene = λ rests over. r.scene rests;
-        now = λ rests over. r.now rests;
-        rests = λ rests over. r.rests rests;
-        at = λ rests over. relisted refl ran.len (r.at rests over);
-        going = λ rests over. ran.going r.start (r.scene rests) (r.now rests) (r.at rests over);
-        sees = λ rests over. ran.sees r.start (r.scene rests) (r.now rests) (r.at rests over);
-      };
-      leans = ran.leans;
-    }
+  pub ran_left : MayStep stage writer Unseen old → Ran stage reader writer order o o (FromLeft 0) old old
+  ran_left may = record {
+    may = may;
+    advanced = rested_on may refl refl (λ start s now h none sees. (omega arith, λ j less. absurd (omega (arith, less))));
+  }
 
-    pub may_go : MayAdvance stage writer order p look net
-    may_go = may_then may_begin ran.advanced
+  pub ran_right : {sink : ℕ} → MayStep stage writer Unseen old → sink ≡ length old.web.nodes.items
+      → Ran stage reader writer order o o (FromRight sink) old old
+  ran_right {sink} may is = record {
+    may = may;
+    advanced = rested_on may refl refl (λ start s now h none sees.
+        let at : sink ≡ s.count = is ∙ (h.going (now_unfailed h none)).count in
+        (omega (arith, at), λ j more less. absurd (omega (arith, more, less, at))));
+  }
+
+  module _ {p : O} {look : Look} {net : Net S R W} (ran : Ran stage reader writer order o p look old net) where
+    pub may_go : MayStep stage writer look net
+    may_go = may_then ran.may ran.advanced
 
     -- A step more.
-    module _ {q : O} {after : Option Search} {new : Net S R W} {is_over : Bool}
+    module _ {q : O} {after : Look} {new : Net S R W} {is_over : Bool}
         (more : HasAdvanced stage reader writer order p q look after net new is_over) where
-      all : HasAdvanced stage reader writer order o q ran.before after
-          (record old { actors = ran.flags }) new is_over
-      all = advanced_twice may_begin ran.advanced more
+      all : HasAdvanced stage reader writer order o q Unseen after old new is_over
+      all = advanced_twice ran.may ran.advanced more
 
       pub ran_on : is_over ≡ false → Ran stage reader writer order o q after old new
       ran_on on = record {
-        before = ran.before;
-        flags = ran.flags;
-        len = ran.len;
-        going = ran.going;
-        sees = ran.sees;
-        leans = ran.leans;
-        advanced = subst (HasAdvanced stage reader writer order o q ran.before after
-            (record old { actors = ran.flags }) new) on all;
+        may = ran.may;
+        advanced = subst (HasAdvanced stage reader writer order o q Unseen after old new) on all;
       }
 
-      -- Its net stands for a moment still,
-      pub runs_on : IsRunning stage writer new
-      runs_on = running_on may_go.step more.stepped (λ i. []) (no_rests new)
+      pub ran_out : is_over ≡ true → HasAdvanced stage reader writer order o q Unseen after old new true
+      ran_out over = subst (HasAdvanced stage reader writer order o q Unseen after old new) over all
 
-      -- and it is over, as told.
-      module _ {by : RunResult} (over : is_over ≡ true)
-          (told : AtEach stage writer new (λ start s now. (e : RunResult) → result (plan_of s) now ≡ Some e → by ≡ e)) where
-        ends : AtEach stage writer new (λ start s now. result (plan_of s) now ≡ Some by)
-        ends start s now h =
-            let l = led_on may_go.step more.stepped (λ i. []) (no_rests new) in
-            has_told _ by (l.1.tells
-            ∙ ap is_some (ends_alike stage writer new may_go.step.start start _ s l.0.to now l.0.at h))
-            over (told start s now h)
+      -- The turns that are left become fewer.
+      pub fewer_left : is_over ≡ false → IsCloser look after net new is_over
+          → (18446744073709551616 - new.turns) * 257 + still_to_ask after
+          < (18446744073709551616 - net.turns) * 257 + still_to_ask look
+      fewer_left on closer =
+          let m = pick_now may_go in
+          let w = m.running in
+          let few = turns_few stage writer w.start w.scene net w.now (reads_few stage.stands) w.at
+          (now_unfailed w.at m.going) in
+          elim closer [
+            | inl over ↦ absurd (false≢true (sym on ∙ over))
+            | inr goes ↦ omega (arith, few, w.at.counted, goes, few_still after)
+          ]
 
-        has_run : HasRun stage reader writer order o q old new by
-        has_run = record {
-          reads = all.stepped.reads;
-          read = all.stepped.read;
-          runs = λ start s now over h.
-              let then : Scene = before_all all.stepped.reads s in
-              let d = (all.stepped.goes start s now over (relisted refl ran.len h) (ran.going start then now h)
-              (seen ran.before then s.rests now (record old { actors = ran.flags }) (ran.sees start then now h))).0 in
-              runs_to d (ends start s d.to d.at);
-        }
+-- What an order that leans to a side drives.
+pub leaned : {S R W O : Type 0} {stage : Stage S} {reader : Source R} {writer : Sink W} (to : Side) {order : Order O} {o : O}
+    {old new : Net S R W} → LeansTo to order.pick order.next o
+    → HasAdvanced stage reader writer (leaning to) tt tt Unseen Unseen old new true
+    → HasAdvanced stage reader writer order o o Unseen Unseen old new true
+leaned to {order} {o} leans h = record {
+  stepped = record {
+    reads = h.stepped.reads;
+    read = h.stepped.read;
+    goes = λ start s now over at none sees.
+        let g = h.stepped.goes start s now over at none sees in
+        let d = g.0 in (
+          record {
+            turns = d.turns;
+            counted = d.counted;
+            to = d.to;
+            driven = leans_alike to order o s leans d.turns now d.to d.driven;
+            at = d.at;
+          },
+          record { tells = g.1.tells; sees = λ going. tt },
+        );
+  };
+  marks = h.marks;
+  flushes = h.flushes;
+}
+
+module _ {S R W : Type 0} {stage : Stage S} {writer : Sink W} {old : Net S R W} (r : IsNet stage writer old) {over : Bool}
+    (tells : AtEach stage writer old (λ start s now. over ≡ is_some (result (plan_of s) now))) (on : over ≡ false) where
+  goes_yet : AtEach stage writer old (λ start s now. result (plan_of s) now ≡ None)
+  goes_yet start s now h = not_over _ (tells start s now h) on
+
+  pub may_run : MayStep stage writer Unseen old
+  may_run = record {
+    start = r.start;
+    scene = λ rests over. r.scene rests;
+    now = λ rests over. r.now rests;
+    rests = λ rests over. r.rests rests;
+    at = λ rests over. r.at rests over;
+    going = λ rests over. goes_yet r.start (r.scene rests) (r.now rests) (r.at rests over);
+    sees = λ rests over. tt;
+  }
+
+  module _ {O : Type 0} {reader : Source R} {order : Order O} {o q : O} {new : Net S R W}
+      (all : HasAdvanced stage reader writer order o q Unseen Unseen old new true) where
+    -- Its net stands for a moment still,
+    pub runs_on : IsRunning stage writer new
+    runs_on = running_on may_run all.stepped (λ i. []) (no_rests new)
+
+    -- and it is over, as told.
+    module _ {by : RunResult}
+        (told : AtEach stage writer new (λ start s now. (e : RunResult) → result (plan_of s) now ≡ Some e → by ≡ e)) where
+      ends : AtEach stage writer new (λ start s now. result (plan_of s) now ≡ Some by)
+      ends start s now h =
+          let l = led_on may_run all.stepped (λ i. []) (no_rests new) in
+          has_told _ by (l.1.tells
+          ∙ ap is_some (ends_alike stage writer new may_run.start start _ s l.0.to now l.0.at h))
+          refl (told start s now h)
+
+      has_run : HasRun stage reader writer order o q old new by
+      has_run = record {
+        reads = all.stepped.reads;
+        read = all.stepped.read;
+        runs = λ start s now over h.
+            let then : Scene = before_all all.stepped.reads s in
+            let d = (all.stepped.goes start s now over h (goes_yet start then now h) tt).0 in
+            runs_to d (ends start s d.to d.at);
+      }
 
 module _ {S R W O : Type 0} {stage : Stage S} {reader : Source R}
     {writer : Sink W} {order : Order O} {o : O} {old : Net S R W} where
@@ -229,30 +260,15 @@ module _ {S R W O : Type 0} {stage : Stage S} {reader : Source R}
         runs = λ start s now over h.
             runs_to (record { turns = []; counted = omega arith; to = now; driven = (still now, refl); at = h }) (ends start s now h);
       })
-      (first_running r) ends (λ none. marks_none refl none) (omega arith) (λ start s now h e is. (told start s now h e is, refl, refl))
+      (first_running r) ends (λ none. record { reads = λ i. grind (arith, none); writes = grind (arith, none); takers = refl }) (omega arith) (λ start s now h e is. (told start s now h e is, refl, refl))
 
-  module _ {p q : O} {look after : Option Search} {net new : Net S R W} {is_over : Bool} (r : IsNet stage writer old)
-      (ran : Ran stage reader writer order o p look old net)
-      (more : HasAdvanced stage reader writer order p q look after net new is_over) where
-    pub ran_out : {by : RunResult} → is_over ≡ true
-        → AtEach stage writer new (λ start s now. (e : RunResult) → result (plan_of s) now ≡ Some e → by ≡ e)
-        → RunsBy stage reader writer order o q old new by
-    ran_out over told =
-        let marks = (all r ran more).marks in
-        runs_by (has_run r ran more over told) (runs_on r ran more) (ends r ran more over told)
-        (λ none. record { reads = marks.reads; writes = marks.writes; takers = marks.takers }) (all r ran more).flushes.once
-        (λ start s now h e is. absurd (none-some e (sym (ran.going start s now h) ∙ is)))
-
-    -- The turns that are left become fewer.
-    pub fewer_left : is_over ≡ false → IsCloser look after net new is_over
-        → (18446744073709551616 - new.turns) * 257 + still_to_ask after
-        < (18446744073709551616 - net.turns) * 257 + still_to_ask look
-    fewer_left on closer =
-        let m = pick_now (may_go r ran).step in
-        let w = m.running in
-        let few = turns_few stage writer w.start w.scene net w.now (reads_few stage.stands) w.at
-        (now_unfailed w.at m.going) in
-        elim closer [
-          | inl over ↦ absurd (false≢true (sym on ∙ over))
-          | inr goes ↦ omega (arith, few, w.at.counted, goes, few_still after)
-        ]
+  -- It has come to its end.
+  pub ran_whole : {q : O} {new : Net S R W} {by : RunResult} {over : Bool} (r : IsNet stage writer old)
+      → (tells : AtEach stage writer old (λ start s now. over ≡ is_some (result (plan_of s) now))) → (on : over ≡ false)
+      → HasAdvanced stage reader writer order o q Unseen Unseen old new true
+      → AtEach stage writer new (λ start s now. (e : RunResult) → result (plan_of s) now ≡ Some e → by ≡ e)
+      → RunsBy stage reader writer order o q old new by
+  ran_whole r tells on all told =
+      runs_by (has_run r tells on all told) (runs_on r tells on all) (ends r tells on all told) (λ none. all.marks)
+      all.flushes.once
+      (λ start s now h e is. absurd (none-some e (sym (goes_yet r tells on start s now h) ∙ is)))

@@ -1,5 +1,5 @@
 pub mod Readers
-pub mod Search
+pub mod Looks
 pub mod Scene
 pub mod Told
 pub mod Nets

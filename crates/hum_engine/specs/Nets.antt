@@ -16,7 +16,6 @@ use Rattle.hum_turns.specs.Flow.{Begins}
 use Rattle.hum_turns.specs.Plan.{Plan, KeepsFine, last}
 use Rattle.hum_turns.specs.Meaning.{plan_meaning, first_fault, IsNumbered}
 use Rattle.hum_turns.specs.Orders.{Order, Driven, LeansTo, ready_list, choice}
-use Rattle.hum_turns.specs.declared.order.Side.TheVariants as side
 use Rattle.hum_turns.specs.Counts.{turns_of, most}
 use Rattle.hum_turns.specs.Links.{Moment, has_room, has_some, linked}
 use Rattle.hum_turns.specs.Turns.{Gives, Takes, state}
@@ -32,17 +31,16 @@ use Rattle.hum_read.specs.declared.ReadError.{ReadError}
 use Rattle.hum_read.specs.declared.ReadError.TheVariants as error
 use Rattle.hum_engine.specs.declared.web.Web.{Web}
 use Rattle.hum_engine.specs.declared.web.Moved.{Moved}
+use Rattle.hum_engine.specs.declared.web.Moved.TheVariants as moves
 use Rattle.hum_engine.specs.declared.net.Net.{Net}
 use Rattle.hum_engine.specs.declared.net.Turned.{Turned}
-use Rattle.hum_engine.specs.declared.net.Stepped.{Stepped as Step}
-use Rattle.hum_engine.specs.declared.net.Stepped.TheVariants as steps
+use Rattle.hum_engine.specs.declared.net.Turned.TheVariants as turns
 use Rattle.hum_engine.specs.Readers.{ended_at, failed_at, is_read_of, is_write, ShowsSame, HaveRead, AsksOnce}
 use Rattle.hum_engine.specs.Scene.{Scene, plan_of, moved, before_all, Stands, IsAt, IsNetPlan, IsBegun, Done}
-use Rattle.hum_engine.specs.Scene.{IsActor, AreTakers, TakesFrom, IsFull, HasRoom}
+use Rattle.hum_engine.specs.Scene.{IsActor, AreTakers, IsFull, HasRoom}
 use Rattle.hum_engine.specs.Scene.{KeepsOthers}
-use Rattle.hum_engine.specs.declared.search.Search.{Search}
 use Rattle.hum_engine.specs.Writing.{WroteFront as WroteSome}
-use Rattle.hum_engine.specs.Search.{IsNearer, left_to_ask}
+use Rattle.hum_engine.specs.Looks.{Look, Sees, still_to_ask}
 
 -- A record was written. Where that has failed a prefix of it was, and the run is over.
 pub record HasSent {S R W : Type 0} (writer : Sink W) (row : Row) (old new : Net S R W) (is_over : Bool)
@@ -152,10 +150,6 @@ AtEach stage writer net Holds =
     (start : Option (List ℕ)) (s : Scene) (now : Now Row)
     → NetAt stage writer start s net now → Holds start s now
 
--- these flags, of which the one of actor k says whether that is ready
-abbrev pub flagged : Scene → Now Row → ℕ → List Bool → List Bool
-flagged s now k flags = slice_set flags k (is_ready (plan_of s) s.size now k)
-
 -- Each actor has had no more turns than what it moved allows.
 abbrev pub HadFewEach : {S R W : Type 0} → Stage S → Sink W → Net S R W → Type 0
 HadFewEach stage writer net =
@@ -213,38 +207,6 @@ pub record IsAmong {S R W : Type 0} (stage : Stage S) (writer : Sink W) (k : ℕ
   pub running : IsRunning stage writer net
   pub within : k ≤ running.scene.count
 
--- Stage k reads bytes or gives next, and its link is full: so it stays until a record is taken from that.
-pub record IsHeldUp (s : Scene) (m : Moment Row) (k : ℕ) : Type 0 where
-  pub gives : (reads_bytes (plan_of s) k ≡ true) ⊎ (state (plan_of s) m k ≡ Gives)
-  pub full : has_room s.size (m k) ≡ false
-
--- Nobody nearer to the side than the actor that is asked next is ready, nor anyone between it and the
--- one that is asked behind it, which stands further from the side where anyone does. On the left whoever
--- stands between is held up, or doesn't take from the actor that is asked next.
-pub record IsFront (look : Search) (s : Scene) (now : Now Row) : Type 0 where
-  pub within : look.from ≤ s.count
-  pub nearer : (j : ℕ) → j ≤ s.count → IsNearer look.side j look.from
-      → is_ready (plan_of s) s.size now j ≡ false
-  pub between : (j : ℕ) → j ≤ s.count → IsNearer look.side look.from j
-      → IsNearer look.side j look.behind → is_ready (plan_of s) s.size now j ≡ false
-  pub beyond : (j : ℕ) → j ≤ s.count → IsNearer look.side look.from j
-      → IsNearer look.side look.from look.behind
-  pub last : look.behind ≤ s.count + 1
-  pub waits : (j : ℕ) → look.side ≡ side.Left → look.from < j → j < look.behind
-      → (TakesFrom s.count s.kinds j look.from → ⊥) ⊎ IsHeldUp s now.links j
-
--- What is known of who is ready: of each by the flags, or what a search knows.
-abbrev pub Sees : {S R W : Type 0} → Option Search → Scene → Now Row → Net S R W → Type 0
-Sees None s now net = net.actors.items ≡ ready_list (plan_of s) s.size now
-Sees (Some look) s now net = IsFront look s now
-
--- While the run goes on, an actor is picked by that.
-pub record MayPick {S R W : Type 0} (stage : Stage S) (writer : Sink W) (look : Option Search) (net : Net S R W)
-    : Type 0 where
-  pub running : IsRunning stage writer net
-  pub going : result (plan_of running.scene) running.now ≡ None
-  pub sees : Sees look running.scene running.now net
-
 -- While the run goes on, this actor may be asked.
 pub record MayAsk {S R W : Type 0} (stage : Stage S) (writer : Sink W) (k : ℕ) (net : Net S R W) : Type 0 where
   pub running : IsRunning stage writer net
@@ -257,34 +219,37 @@ pub record HasPicked {O : Type 0} (order : Order O) (plan : Plan Row) (size : �
   pub choice : actor ≡ choice order plan size o now
   pub next : p ≡ order.next o (ready_list plan size now)
 
--- The actor that is asked next: where the search stands or, without one, the order's pick.
-pub record IsNext {S R W O : Type 0} (stage : Stage S) (writer : Sink W) (order : Order O) (o p : O)
-    (look : Option Search) (net : Net S R W) (actor : ℕ) : Type 0 where
-  pub from : IfSome look (λ look. (actor ≡ look.from) × (p ≡ o))
-  pub picked : look ≡ None → AtEach stage writer net (λ start s now. result (plan_of s) now ≡ None
-      → Sees None s now net → HasPicked order (plan_of s) s.size o p now actor)
-
 -- how stage k ends a run by this
 abbrev pub fault_by : ℕ → ReadError → RunResult
 fault_by k error.Read = ends.Read (k + 1)
 fault_by k error.Memory = ends.Memory
 
--- how a net has failed whose stage k has told this of its turn; as before, where that didn't fail
-abbrev pub failed_by : ℕ → Result Moved ReadError → Option RunResult → Option RunResult
-failed_by k (Ok moved) failure = failure
-failed_by k (Err error) failure = Some (fault_by k error)
+-- how a net has failed whose stage k has come to this in its turn; as before, where that didn't fail
+abbrev pub failed_by : ℕ → Moved → Option RunResult → Option RunResult
+failed_by k moves.Waits failure = failure
+failed_by k moves.Gave failure = failure
+failed_by k moves.Filled failure = failure
+failed_by k (moves.Took link) failure = failure
+failed_by k (moves.Heard link) failure = failure
+failed_by k (moves.Failed error) failure = Some (fault_by k error)
 
 -- what that turn is to the net
-abbrev pub turned_by : ℕ → Result Moved ReadError → Turned
-turned_by k (Ok moved) =
-    record { link = moved.link; is_over = false; is_full = moved.is_full; has_taken = moved.has_taken }
-turned_by k (Err error) = record { link = k; is_over = true; is_full = false; has_taken = false }
+abbrev pub turned_by : Moved → Turned
+turned_by moves.Waits = turns.Waits
+turned_by moves.Gave = turns.Gave
+turned_by moves.Filled = turns.Filled
+turned_by (moves.Took link) = turns.Took link
+turned_by (moves.Heard link) = turns.Heard link
+turned_by (moves.Failed error) = turns.Over
 
--- whether a run is over behind a step
-abbrev pub is_over : Step → Bool
-is_over steps.On = false
-is_over steps.Room = false
-is_over steps.Over = true
+-- it counts, if it was one
+abbrev pub turns_by : Moved → ℕ → ℕ
+turns_by moves.Waits turns = turns
+turns_by moves.Gave turns = turns + 1
+turns_by moves.Filled turns = turns + 1
+turns_by (moves.Took link) turns = turns + 1
+turns_by (moves.Heard link) turns = turns + 1
+turns_by (moves.Failed error) turns = turns + 1
 
 -- The link that a turn of actor k has changed; where it has failed, its own may stand for it.
 abbrev pub IsChanged : ℕ → Scene → Option RunResult → ℕ → Type 0
@@ -299,26 +264,14 @@ pub record MarksFailures {S R W : Type 0} (reader : Source R) (writer : Sink W) 
   pub writes : writer.failed new.sink ≡ (writer.failed old.sink || is_write new.failure)
   pub takers : new.takers ≡ old.takers
 
--- The actor has had its turn, which tells what it has come to.
+-- The actor has had its turn, and the run is over or isn't.
 pub record HasGone {S R W : Type 0} (stage : Stage S) (reader : Source R) (writer : Sink W) (k : ℕ)
-    (old new : Net S R W) (answer : Turned) : Type 0 where
-  pub turned : HasTurned stage reader writer k old new answer.is_over
-  pub link : (s : Scene) → IsActor stage k old.web s → IsChanged k s new.failure answer.link
+    (old new : Net S R W) (is_over : Bool) : Type 0 where
+  pub turned : HasTurned stage reader writer k old new is_over
   pub marks : MarksFailures reader writer old new
-  pub flushes : FlushesLast (writer.flushes old.sink) (writer.flushes new.sink) answer.is_over
+  pub flushes : FlushesLast (writer.flushes old.sink) (writer.flushes new.sink) is_over
   pub turns : new.turns ≡ old.turns + 1
   pub actors : new.actors ≡ old.actors
-  pub full : answer.is_full ≡ true → IsFull k new.web
-  pub room : answer.has_taken ≡ true → (answer.link < k) × HasRoom answer.link new.web
-
--- Actor k was ready and has had its turn, in which it has changed this link.
-pub record HasMoved {S R W : Type 0} (stage : Stage S) (reader : Source R) (writer : Sink W) (k link : ℕ)
-    (old new : Net S R W) (is_over : Bool) : Type 0 where
-  pub ready : AtEach stage writer old (λ start s now. result (plan_of s) now ≡ None
-      → is_ready (plan_of s) s.size now k ≡ true)
-  pub turned : HasTurned stage reader writer k old new is_over
-  pub changes : (s : Scene) → IsActor stage k old.web s → IsChanged k s new.failure link
-  pub turns : new.turns ≡ old.turns + 1
 
 -- In a turn of an actor its reader is called once at most, and no other. The sink is asked for no write
 -- but those of the record that it takes, or for one flush at the end; by a stage for nothing.
@@ -341,13 +294,36 @@ pub record HasRested {S R W : Type 0} (stage : Stage S) (writer : Sink W) (k : �
       → is_ready (plan_of s) s.size now k ≡ false)
   pub same : new ≡ old
 
--- It is ready and has had its turn, in which it asks little.
-pub record HasWorked {S R W : Type 0} (stage : Stage S) (reader : Source R) (writer : Sink W) (k : ℕ)
-    (old new : Net S R W) (answer : Turned) : Type 0 where
+-- It is ready and has had its turn, in which it has changed this link and asks little.
+pub record HasWorked {S R W : Type 0} (stage : Stage S) (reader : Source R) (writer : Sink W) (k link : ℕ)
+    (old new : Net S R W) (is_over : Bool) : Type 0 where
   pub ready : AtEach stage writer old (λ start s now. result (plan_of s) now ≡ None → k ≤ s.count
       → is_ready (plan_of s) s.size now k ≡ true)
-  pub gone : HasGone stage reader writer k old new answer
+  pub gone : HasGone stage reader writer k old new is_over
+  pub changes : (s : Scene) → IsActor stage k old.web s → IsChanged k s new.failure link
   pub little : AsksLittle stage reader writer k old new
+
+-- What a turn of actor k comes to. Where it has taken a record, that link has room.
+abbrev pub HasCome : {S R W : Type 0} → Stage S → Source R → Sink W → ℕ → Net S R W → Net S R W → Turned → Type 0
+HasCome stage reader writer k old new turns.Waits = HasRested stage writer k old new
+HasCome stage reader writer k old new turns.Gave = HasWorked stage reader writer k k old new false
+HasCome stage reader writer k old new turns.Filled =
+    HasWorked stage reader writer k k old new false × IsFull k new.web
+HasCome stage reader writer k old new (turns.Took link) =
+    HasWorked stage reader writer k link old new false × (link < k) × HasRoom link new.web
+HasCome stage reader writer k old new (turns.Heard link) =
+    HasWorked stage reader writer k link old new false × (link < k)
+HasCome stage reader writer k old new turns.Over = (link : ℕ) × HasWorked stage reader writer k link old new true
+
+-- What it comes to where it gives or reads at once.
+abbrev pub HasGivenOn : {S R W : Type 0} → Stage S → Source R → Sink W → ℕ → Net S R W → Net S R W → Turned → Type 0
+HasGivenOn stage reader writer k old new turns.Waits = new ≡ old
+HasGivenOn stage reader writer k old new turns.Gave = HasWorked stage reader writer k k old new false
+HasGivenOn stage reader writer k old new turns.Filled =
+    HasWorked stage reader writer k k old new false × IsFull k new.web
+HasGivenOn stage reader writer k old new (turns.Took link) = ⊥
+HasGivenOn stage reader writer k old new (turns.Heard link) = ⊥
+HasGivenOn stage reader writer k old new turns.Over = (link : ℕ) × HasWorked stage reader writer k link old new true
 
 -- A prefix of the plan's text was written.
 pub record WroteFront (s : Scene) (start held : Option (List ℕ)) : Type 0 where
@@ -379,43 +355,31 @@ pub record Leads {S R W O : Type 0} (stage : Stage S) (writer : Sink W) (order :
   pub at : NetAt stage writer start s net to
 
 -- It is known whether the run is over and, while it isn't, who is ready.
-pub record Watches {S R W : Type 0} (look : Option Search) (is_over : Bool) (s : Scene) (now : Now Row)
-    (net : Net S R W) : Type 0 where
+pub record Watches (look : Look) (is_over : Bool) (s : Scene) (now : Now Row) : Type 0 where
   pub tells : is_over ≡ is_some (result (plan_of s) now)
-  pub sees : result (plan_of s) now ≡ None → Sees look s now net
+  pub sees : result (plan_of s) now ≡ None → Sees look s now
 
 -- A step of a run that goes on: the sources have read these bytes. However they go on, the order's
--- picks have led the net on, and what is known of who is ready holds still.
+-- picks have led the net on, and so much is known of who is ready.
 pub record HasStepped {S R W O : Type 0} (stage : Stage S) (reader : Source R) (writer : Sink W)
-    (order : Order O) (o p : O) (before after : Option Search) (old new : Net S R W) (is_over : Bool)
-    : Type 0 where
+    (order : Order O) (o p : O) (before after : Look) (old new : Net S R W) (is_over : Bool) : Type 0 where
   pub reads : ℕ → List ℕ
   pub read : HaveRead reader old.web.nodes.items new.web.nodes.items reads
   pub goes : (start : Option (List ℕ)) (s : Scene) (now : Now Row)
       → AreOver new.web.nodes.items s.rests
       → NetAt stage writer start (before_all reads s) old now
-      → result (plan_of s) now ≡ None → Sees before s now old
-      → (d : Leads stage writer order o p start s now old.turns new)
-      × Watches after is_over s d.to new
+      → result (plan_of s) now ≡ None → Sees before s now
+      → (d : Leads stage writer order o p start s now old.turns new) × Watches after is_over s d.to
 
--- It has gone on by some turns, and the order leans there still. A failed read or write has ended it exactly where
--- a call has failed.
+-- It has gone on by some turns. A failed read or write has ended it exactly where a call has failed.
 pub record HasAdvanced {S R W O : Type 0} (stage : Stage S) (reader : Source R) (writer : Sink W)
-    (order : Order O) (o p : O) (before after : Option Search) (old new : Net S R W) (is_over : Bool)
-    : Type 0 where
+    (order : Order O) (o p : O) (before after : Look) (old new : Net S R W) (is_over : Bool) : Type 0 where
   pub stepped : HasStepped stage reader writer order o p before after old new is_over
-  pub leans : IfSome after (λ look. LeansTo look.side order.pick order.next p)
   pub marks : MarksFailures reader writer old new
   pub flushes : FlushesLast (writer.flushes old.sink) (writer.flushes new.sink) is_over
 
--- how many actors are still asked at most before one is ready
-abbrev pub still_to_ask : Option Search → ℕ
-still_to_ask None = 0
-still_to_ask (Some look) = left_to_ask look.side look.from
-
 -- Steps that don't end the run are some turns, or leave fewer actors to ask.
-abbrev pub IsCloser : {S R W : Type 0} → Option Search → Option Search → Net S R W → Net S R W
-    → Bool → Type 0
+abbrev pub IsCloser : {S R W : Type 0} → Look → Look → Net S R W → Net S R W → Bool → Type 0
 IsCloser before after old new is_over =
     (is_over ≡ true) ⊎ (old.turns < new.turns)
     ⊎ ((new.turns ≡ old.turns) × (still_to_ask after < still_to_ask before))
@@ -453,7 +417,7 @@ pub record IsNet {S R W : Type 0} (stage : Stage S) (writer : Sink W) (net : Net
       → NetAt stage writer start (scene rests) net (now rests)
 
 -- However they go on behind what was read, the run goes on too, and so much is known of who is ready.
-pub record MayStep {S R W : Type 0} (stage : Stage S) (writer : Sink W) (look : Option Search) (net : Net S R W)
+pub record MayStep {S R W : Type 0} (stage : Stage S) (writer : Sink W) (look : Look) (net : Net S R W)
     : Type 0 where
   pub start : Option (List ℕ)
   pub scene : (rests : ℕ → List ℕ) → AreOver net.web.nodes.items rests → Scene
@@ -465,13 +429,7 @@ pub record MayStep {S R W : Type 0} (stage : Stage S) (writer : Sink W) (look : 
   pub going : (rests : ℕ → List ℕ) (over : AreOver net.web.nodes.items rests)
       → result (plan_of (scene rests over)) (now rests over) ≡ None
   pub sees : (rests : ℕ → List ℕ) (over : AreOver net.web.nodes.items rests)
-      → Sees look (scene rests over) (now rests over) net
-
--- A run goes on, by an order that leans to the side that the search looks from.
-pub record MayAdvance {S R W O : Type 0} (stage : Stage S) (writer : Sink W) (order : Order O) (o : O)
-    (look : Option Search) (net : Net S R W) : Type 0 where
-  pub step : MayStep stage writer look net
-  pub leans : IfSome look (λ look. LeansTo look.side order.pick order.next o)
+      → Sees look (scene rests over) (now rests over)
 
 -- Nodes that were asked nothing yet, of a plan by what is still to come of the bytes.
 pub record AreBegun {S R : Type 0} (stage : Stage S) (size : ℕ) (nodes : List (Node S R))

@@ -23,7 +23,7 @@ use Rattle.hum_nodes.specs.Doing.{Doing}
 use Rattle.hum_nodes.specs.Doing as does
 use Rattle.hum_stage.specs.declared.faults.Readiness.{Readiness}
 use Rattle.hum_nodes.specs.declared.node.Node.{Node}
-use Rattle.hum_nodes.specs.Nodes.{StandsAs, is_source, gives_next, remaining_of, ended_of}
+use Rattle.hum_nodes.specs.Nodes.{StandsAs, is_source, remaining_of, ended_of}
 use Rattle.hum_engine.specs.declared.link.Link.{Link}
 use Rattle.hum_engine.specs.Links.{IsLink, room}
 use Rattle.hum_engine.specs.declared.web.Web.{Web}
@@ -214,21 +214,17 @@ pub record HoldsFew (s : Scene) (m : Moment Row) (k many : ℕ) : Type 0 where
       → IsWithinLag n meaning → many ≤ n + 1
   pub each : k < s.count → HoldsOneEach (s.kinds k) (length (s.kinds k).stage.sources) many
 
--- the link of stage k has no room
-abbrev pub HasFullLink : {S R : Type 0} → ℕ → Web S R → Type 0
-HasFullLink k web = (link : Link) → slice_get web.links.items k ≡ Some link → room link ≡ false
-
 -- The link of stage k has room.
 pub record HasRoom {S R : Type 0} (k : ℕ) (web : Web S R) : Type 0 where
   pub link : Link
   pub its : slice_get web.links.items k ≡ Some link
   pub room : room link ≡ true
 
--- Stage k reads bytes or gives next, and its link is full.
+-- Stage k is a source, and its link is full.
 pub record IsFull {S R : Type 0} (k : ℕ) (web : Web S R) : Type 0 where
   pub node : Node S R
   pub is : slice_get web.nodes.items k ≡ Some node
-  pub gives : (is_source node ≡ true) ⊎ (gives_next node ≡ true)
+  pub source : is_source node ≡ true
   pub link : Link
   pub its : slice_get web.links.items k ≡ Some link
   pub full : room link ≡ false

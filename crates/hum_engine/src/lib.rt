@@ -9,12 +9,11 @@
 
 mod link;
 mod net;
-mod search;
 mod takers;
 mod web;
 mod writing;
 
 pub use link::{Link, Taken};
-pub use net::{Net, Turned};
+pub use net::Net;
 pub use web::Web;
 pub use writing::{WriteFailed, write_record};

@@ -1,7 +1,7 @@
 //! A web whose last stage is written.
-ghost use Rattle.std.specs.Prelude.{◌≡◌, ◌≢◌, ◌⊎◌, ◌≤◌, ◌<◌, ◌+◌, ◌-◌, ◌||◌, ◌^◌, ℕ, true, false};
-ghost use Rattle.std.specs.Prelude.{List, length, Option, None, Some, is_some};
-ghost use Rattle.std.specs.Prelude.{IfSome, MatchOption, IfOk, IfErr};
+ghost use Rattle.std.specs.Prelude.{◌≡◌, ◌≤◌, ◌<◌, ◌+◌, ◌-◌, ◌^◌, ℕ, true};
+ghost use Rattle.std.specs.Prelude.{List, length, Option, None, Some, is_some, is_none};
+ghost use Rattle.std.specs.Prelude.{MatchOption, IfOk, IfErr};
 ghost use Rattle.hum_score.specs.Row.{Row};
 ghost use Rattle.hum_turns.specs.Plan.{last};
 ghost use Rattle.hum_turns.specs.declared.result.RunResult.TheVariants as ends;
@@ -12,17 +12,16 @@ ghost use Rattle.hum_turns.specs.Counts.{most_in_all};
 ghost use Rattle.hum_turns.specs.Holds.{SomeReady};
 ghost use Rattle.hum_engine.specs.Scene.{Scene, plan_of, Somewhere, IsAt, IsNetPlan, IsBegun};
 ghost use Rattle.hum_engine.specs.Scene.{held_of, rooms_of, HoldsFew, HasRoom};
-ghost use Rattle.hum_engine.specs.Search.{is_left};
-ghost use Rattle.hum_engine.specs.declared.net.Stepped.TheVariants as steps;
+ghost use Rattle.hum_turns.specs.declared.order.Side.TheVariants as side;
+ghost use Rattle.hum_engine.specs.Looks as looks;
+ghost use Rattle.hum_engine.specs.Looks.{leaning, left_at, right_at};
 ghost use Rattle.hum_engine.specs.Nets.{HasSent, SinkWaited, SinkActed, MayGo, IsRunning, IsAmong};
-ghost use Rattle.hum_engine.specs.Nets.{HadFewEach, IsLinked, flagged};
+ghost use Rattle.hum_engine.specs.Nets.{HadFewEach, IsLinked};
 ghost use Rattle.hum_engine.specs.Nets.{NetAt, AtEach, AreBegun, IsNet, RunsBy, WroteFront};
-ghost use Rattle.hum_engine.specs.Nets.{MayPick, IsNext, MayAsk, HasRested, HasWorked};
-ghost use Rattle.hum_engine.specs.Nets.{HasGone, AsksLittle, fault_by, turned_by, failed_by, is_over};
-ghost use Rattle.hum_engine.specs.Nets.{MayAdvance, HasAdvanced, IsCloser};
+ghost use Rattle.hum_engine.specs.Nets.{MayAsk, HasCome, HasGivenOn, HasGone, AsksLittle};
+ghost use Rattle.hum_engine.specs.Nets.{fault_by, turned_by, turns_by, failed_by, MayStep, HasAdvanced, IsCloser};
 
 use crate::link::Taken;
-use crate::search::Search;
 use crate::takers::takers_of;
 use crate::web::{Moved, Web};
 use crate::writing::write_record;
@@ -31,7 +30,7 @@ use hum_read::ReadError;
 use hum_record::Record;
 use hum_stage::Stage;
 use hum_text::calls::{Sink, Source};
-use hum_turns::{Order, RunResult, choose};
+use hum_turns::{Order, RunResult, Side, choose};
 use std::alloc::Global;
 
 /// Nodes and links, what the last stage is written to, and the failure that has ended the run.
@@ -49,24 +48,17 @@ pub struct Net<S, R, W> {
 
 /// What a turn has come to.
 #[derive(Clone, Copy)]
-pub struct Turned {
-    /// The link that it has changed; its own, where the actor has failed.
-    pub link: usize,
-    /// Whether the run is over.
-    pub is_over: bool,
-    /// Whether the actor is known to give or to read next, and its link to be full.
-    pub is_full: bool,
-    /// Whether the actor has taken a record from that link, which then has room, and the run isn't over.
-    pub has_taken: bool,
-}
-
-/// What a step of a run has come to.
-#[derive(Clone, Copy)]
-enum Stepped {
-    /// The run goes on.
-    On,
-    /// So it does, and from the left room has come on the link of the stage that is asked next.
-    Room,
+enum Turned {
+    /// The actor isn't ready, and nothing has changed.
+    Waits,
+    /// It has changed its own link alone.
+    Gave,
+    /// It is a source, and what it gave has filled its link.
+    Filled,
+    /// It has taken a record from this link.
+    Took(usize),
+    /// It has heard the end on this link.
+    Heard(usize),
     /// The run is over.
     Over,
 }
@@ -127,35 +119,30 @@ impl<S: Stage + Drop, R: Source + Drop, W: Sink> Net<S, R, W> {
         self.failure = Some(RunResult::Write);
     }
 
-    // Counts the turn of a stage, which has told what it has come to. A failure ends the run.
+    // Counts the turn of a stage, which tells what it has come to. A failure ends the run.
     #[inline(always)]
-    fn settle(&mut self, k: usize, told: Result<Moved, ReadError>) -> Turned
+    fn settle(&mut self, k: usize, moved: Moved) -> Turned
         requires number { k < 255 }
         requires few { self.old.turns < 2 ^ 64 - 1 }
-        ensures turned { result ≡ turned_by k told }
+        ensures turned { result ≡ turned_by moved }
         ensures net { self.new ≡ record self.old {
-          turns = self.old.turns + 1;
-          failure = failed_by k told self.old.failure;
+          turns = turns_by moved self.old.turns;
+          failure = failed_by k moved self.old.failure;
         } }
     {
-        self.turns += 1;
-        match told {
-            Ok(moved) => {
-                return Turned {
-                    link: moved.link,
-                    is_over: false,
-                    is_full: moved.is_full,
-                    has_taken: moved.has_taken,
-                };
+        let turned = match moved {
+            Moved::Waits => return Turned::Waits,
+            Moved::Gave => Turned::Gave,
+            Moved::Filled => Turned::Filled,
+            Moved::Took(link) => Turned::Took(link),
+            Moved::Heard(link) => Turned::Heard(link),
+            Moved::Failed(error) => {
+                self.fail(k, error);
+                Turned::Over
             }
-            Err(error) => self.fail(k, error),
-        }
-        Turned {
-            link: k,
-            is_over: true,
-            is_full: false,
-            has_taken: false,
-        }
+        };
+        self.turns += 1;
+        turned
     }
 
     /// A net of nodes that were asked nothing yet, with links of this size, from 1 to 4,096.
@@ -212,34 +199,6 @@ impl<S: Stage + Drop, R: Source + Drop, W: Sink> Net<S, R, W> {
         }
     }
 
-    // Sets the flag of an actor. While the run goes on it says whether that one is ready.
-    #[inline(always)]
-    fn ask(&mut self, k: usize)
-        requires { MayAsk S.Stage W.Sink k self.old }
-        ensures same { self.new ≡ record self.old { actors = self.new.actors } }
-        ensures len { length self.new.actors.items ≡ length self.old.actors.items }
-        ensures list { AtEach S.Stage W.Sink self.old
-            (λ start s now. ended (plan_of s) now ≡ None → k ≤ s.count
-            → self.new.actors.items ≡ flagged s now k self.old.actors.items) }
-    {
-        let is = self.web.ready(k);
-        self.actors[k] = is;
-    }
-
-    // Sets the flags of the two ends of a link.
-    fn ask_both(&mut self, link: usize, taker: usize)
-        requires link { MayAsk S.Stage W.Sink link self.old }
-        requires taker { MayAsk S.Stage W.Sink taker self.old }
-        ensures same { self.new ≡ record self.old { actors = self.new.actors } }
-        ensures len { length self.new.actors.items ≡ length self.old.actors.items }
-        ensures list { AtEach S.Stage W.Sink self.old
-            (λ start s now. ended (plan_of s) now ≡ None → link ≤ s.count → taker ≤ s.count
-            → self.new.actors.items ≡ flagged s now taker (flagged s now link self.old.actors.items)) }
-    {
-        self.ask(link);
-        self.ask(taker);
-    }
-
     // How a run ended that is over.
     #[inline(never)]
     fn told(&self) -> RunResult
@@ -253,101 +212,56 @@ impl<S: Stage + Drop, R: Source + Drop, W: Sink> Net<S, R, W> {
         }
     }
 
-    // The actor that is asked next: where a search stands, or else the order's pick by the flags.
+    // A turn of this actor, if it is ready.
     #[inline(always)]
-    fn next<O: Order>(&self, order: &mut O, search: &Option<Search>) -> usize
-        requires { MayPick S.Stage W.Sink search.now self.now }
-        ensures { IsNext S.Stage W.Sink (order_of O.Order) order.old order.new search.now self.now result }
+    fn act(&mut self, k: usize) -> Turned
+        requires { MayAsk S.Stage W.Sink k self.old }
+        ensures { HasCome S.Stage R.Source W.Sink k self.old self.new result }
     {
-        if let Some(search) = search {
-            return search.from();
+        if k == self.web.count() {
+            let last = self.web.last();
+            let Some(is_over) = self.sink_turn() else {
+                return Turned::Waits;
+            };
+            self.turns += 1;
+            if is_over {
+                return Turned::Over;
+            }
+            return Turned::Took(last);
         }
-        let pick = order.pick(&self.actors);
-        choose(&self.actors, pick)
+        let moved = self.web.turn(k);
+        self.settle(k, moved)
     }
 
-    // Asks the actor that is next and, if it is ready, gives it its turn.
+    // The turn of a stage whose link has room, if it gives or reads at once.
     #[inline(always)]
-    fn step<O: Order>(&mut self, order: &mut O, search: &mut Option<Search>) -> Stepped
-        requires may { MayAdvance S.Stage W.Sink (order_of O.Order) order.old search.old self.old }
-        ensures advanced { HasAdvanced S.Stage R.Source W.Sink (order_of O.Order) order.old order.new search.old
-            search.new self.old self.new (is_over result) }
-        ensures closer { IsCloser search.old search.new self.old self.new (is_over result) }
-        ensures room { result ≡ steps.Room → IfSome search.new
-            (λ search. (is_left search.side ≡ true) × HasRoom search.from self.new.web) }
-        ensures turns { result ≡ steps.Room → self.new.turns ≡ self.old.turns + 1 }
+    fn give_on(&mut self, k: usize) -> Turned
+        requires ask { MayAsk S.Stage W.Sink k self.old }
+        requires room { HasRoom k self.old.web }
+        ensures { HasGivenOn S.Stage R.Source W.Sink k self.old self.new result }
     {
-        let actor = self.next(order, search);
-        let Some(turned) = self.turn_if_ready(actor) else {
-            if let Some(search) = search {
-                search.pass();
-            }
-            return Stepped::On;
-        };
-        if turned.is_over {
-            return Stepped::Over;
-        }
-        match search {
-            Some(search) => {
-                if search.is_left() && turned.has_taken {
-                    search.reach(turned.link, turned.is_full);
-                    return Stepped::Room;
-                }
-                if search.is_left() && turned.is_full {
-                    search.skip(turned.link);
-                } else {
-                    search.change(turned.link, &self.takers);
-                }
-            }
-            None => {
-                let taker = self.takers[turned.link];
-                self.ask_both(turned.link, taker);
-            }
-        }
-        Stepped::On
+        let moved = self.web.give_on(k);
+        self.settle(k, moved)
     }
 
-    // From the left a stage onto whose link room has come has its turn, if it gives or reads at once: it was to be
-    // asked next. Tells whether the run is over.
-    #[inline(always)]
-    fn go_on<O: Order>(&mut self, order: &O, search: &mut Option<Search>) -> bool
-        requires may { MayAdvance S.Stage W.Sink (order_of O.Order) order.now search.old self.old }
-        requires room { IfSome search.old
-            (λ search. (is_left search.side ≡ true) × HasRoom search.from self.old.web) }
-        ensures advanced { HasAdvanced S.Stage R.Source W.Sink (order_of O.Order) order.now order.now search.old
-            search.new self.old self.new result }
-        ensures turns { self.old.turns ≤ self.new.turns }
+    /// One turn of an actor that is ready: a stage by its number, from 0, or the sink by the number of stages.
+    /// Tells whether the run is over.
+    pub fn turn(&mut self, k: usize) -> bool
+        requires { MayGo S.Stage W.Sink k self.old }
+        ensures gone { HasGone S.Stage R.Source W.Sink k self.old self.new result }
+        ensures little { AsksLittle S.Stage R.Source W.Sink k self.old self.new }
     {
-        let Some(look) = search else {
-            return false;
-        };
-        let Some(turned) = self.refill(look.from()) else {
-            return false;
-        };
-        if turned.is_full {
-            look.pass();
-        }
-        turned.is_over
-    }
-
-    // A step and, from the left, the turn of the stage onto whose link room has come. Tells whether the run is over.
-    #[inline(always)]
-    fn advance<O: Order>(&mut self, order: &mut O, search: &mut Option<Search>) -> bool
-        requires { MayAdvance S.Stage W.Sink (order_of O.Order) order.old search.old self.old }
-        ensures advanced { HasAdvanced S.Stage R.Source W.Sink (order_of O.Order) order.old order.new search.old
-            search.new self.old self.new result }
-        ensures closer { IsCloser search.old search.new self.old self.new result }
-    {
-        match self.step(order, search) {
-            Stepped::On => false,
-            Stepped::Room => self.go_on(order, search),
-            Stepped::Over => true,
+        match self.act(k) {
+            Turned::Waits => unreachable!(),
+            Turned::Gave => false,
+            Turned::Filled => false,
+            Turned::Took(_) => false,
+            Turned::Heard(_) => false,
+            Turned::Over => true,
         }
     }
 
     /// Makes the turns that the order picks, to the end of the run.
-    // All that a stage's turn calls stands in this loop, and the loop in no caller's.
-    #[inline(never)]
     pub fn run<O: Order>(&mut self, order: &mut O) -> RunResult
         requires { IsNet S.Stage W.Sink self.old }
         ensures { RunsBy S.Stage R.Source W.Sink (order_of O.Order) order.old order.new self.old self.new result }
@@ -355,72 +269,127 @@ impl<S: Stage + Drop, R: Source + Drop, W: Sink> Net<S, R, W> {
         if self.over() {
             return self.told();
         }
-        self.mark();
-        let mut search = Search::new(order.side(), self.web.count());
-        'turns: loop {
-            if self.advance(order, &mut search) {
-                return self.told();
-            }
+        self.run_on(order);
+        self.told()
+    }
+
+    // The run goes on, to its end.
+    fn run_on<O: Order>(&mut self, order: &mut O)
+        requires { MayStep S.Stage W.Sink looks.Unseen self.old }
+        ensures { HasAdvanced S.Stage R.Source W.Sink (order_of O.Order) order.old order.new looks.Unseen
+            looks.Unseen self.old self.new true }
+    {
+        match order.side() {
+            Some(Side::Left) => self.run_from_left(),
+            Some(Side::Right) => self.run_from_right(),
+            None => self.run_by(order),
         }
     }
 
-    // A turn of this actor, if it is ready.
-    #[inline(always)]
-    fn turn_if_ready(&mut self, k: usize) -> Option<Turned>
-        requires { MayAsk S.Stage W.Sink k self.old }
-        ensures { MatchOption result (HasRested S.Stage W.Sink k self.old self.new)
-            (HasWorked S.Stage R.Source W.Sink k self.old self.new) }
+    // Makes the turns of the leftmost actor that is ready: nobody to the left of the one that is asked is.
+    // All that a stage's turn calls stands in this loop, and the loop in no caller's.
+    #[inline(never)]
+    fn run_from_left(&mut self)
+        requires { MayStep S.Stage W.Sink looks.Unseen self.old }
+        ensures { HasAdvanced S.Stage R.Source W.Sink (leaning side.Left) tt tt looks.Unseen looks.Unseen self.old
+            self.new true }
     {
-        if k == self.web.count() {
-            let link = self.web.last();
-            let is_over = self.sink_turn()?;
-            self.turns += 1;
-            return Some(Turned {
-                link,
-                is_over,
-                is_full: false,
-                has_taken: !is_over,
-            });
+        let mut k = 0;
+        while let Some(next) = self.step_left(k) {
+            k = next;
         }
-        self.stage_turn(k)
     }
 
-    // The turn of a stage, if it is ready.
-    // A function of its own, so that each kind of turn goes its own way behind it.
+    // Asks an actor, and tells who is asked next; nobody, where the run is over.
     #[inline(always)]
-    fn stage_turn(&mut self, k: usize) -> Option<Turned>
-        requires ask { MayAsk S.Stage W.Sink k self.old }
-        requires stage { k ≢ length self.old.web.nodes.items }
-        ensures { MatchOption result (HasRested S.Stage W.Sink k self.old self.new)
-            (HasWorked S.Stage R.Source W.Sink k self.old self.new) }
+    fn step_left(&mut self, k: usize) -> Option<usize>
+        requires { MayStep S.Stage W.Sink (looks.FromLeft k) self.old }
+        ensures advanced { HasAdvanced S.Stage R.Source W.Sink (leaning side.Left) tt tt (looks.FromLeft k)
+            (left_at result) self.old self.new (is_none result) }
+        ensures closer { IsCloser (looks.FromLeft k) (left_at result) self.old self.new (is_none result) }
     {
-        let told = self.web.turn(k)?;
-        Some(self.settle(k, told))
+        match self.act(k) {
+            Turned::Waits => Some(k + 1),
+            Turned::Filled => Some(k + 1),
+            Turned::Gave => Some(k),
+            Turned::Heard(link) => Some(link),
+            // room has come on that link: most often its stage gives at once
+            Turned::Took(link) => self.give_left(link),
+            Turned::Over => None,
+        }
     }
 
-    // The turn of a stage whose link has room, if it gives or reads at once.
+    // The turn of a stage onto whose link room has come, if it gives at once: it was to be asked next.
     #[inline(always)]
-    fn refill(&mut self, k: usize) -> Option<Turned>
-        requires ask { MayAsk S.Stage W.Sink k self.old }
+    fn give_left(&mut self, k: usize) -> Option<usize>
+        requires may { MayStep S.Stage W.Sink (looks.FromLeft k) self.old }
         requires room { HasRoom k self.old.web }
-        ensures worked { IfSome result (HasWorked S.Stage R.Source W.Sink k self.old self.new) }
-        ensures own { IfSome result (λ turned. turned.link ≡ k) }
-        ensures same { result ≡ None → self.new ≡ self.old }
+        ensures advanced { HasAdvanced S.Stage R.Source W.Sink (leaning side.Left) tt tt (looks.FromLeft k)
+            (left_at result) self.old self.new (is_none result) }
+        ensures turns { self.old.turns ≤ self.new.turns }
     {
-        let told = self.web.refill(k)?;
-        Some(self.settle(k, told))
+        match self.give_on(k) {
+            Turned::Filled => Some(k + 1),
+            Turned::Over => None,
+            Turned::Waits => Some(k),
+            Turned::Gave => Some(k),
+            Turned::Took(_) => Some(k),
+            Turned::Heard(_) => Some(k),
+        }
     }
 
-    /// One turn of an actor that is ready: a stage by its number, from 0, or the sink by the number of stages.
-    pub fn turn(&mut self, k: usize) -> Turned
-        requires { MayGo S.Stage W.Sink k self.old }
-        ensures gone { HasGone S.Stage R.Source W.Sink k self.old self.new result }
-        ensures little { AsksLittle S.Stage R.Source W.Sink k self.old self.new }
+    // Makes the turns of the rightmost actor that is ready: nobody to the right of the one that is asked is.
+    #[inline(never)]
+    fn run_from_right(&mut self)
+        requires { MayStep S.Stage W.Sink looks.Unseen self.old }
+        ensures { HasAdvanced S.Stage R.Source W.Sink (leaning side.Right) tt tt looks.Unseen looks.Unseen self.old
+            self.new true }
     {
-        match self.turn_if_ready(k) {
-            Some(turned) => turned,
-            None => unreachable!(),
+        let mut k = self.web.count();
+        while let Some(next) = self.step_right(k) {
+            k = next;
         }
+    }
+
+    // The same from the right.
+    #[inline(always)]
+    fn step_right(&mut self, k: usize) -> Option<usize>
+        requires { MayStep S.Stage W.Sink (looks.FromRight k) self.old }
+        ensures advanced { HasAdvanced S.Stage R.Source W.Sink (leaning side.Right) tt tt (looks.FromRight k)
+            (right_at result) self.old self.new (is_none result) }
+        ensures closer { IsCloser (looks.FromRight k) (right_at result) self.old self.new (is_none result) }
+    {
+        match self.act(k) {
+            Turned::Waits => Some(k - 1),
+            Turned::Gave => Some(self.takers[k]),
+            Turned::Filled => Some(self.takers[k]),
+            Turned::Took(_) => Some(k),
+            Turned::Heard(_) => Some(k),
+            Turned::Over => None,
+        }
+    }
+
+    // Asks each actor before each turn.
+    #[inline(never)]
+    fn run_by<O: Order>(&mut self, order: &mut O)
+        requires { MayStep S.Stage W.Sink looks.Unseen self.old }
+        ensures { HasAdvanced S.Stage R.Source W.Sink (order_of O.Order) order.old order.new looks.Unseen
+            looks.Unseen self.old self.new true }
+    {
+        while !self.step_by(order) {}
+    }
+
+    // One turn, of the actor that the order picks. Tells whether the run is over.
+    fn step_by<O: Order>(&mut self, order: &mut O) -> bool
+        requires { MayStep S.Stage W.Sink looks.Unseen self.old }
+        ensures advanced { HasAdvanced S.Stage R.Source W.Sink (order_of O.Order) order.old order.new looks.Unseen
+            looks.Unseen self.old self.new result }
+        ensures closer { IsCloser looks.Unseen looks.Unseen self.old self.new result }
+    {
+        self.mark();
+        let pick = order.pick(&self.actors);
+        let actor = choose(&self.actors, pick);
+        self.turn(actor)
     }
 
     /// How the run ended, once it has.

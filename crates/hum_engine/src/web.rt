@@ -1,7 +1,6 @@
 //! Nodes and their links.
 ghost use Rattle.std.specs.Prelude.{◌≡◌, ◌≤◌, ◌<◌, ℕ, true, false, length};
-ghost use Rattle.std.specs.Prelude.{IfSome, MatchOption, is_some, ◌-◌};
-ghost use Rattle.std.specs.Prelude.{IfOk, OnOk, Some, None};
+ghost use Rattle.std.specs.Prelude.{IfOk, OnOk, ◌-◌};
 ghost use Rattle.hum_turns.specs.Turns.{Gives, Takes, Ends, state, can, ready};
 ghost use Rattle.hum_turns.specs.Plan.{last};
 ghost use Rattle.hum_turns.specs.Near.{touched};
@@ -12,11 +11,11 @@ ghost use Rattle.hum_stage.specs.declared.faults.Readiness.TheVariants as kinds;
 ghost use Rattle.hum_score.specs.Row.{Row};
 ghost use Rattle.hum_engine.specs.Links.{taken_of, is_some_of};
 ghost use Rattle.hum_engine.specs.declared.link.Taken.TheVariants as taken;
-ghost use Rattle.hum_engine.specs.Told.{HasTold, HasWaited, HasActed};
+ghost use Rattle.hum_engine.specs.Told.{HasPolled, ComesTo, GivesOn};
 ghost use Rattle.hum_engine.specs.Scene.{Scene, plan_of, Somewhere, IsAt, IsActor, MayTurn, MayAct};
 ghost use Rattle.hum_engine.specs.Scene.{IsKind, Keeps, Done, IsAbout};
 ghost use Rattle.hum_engine.specs.Scene.{IsAboutKind, IsDoing, HasActor};
-ghost use Rattle.hum_engine.specs.Scene.{IsBegun, Stands, HasStage, held_of, room_of, rooms_of, HasFullLink, HasRoom};
+ghost use Rattle.hum_engine.specs.Scene.{IsBegun, Stands, HasStage, held_of, room_of, rooms_of, HasRoom};
 
 use crate::link::{Link, Taken};
 use hum_nodes::Node;
@@ -26,29 +25,21 @@ use hum_stage::{End, Readiness, Stage};
 use hum_text::calls::Source;
 use std::alloc::{AllocError, Global};
 
-/// What a turn of a stage has come to.
+/// What the turn of a stage has come to.
 #[derive(Clone, Copy)]
-pub struct Moved {
-    /// The link that it has changed: the one that it took from, or its own.
-    pub link: usize,
-    /// Whether the stage is known to give or to read next, and its link to be full.
-    pub is_full: bool,
-    /// Whether it has taken a record from that link, which then has room.
-    pub has_taken: bool,
-}
-
-impl Moved {
-    // Only this link has changed, from which no record was taken.
-    #[inline(always)]
-    fn alone(link: usize) -> Moved
-        ensures { result ≡ record { link = link; is_full = false; has_taken = false } }
-    {
-        Moved {
-            link,
-            is_full: false,
-            has_taken: false,
-        }
-    }
+pub enum Moved {
+    /// The stage isn't ready, and nothing has changed.
+    Waits,
+    /// It has changed its own link alone.
+    Gave,
+    /// It is a source, and what it gave has filled its link.
+    Filled,
+    /// It has taken a record from this link.
+    Took(usize),
+    /// It has heard the end on this link.
+    Heard(usize),
+    /// A read has failed, or memory ran out.
+    Failed(ReadError),
 }
 
 /// Nodes, and the link of each.
@@ -98,44 +89,27 @@ impl<S: Stage + Drop, R: Source + Drop> Web<S, R> {
         self.nodes.len()
     }
 
-    // Whether a stage gives, and its link is full.
-    #[inline(always)]
-    fn is_full(&self, k: usize, gives: bool) -> bool
-        requires { k < length self.now.links.items }
-        ensures gives { result ≡ true → gives ≡ true }
-        ensures full { result ≡ true → HasFullLink k self.now }
-    {
-        gives && !self.links[k].has_room()
-    }
-
     // A turn of a source, which changes its own link.
     #[inline(always)]
-    fn poll(&mut self, k: usize) -> Result<Moved, ReadError>
+    fn poll(&mut self, k: usize) -> Moved
         requires turn { Somewhere (MayTurn S.Stage k self.old) }
         requires source { IsKind true k self.old }
-        ensures told { HasTold S.Stage R.Source k self.old self.new result }
-        ensures own { IfOk result (λ moved. (moved.link ≡ k) × (moved.has_taken ≡ false)) }
+        ensures { HasPolled S.Stage R.Source k self.old self.new result }
     {
         match self.nodes[k].next(&mut self.pool) {
             Some(row) => {
                 self.links[k].push(row);
-                return Ok(Moved {
-                    link: k,
-                    is_full: self.is_full(k, true),
-                    has_taken: false,
-                });
+                if !self.links[k].has_room() {
+                    return Moved::Filled;
+                }
             }
             None => match self.nodes[k].stopped() {
                 Some(Ok(end)) => self.links[k].end(end),
-                Some(Err(error)) => return Err(error),
+                Some(Err(error)) => return Moved::Failed(error),
                 None => {}
             },
         }
-        Ok(Moved {
-            link: k,
-            is_full: false,
-            has_taken: false,
-        })
+        Moved::Gave
     }
 
     /// What the sink takes: the next record of the last stage, or its end, if there is anything.
@@ -207,68 +181,56 @@ impl<S: Stage + Drop, R: Source + Drop> Web<S, R> {
 
     // A stage takes from the link of the source that it wants from, if there is anything.
     #[inline(always)]
-    fn pass(&mut self, k: usize) -> Option<Result<Moved, ReadError>>
+    fn pass(&mut self, k: usize) -> Moved
         requires about { (place : ℕ) × Somewhere (IsAbout S.Stage k (does.Wants place) self.old) }
         requires stage { IsKind false k self.old }
-        ensures { MatchOption result (HasWaited S.Stage k self.old self.new)
-            (HasActed S.Stage R.Source k self.old self.new) }
+        ensures { ComesTo S.Stage R.Source k self.old self.new result }
     {
         let node = &mut self.nodes[k];
         let source = node.source();
         match self.links[source].take() {
-            Taken::Record(row) => Some(match node.put(row, &mut self.pool) {
-                Ok(()) => {
-                    let gives = node.gives();
-                    Ok(Moved {
-                        link: source,
-                        is_full: self.is_full(k, gives),
-                        has_taken: true,
-                    })
-                }
-                Err(_) => Err(ReadError::Memory),
-            }),
+            Taken::Record(row) => match node.put(row, &mut self.pool) {
+                Ok(()) => Moved::Took(source),
+                Err(_) => Moved::Failed(ReadError::Memory),
+            },
             Taken::End(end) => {
                 node.stop(end);
-                Some(Ok(Moved::alone(source)))
+                Moved::Heard(source)
             }
-            Taken::Nothing => None,
+            Taken::Nothing => Moved::Waits,
         }
     }
 
     /// The turn of a stage, if it is ready.
-    ///
-    /// # Errors
-    /// A failed read, and running out of memory.
     #[inline(always)]
-    pub fn turn(&mut self, k: usize) -> Option<Result<Moved, ReadError>>
+    pub fn turn(&mut self, k: usize) -> Moved
         requires { Somewhere (HasActor S.Stage k self.old) }
-        ensures { MatchOption result (HasWaited S.Stage k self.old self.new)
-            (HasActed S.Stage R.Source k self.old self.new) }
+        ensures { ComesTo S.Stage R.Source k self.old self.new result }
     {
         let node = &self.nodes[k];
         if node.is_source() {
             if !self.may_read(k) {
-                return None;
+                return Moved::Waits;
             }
-            return Some(self.poll(k));
+            return self.poll(k);
         }
         match node.readiness() {
             Readiness::Wants => self.pass(k),
             Readiness::Gives => {
                 if !self.links[k].has_room() {
-                    return None;
+                    return Moved::Waits;
                 }
                 match self.give(k) {
-                    Ok(()) => Some(Ok(Moved::alone(k))),
-                    Err(_) => Some(Err(ReadError::Memory)),
+                    Ok(()) => Moved::Gave,
+                    Err(_) => Moved::Failed(ReadError::Memory),
                 }
             }
             Readiness::Done => {
                 if !self.links[k].is_unset() {
-                    return None;
+                    return Moved::Waits;
                 }
                 self.close(k);
-                Some(Ok(Moved::alone(k)))
+                Moved::Gave
             }
         }
     }
@@ -303,29 +265,22 @@ impl<S: Stage + Drop, R: Source + Drop> Web<S, R> {
     }
 
     /// The turn of a stage whose link has room, if it has taken the record ahead that it gives next, or reads
-    /// bytes and isn't at their end.
-    ///
-    /// # Errors
-    /// As [`Web::turn`]'s.
+    /// bytes and isn't at their end. Else it may be ready still, and nothing has changed.
     #[inline(always)]
-    pub fn refill(&mut self, k: usize) -> Option<Result<Moved, ReadError>>
+    pub fn give_on(&mut self, k: usize) -> Moved
         requires at { Somewhere (IsAt S.Stage self.old) }
         requires room { HasRoom k self.old }
-        ensures ready { is_some result ≡ true → (s : Scene) → IsAt S.Stage self.old s
-            → MayTurn S.Stage k self.old s }
-        ensures told { IfSome result (HasTold S.Stage R.Source k self.old self.new) }
-        ensures own { IfSome result (λ told. IfOk told (λ moved. (moved.link ≡ k) × (moved.has_taken ≡ false))) }
-        ensures same { result ≡ None → self.new ≡ self.old }
+        ensures { GivesOn S.Stage R.Source k self.old self.new result }
     {
         if self.nodes[k].gives_ahead() {
             let row = self.nodes[k].take_ahead();
             self.links[k].push(row);
-            return Some(Ok(Moved::alone(k)));
+            return Moved::Gave;
         }
         if self.nodes[k].is_source() && self.links[k].is_unset() {
-            return Some(self.poll(k));
+            return self.poll(k);
         }
-        None
+        Moved::Waits
     }
 
     /// Whether an actor is ready.

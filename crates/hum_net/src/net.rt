@@ -120,7 +120,7 @@ impl<R: Source + Drop, W: Sink, S: Stage + Drop> Net<R, W, S> {
             (λ start s now. k ≡ s.count → FlushesSink (W.flushes self.old.sink) (W.flushes self.new.sink)
             (now.links (last (plan_of s))).waiting) }
     {
-        self.engine.turn(k).is_over
+        self.engine.turn(k)
     }
 
     /// Whether the run is over. Until then some actor is ready.

@@ -1,7 +1,6 @@
 -- What several scores side by side stand for, as a node.
 use Rattle.std.proofs.Common.{◌≡◌, ◌∙◌, refl, sym, ap, subst, ℕ, zero, suc, Bool, true, false, if◌then◌else◌, nat_lt}
-use Rattle.std.proofs.Common.{List, [], ◌∷◌, ◌++◌, length, map, replicate, Option, Some, None, unwrap_or, arith, ◌+◌, ◌<◌, ◌≤◌}
-use Rattle.std.proofs.Common.{◌%◌}
+use Rattle.std.proofs.Common.{List, [], ◌∷◌, ◌++◌, length, map, replicate, Option, Some, None, unwrap_or, arith, ◌+◌, ◌<◌}
 use Rattle.std.specs.Prelude.{MatchOption, slice_get}
 use Rattle.hum_score.specs.Row.{Row}
 use Rattle.hum_stage.specs.declared.faults.End.{End}

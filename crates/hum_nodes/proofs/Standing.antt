@@ -1,7 +1,7 @@
 -- What nodes of each kind stand for, and what they show.
 use Rattle.std.proofs.Common.{◌≡◌, ◌∙◌, ℕ, ◌<◌, ◌≤◌, Bool, true, false, List, [], ◌++◌, Option, None, Some, refl, sym}
-use Rattle.std.proofs.Common.{ap, Global, subst, arith, slice_index, length, Result, Ok, Err, ◌⊎◌}
-use Rattle.std.specs.Prelude.{◌≢◌, is_some, IfOk, IfSome, MatchOption}
+use Rattle.std.proofs.Common.{ap, Global, subst, arith, length, Result, Ok, Err, ◌⊎◌}
+use Rattle.std.specs.Prelude.{◌≢◌, IfOk, IfSome, MatchOption}
 use Rattle.std.proofs.lemmas.Bool.{false≢true}
 use Rattle.std.specs.Io.KnownBytes.{Consumes, IsAtEnd}
 use Rattle.std.specs.declared.vec.Vec.{Vec}
@@ -10,7 +10,6 @@ use Rattle.hum_read.specs.declared.ReadError.{ReadError}
 use Rattle.hum_read.specs.Reading.{Scores, Polled, ReadOn, GivesNext, Nears, answer_of, stop_of}
 use Rattle.hum_text.specs.Reading.{NeedsRead, IsUnread, IsFed, bytes_read, left_to_do}
 use Rattle.hum_stage.specs.declared.faults.Readiness.{Readiness}
-use Rattle.hum_stage.specs.declared.faults.Readiness.TheVariants as ready
 use Rattle.hum_stage.specs.Meaning.{Moment, HasPutAndTaken, ShowsReadiness, TookFirst, after_put, readiness_by}
 use Rattle.hum_assemble.specs.Meaning as merge
 use Rattle.hum_assemble.specs.Standing.{Assembler, Stands}

@@ -1,5 +1,5 @@
 -- A source's turn gives a record, sets the end, or reads on.
-use Rattle.std.proofs.Common.{◌≡◌, ℕ, ◌+◌, ◌<◌, ◌⊎◌, inl, inr, true, List, [], ◌∷◌, ◌++◌, length}
+use Rattle.std.proofs.Common.{◌≡◌, ℕ, ◌+◌, ◌<◌, inl, inr, true, List, [], ◌∷◌, ◌++◌, length}
 use Rattle.std.proofs.Common.{refl, ap, ◌∙◌, ⊎_elim, arith}
 use Rattle.std.specs.Prelude.{is_some}
 use Rattle.std.proofs.lemmas.List.{length-append}
@@ -54,8 +54,11 @@ module _ {R : Type 0} (plan : Plan R) (ok : IsPlan plan) (k : ℕ) (src : is_sou
   read_mark old between new e r last Gives is d =
       let g : length (given (between k)) ≡ length (given (old k)) =
       ap (λ (l : Link R). length (given l)) r.becomes.here in
-      inl (inl (ap (λ (l : Link R). length (given l)) d.becomes.here
-      ∙ pushed_more (between k) d.next ∙ ap (λ n. n + 1) g), inr last)
+      inl (
+        inl (ap (λ (l : Link R). length (given l)) d.becomes.here
+            ∙ pushed_more (between k) d.next ∙ ap (λ n. n + 1) g),
+        inr last,
+      )
   read_mark old between new e r last Reads is d =
       let n : (between k).read ≡ r.upto = ap (λ (l : Link R). l.read) r.becomes.here in
       let less = reads_bytes plan ok between k (source_less plan k src).0 is in

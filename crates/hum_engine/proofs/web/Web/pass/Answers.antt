@@ -1,5 +1,4 @@
 use Rattle.std.proofs.Common.{◌∙◌, refl, sym, ap, arith}
-use Rattle.std.proofs.lemmas.Bool.{false≢true}
 use Rattle.std.specs.Vec.{with_item}
 use Rattle.hum_nodes.specs.At.{with_record, with_end}
 use Rattle.hum_engine.specs.Links.{is_some_of}
@@ -29,15 +28,17 @@ stop-requires-clause-may g c =
 pub returns-in-Ok : goal.returns-in-Ok
 returns-in-Ok g c =
     let w = wanting c.requires.about.1.holds c.requires.stage c.index_mut-node.ensures.value c.source-source.ensures in
-    record {
-      was_ready = λ s h. sym (trying_able w c.index_mut.ensures.value c.take.ensures.taken h) ∙ ap is_some_of c.in-Record.is;
-      tells = told_taken (with_record c.in-Record.row) c.put.new.self c.take.new.self w
-          c.index_mut.ensures.value c.take.ensures.taken c.requires.about.1.holds.actor c.index_mut-node.ensures.value
-          (ap is_some_of c.in-Record.is) (λ s here. record_left c.take.ensures.taken s _ here c.in-Record.is) c.put.ensures.kind
-          c.in-Ok.ensures.put (c.take.ensures.popped (ap is_some_of c.in-Record.is)) refl refl
-          (λ is. (c.is_full.ensures.full is, sym c.gives-gives.ensures ∙ c.is_full.ensures.gives is))
-          (λ is. c.take.ensures.room c.in-Record.row c.in-Record.is);
-    }
+    let t = told_taken (with_record c.in-Record.row) c.put.new.self c.take.new.self w
+    c.index_mut.ensures.value c.take.ensures.taken c.requires.about.1.holds.actor c.index_mut-node.ensures.value
+    (ap is_some_of c.in-Record.is) (λ s here. record_left c.take.ensures.taken s _ here c.in-Record.is) c.put.ensures.kind
+    c.in-Ok.ensures.put (c.take.ensures.popped (ap is_some_of c.in-Record.is)) refl refl in (
+      record {
+        was_ready = λ s h. sym (trying_able w c.index_mut.ensures.value c.take.ensures.taken h) ∙ ap is_some_of c.in-Record.is;
+        tells = t.0;
+      },
+      t.1,
+      t.2 (c.take.ensures.room c.in-Record.row c.in-Record.is),
+    )
 
 pub returns-in-Err : goal.returns-in-Err
 returns-in-Err g c =
@@ -50,14 +51,16 @@ returns-in-Err g c =
 pub returns-in-End : goal.returns-in-End
 returns-in-End g c =
     let w = wanting c.requires.about.1.holds c.requires.stage c.index_mut-node.ensures.value c.source-source.ensures in
-    rw c.alone.ensures (record {
-      was_ready = λ s h. sym (trying_able w c.index_mut.ensures.value c.take.ensures.taken h) ∙ ap is_some_of c.in-End.is;
-      tells = told_taken (with_end c.in-End.end) c.stop.new.self c.take.new.self w
-          c.index_mut.ensures.value c.take.ensures.taken c.requires.about.1.holds.actor c.index_mut-node.ensures.value
-          (ap is_some_of c.in-End.is) (λ s here. end_left c.take.ensures.taken s _ here c.in-End.is) c.stop.ensures.kind
-          c.stop.ensures.stopped (c.take.ensures.popped (ap is_some_of c.in-End.is)) refl refl
-          (λ is. absurd (false≢true is)) (λ is. absurd (false≢true is));
-    })
+    let t = told_taken (with_end c.in-End.end) c.stop.new.self c.take.new.self w
+    c.index_mut.ensures.value c.take.ensures.taken c.requires.about.1.holds.actor c.index_mut-node.ensures.value
+    (ap is_some_of c.in-End.is) (λ s here. end_left c.take.ensures.taken s _ here c.in-End.is) c.stop.ensures.kind
+    c.stop.ensures.stopped (c.take.ensures.popped (ap is_some_of c.in-End.is)) refl refl in (
+      record {
+        was_ready = λ s h. sym (trying_able w c.index_mut.ensures.value c.take.ensures.taken h) ∙ ap is_some_of c.in-End.is;
+        tells = t.0;
+      },
+      t.1,
+    )
 
 pub returns-in-Nothing : goal.returns-in-Nothing
 returns-in-Nothing g c =

@@ -1,5 +1,5 @@
 use Rattle.std.proofs.Common.{◌∙◌, refl, sym}
-use Rattle.hum_engine.proofs.Answered.{acted, may_try, may_turn, gives_ready, ends_ready, told_own, told_given, told_out}
+use Rattle.hum_engine.proofs.Answered.{acted, polled_comes, may_try, may_turn, gives_ready, ends_ready, told_own, told_given, told_out}
 use Rattle.hum_engine.proofs.Doings.{doing_is, gives_about}
 use Rattle.hum_engine.proofs.Turning.{kind_at}
 use Rattle.hum_engine.proofs.Readying.{room_gives}
@@ -49,9 +49,9 @@ returns-then-not-has_room g c =
 pub returns-in-Ok : goal.returns-in-Ok
 returns-in-Ok g c =
     let doing = doing_is c.requires c.index-node.ensures c.readiness.ensures c.in-Gives.is (sym c.is_source.ensures ∙ c.if-is_source.false) in
-    rw c.alone.ensures (acted c.requires
+    acted c.requires
     (λ s h. sym (gives_ready doing h c.index.ensures c.has_room.ensures.has_room) ∙ c.if-not-has_room.false)
-    (λ here. told_given doing c.give.ensures.nodes here c.in-Ok.ensures.given))
+    (λ here. told_given doing c.give.ensures.nodes here c.in-Ok.ensures.given)
 
 pub returns-in-Err : goal.returns-in-Err
 returns-in-Err g c =
@@ -71,6 +71,10 @@ returns-then-not-is_unset g c =
 pub returns-else-not-is_unset : goal.returns-else-not-is_unset
 returns-else-not-is_unset g c =
     let doing = doing_is c.requires c.index-node.ensures c.readiness.ensures c.in-Done.is (sym c.is_source.ensures ∙ c.if-is_source.false) in
-    rw c.alone-in-Done.ensures (acted c.requires
+    acted c.requires
     (λ s h. sym (ends_ready doing h c.index-in-Done.ensures c.is_unset.ensures) ∙ c.if-not-is_unset.false)
-    (λ here. told_own doing.0 c.close.ensures.nodes here.holds c.close.ensures.done c.close.ensures.link))
+    (λ here. told_own doing.0 c.close.ensures.nodes here.holds c.close.ensures.done c.close.ensures.link)
+
+pub returns-then-is_source : goal.returns-then-is_source
+returns-then-is_source g c =
+    polled_comes g.R.Source _ c.poll.result (λ s h. sym (c.may_read.ensures s h) ∙ c.if-not-may_read.false) c.poll.ensures

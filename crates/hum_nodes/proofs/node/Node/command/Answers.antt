@@ -1,6 +1,4 @@
-use Rattle.std.proofs.Common.{refl}
 use Rattle.hum_stage.specs.Meaning.{opening}
-use Rattle.hum_nodes.proofs.Standing.{single_stands}
 use Rattle.hum_nodes.proofs.node.Node.command.Goals as goal
 
 pub returns-clause-lawful : goal.returns-clause-lawful
