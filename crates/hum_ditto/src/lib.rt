@@ -41,7 +41,7 @@ pub struct Repeats {
 impl Repeats {
     /// Remembers a data record, and what it became. Where one is held the spines needn't be asked.
     #[inline(always)]
-    fn remember(&mut self, row: &Record, given: &Record) -> Result<(), AllocError>
+    fn remember(&mut self, row: &Record, given: &Record, pool: &mut Spare) -> Result<(), AllocError>
         requires score { MayStep
             (Follows self.old.memory.options self.old.paths.path self.old.memory.each) row.now }
         requires kind { kind_of row.now ≡ Values }
@@ -54,11 +54,16 @@ impl Repeats {
         if self.memory.see(row, given) {
             return Ok(());
         }
-        self.remember_any(row, given)
+        self.remember_any(row, given, pool)
     }
 
     /// The same of any record.
-    fn remember_any(&mut self, row: &Record, given: &Record) -> Result<(), AllocError>
+    fn remember_any(
+        &mut self,
+        row: &Record,
+        given: &Record,
+        pool: &mut Spare,
+    ) -> Result<(), AllocError>
         requires score { MayStep
             (Follows self.old.memory.options self.old.paths.path self.old.memory.each) row.now }
         requires given { IsGivenFor self.old.memory row.now given.now }
@@ -67,7 +72,7 @@ impl Repeats {
             (Follows self.new.memory.options self.new.paths.path self.new.memory.each) row.now) }
     {
         let found = self.paths.follow(row)?;
-        self.memory.follow(row, given, found)
+        self.memory.follow(row, given, found, pool)
     }
 
     /// Puts what a data record becomes.
@@ -89,14 +94,14 @@ impl Repeats {
             next _room (option_to_list out.new)) }
     {
         if !has_null(&next) {
-            self.remember(&next, &next)?;
+            self.remember(&next, &next, pool)?;
             forget(replace(out, Some(next)));
             return Ok(());
         }
         let rebuilt = rebuilt(self.alloc, &next, &self.memory, &mut self.shown, pool)?;
         match rebuilt {
             Some(made) => {
-                self.remember(&next, &made)?;
+                self.remember(&next, &made, pool)?;
                 forget(replace(out, Some(made)));
                 pool.keep(next);
                 Ok(())
@@ -144,7 +149,7 @@ impl Decides for Repeats {
         match next.kind() {
             Kind::Values => self.step_data(next, _room, pool, out),
             _ => {
-                self.remember_any(&next, &next)?;
+                self.remember_any(&next, &next, pool)?;
                 *out = Some(next);
                 Ok(())
             }

@@ -39,8 +39,6 @@ pub struct LastTokens {
     alloc: Global,
     options: DittoOptions,
     holding: Holding,
-    // what is left of the record that was held before
-    spare: Spare,
 }
 
 // Written out, so that a caller's proof sees one call and not both ways to remember.
@@ -50,7 +48,6 @@ impl Drop for LastTokens {
             alloc: _,
             options: _options,
             holding: _holding,
-            spare: _spare,
         } = self;
     }
 }
@@ -119,18 +116,18 @@ fn copy_over(held: &mut Record, given: &Record) -> bool
     held.copy_short(given) || held.copy_far(given)
 }
 
-/// The same, in other memory.
+/// The same, in other memory. The record that was held goes to the pool.
 fn replace(
     alloc: Global,
     held: &mut Record,
     given: &Record,
-    spare: &mut Spare,
+    pool: &mut Spare,
 ) -> Result<(), AllocError>
     ensures given { OnOk result (held.new ≡ given.now) }
     ensures kept { OnErr result (held.new ≡ held.old) }
 {
-    let copy = given.copy_into(alloc, spare)?;
-    spare.keep(mem::replace(held, copy));
+    let copy = given.copy_into(alloc, pool)?;
+    pool.keep(mem::replace(held, copy));
     Ok(())
 }
 
@@ -151,7 +148,6 @@ impl LastTokens {
             alloc,
             options,
             holding: Holding::Each(Carried::new(alloc)),
-            spare: Spare::none(alloc),
         }
     }
 
@@ -212,7 +208,13 @@ impl LastTokens {
     ///
     /// # Errors
     /// Out of memory. Then it no longer tells what null tokens would repeat.
-    pub fn follow(&mut self, row: &Record, given: &Record, found: Moves) -> Result<(), AllocError>
+    pub fn follow(
+        &mut self,
+        row: &Record,
+        given: &Record,
+        found: Moves,
+        pool: &mut Spare,
+    ) -> Result<(), AllocError>
         requires come { ComeFrom row.now found }
         requires score { MayFollow self.old row.now found }
         requires given { IsGivenFor self.old row.now given.now }
@@ -220,7 +222,7 @@ impl LastTokens {
         ensures memories { OnOk result (HasFollowed self.old row.now found self.new.each) }
     {
         match row.kind() {
-            Kind::Values => self.follow_data(row, given, found),
+            Kind::Values => self.follow_data(row, given, found, pool),
             Kind::Interpretation => self.follow_interpretation(row, found),
             Kind::Local => Ok(()),
             Kind::Global => Ok(()),
@@ -228,7 +230,13 @@ impl LastTokens {
     }
 
     /// The same of a data record.
-    fn follow_data(&mut self, row: &Record, given: &Record, found: Moves) -> Result<(), AllocError>
+    fn follow_data(
+        &mut self,
+        row: &Record,
+        given: &Record,
+        found: Moves,
+        pool: &mut Spare,
+    ) -> Result<(), AllocError>
         requires kind { kind_of row.now ≡ AnyValues }
         requires lawful { IsTextOf row.now (text_of row.now) }
         requires come { ComeFrom row.now found }
@@ -238,10 +246,10 @@ impl LastTokens {
         ensures memories { OnOk result (HasFollowed self.old row.now found self.new.each) }
     {
         match &mut self.holding {
-            Holding::Given(held, _) => replace(self.alloc, held, given, &mut self.spare),
+            Holding::Given(held, _) => replace(self.alloc, held, given, pool),
             Holding::Each(each) => {
                 if is_plain(&self.options) {
-                    let copy = given.copy_into(self.alloc, &mut self.spare)?;
+                    let copy = given.copy_into(self.alloc, pool)?;
                     self.holding = Holding::Given(copy, found);
                     return Ok(());
                 }
