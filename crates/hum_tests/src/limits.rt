@@ -2,7 +2,7 @@
 ghost use Rattle.hum_tests.specs.Copies.{copies, repeating};
 ghost use Rattle.hum_words.specs.declared.commands.Command.TheVariants.{Rid};
 
-use crate::compared::same;
+use crate::compared::{holds, same};
 use crate::scores::score;
 use hum_record::{Record, Spare};
 use hum_stage::{
@@ -117,13 +117,16 @@ fn told(rt: &impl Abort, alloc: Global, times: u64) -> State {
 
 #[test]
 fn a_stage_gives_as_many_records_as_a_score_may_have(rt: HostRuntime) {
-    same(&rt, told(&rt, rt.alloc(), MOST_RECORDS), State::Gives, "as many");
+    let is = told(&rt, rt.alloc(), MOST_RECORDS);
+    holds(&rt, matches!(is, State::Gives), "as many");
+    let State::Done(end) = told(&rt, rt.alloc(), MOST_RECORDS + 1) else {
+        panic!(rt; "one more is given");
+    };
     let fault = Fault {
         stage: 2,
         command: Command::Rid,
         line: 1,
         rule: Rule::L2,
     };
-    let refused = State::Done(End::Broken(fault));
-    same(&rt, told(&rt, rt.alloc(), MOST_RECORDS + 1), refused, "one more");
+    same(&rt, end, End::Broken(fault), "one more");
 }
