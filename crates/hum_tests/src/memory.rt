@@ -191,48 +191,45 @@ fn stages_give_until_memory_runs_out(rt: HostRuntime) {
 /// Bundles, and what is written of each.
 const RUNS: &[(&[u8], &[u8])] = &[
     (
-        b"out: read a | extract -f 1,2 | ditto | context -n 2 -o '^=' | rid -G
+        b"out: read a | extract -i '**kern'
 --- a
-**kern\t**kern\t**text
-4c\t.\tla
-*^\t*\t*
-8d\t8e\t4f\tlo
-=2\t=2\t=2\t=2
-.\t8g\t.\t.
-*v\t*v\t*\t*
-4a\t4b\tlu
+**kern\t**dynam\t**kern
+*^\t*\t*^
+4c\t4e\tp\t4g\t4b
+*v\t*v\t*\t*v\t*v
+4c\tf\t4d
 *-\t*-\t*-
 ",
         b"**kern\t**kern
-*^\t*
-4c 8d\t4c 8e\t.
-=2\t=2\t=2
-.\t.\t.
+*^\t*^
+4c\t4e\t4g\t4b
+*v\t*v\t*\t*
+*\t*v\t*v
+4c\t4d
+*-\t*-
 ",
     ),
     (
         b"p: read a
 q: read b
-out: assemble p q | yank -o '^=' -r 1
+out: assemble p q | context -n 2
 --- a
-**kern
-4c
-=1
+**x
+1
 *^
-4d\t4e
+2\t3
 *v\t*v
 *-
 --- b
-**text
-la
-=1
-lo
+**y
+7
+8
 *-
 ",
-        b"**kern\t**text
-=1\t=1
+        b"**x\t**y
+1 2\t7 8
 *^\t*
-4d\t4e\tlo
+.\t.\t.
 *v\t*v\t*
 *-\t*-
 ",
