@@ -121,45 +121,39 @@ impl Stage for CommandStage {
 
     ghost lawful = { λ s t h. (⟦<CommandStage as IsSeen>⟧.seen s).lawful t h };
 
-    fn put(&mut self, next: Record) -> Result<(), AllocError> {
-        each!(self, stage => stage.put(next))
+    #[inline(always)]
+    fn put_with(
+        &mut self,
+        next: Record,
+        pool: &mut Spare,
+        may_take: bool,
+        first: &mut Option<Record>,
+    ) -> Result<Readiness, AllocError> {
+        each!(self, stage => stage.put_with(next, pool, may_take, first))
+    }
+
+    #[inline(always)]
+    fn take_with(&mut self, pool: &mut Spare) -> Result<(Option<Record>, Readiness), AllocError> {
+        each!(self, stage => stage.take_with(pool))
     }
 
     fn end(&mut self, end: End) {
         each!(self, stage => stage.end(end))
     }
 
-    fn take(&mut self) -> Result<Option<Record>, AllocError> {
-        each!(self, stage => stage.take())
-    }
-
-    #[inline(always)]
-    fn put_and_take(
-        &mut self,
-        next: Record,
-        pool: &mut Spare,
-        first: &mut Option<Record>,
-    ) -> Result<Readiness, AllocError> {
-        each!(self, stage => stage.put_and_take(next, pool, first))
-    }
-
-    #[inline(always)]
-    fn take_and_ask(
-        &mut self,
-        pool: &mut Spare,
-    ) -> Result<(Option<Record>, Readiness), AllocError> {
-        each!(self, stage => stage.take_and_ask(pool))
-    }
-
     fn state(&self) -> State {
         each!(self, stage => stage.state())
     }
 
-    fn readiness(&self) -> Readiness {
-        each!(self, stage => stage.readiness())
-    }
-
     fn held(&self) -> usize {
         each!(self, stage => stage.held())
+    }
+
+    fn room(&self) -> usize {
+        each!(self, stage => stage.room())
+    }
+
+    fn alloc(&self) -> Global {
+        each!(self, stage => stage.alloc())
     }
 }
