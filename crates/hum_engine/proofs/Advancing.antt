@@ -13,7 +13,7 @@ use Rattle.hum_nodes.proofs.Followed.{read_none, read_more}
 use Rattle.hum_engine.specs.declared.net.Net.{Net}
 use Rattle.hum_engine.specs.Looks.{Look, Sees}
 use Rattle.hum_engine.specs.Scene.{Scene, plan_of, before_all}
-use Rattle.hum_engine.specs.Nets.{NetAt, AtEach, IsRunning, AreOver, HasStepped, HasAdvanced, MarksFailures, MayStep}
+use Rattle.hum_engine.specs.Nets.{NetAt, AtEach, IsRunning, AreOver, HasStepped, HasAdvanced, MayStep}
 use Rattle.hum_engine.specs.Nets.{Leads, Watches}
 use Rattle.hum_engine.proofs.Netting.{not_over}
 use Rattle.hum_engine.proofs.Running.{driven_on, no_rests, restated, seen, unfailed_at}

@@ -1,5 +1,5 @@
 -- What a stage does next, by its kind.
-use Rattle.std.proofs.Common.{◌≡◌, ◌∙◌, ℕ, Bool, true, false, List, Some, slice_get, get_or, refl, sym, ap, arith}
+use Rattle.std.proofs.Common.{◌≡◌, ◌∙◌, ℕ, false, List, Some, slice_get, get_or, refl, sym, ap, arith}
 use Rattle.hum_stage.specs.declared.faults.End.{End}
 use Rattle.hum_stage.specs.declared.contract.Stage.{Ghosts as Stage}
 use Rattle.hum_nodes.specs.At.{At, doing_of, readiness_of}
@@ -11,7 +11,7 @@ use Rattle.hum_stage.specs.declared.faults.Readiness.TheVariants as kind
 use Rattle.hum_engine.specs.declared.web.Web.{Web}
 use Rattle.hum_nodes.specs.Nodes.{is_source, readiness_at, StandsAs}
 use Rattle.hum_nodes.proofs.Standing.{stage_bytes}
-use Rattle.hum_engine.specs.Scene.{Scene, at_of, HasActor, IsAbout, IsAboutKind, IsDoing, IsKind, Somewhere}
+use Rattle.hum_engine.specs.Scene.{Scene, at_of, HasActor, IsAbout, IsAboutKind, IsDoing, Somewhere}
 use Rattle.hum_engine.proofs.Feeding.{node_at}
 use Rattle.hum_engine.proofs.Readying.{never}
 use Rattle.hum_engine.proofs.Turning.{one_kind}

@@ -30,7 +30,7 @@ use Rattle.hum_engine.specs.declared.web.Web.{Web}
 use Rattle.hum_engine.specs.declared.net.Net.{Net}
 use Rattle.hum_engine.specs.Readers.{ShowsSame, remaining_at, ended_at, or_none, HasReadNone}
 use Rattle.hum_engine.specs.Scene.{Scene, plan_of, moved, before, before_all, only, at_of, Stands, IsAt}
-use Rattle.hum_engine.specs.Scene.{MayTurn, IsActor, IsKind, KeepsOthers, Fed}
+use Rattle.hum_engine.specs.Scene.{MayTurn, IsKind, KeepsOthers, Fed}
 use Rattle.hum_engine.specs.Nets.{NetAt, GoesTo, HasTurned, SinkWent, MayWrite}
 use Rattle.hum_engine.proofs.Appending.{appends_none, appends_trans}
 use Rattle.hum_engine.proofs.Feeding.{link_of, node_of}

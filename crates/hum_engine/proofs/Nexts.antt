@@ -1,26 +1,17 @@
 -- What a stage that isn't a source gives or takes next.
-use Rattle.std.proofs.Common.{◌≡◌, ◌∙◌, ◌<◌, ℕ, zero, suc, length, true, false, List, [], ◌∷◌, ◌++◌, Option, Some}
-use Rattle.std.proofs.Common.{slice_get, slice_set, slice_index, get_or, refl, sym, ap, subst, lt-ltb, arith, ⊎_elim}
-use Rattle.std.proofs.Common.{inl, inr}
-use Rattle.std.specs.Prelude.{nat_lt, is_some, is_none, ◌||◌, ◌&&◌, MatchOption, None}
-use Rattle.hum_text.specs.declared.calls.Source.{Ghosts as Source}
+use Rattle.std.proofs.Common.{◌≡◌, ◌∙◌, ◌<◌, ℕ, length, true, false, List, [], Some}
+use Rattle.std.proofs.Common.{slice_get, slice_set, slice_index, get_or, refl, sym, ap}
 use Rattle.hum_stage.specs.declared.contract.Stage.{Ghosts as Stage}
-use Rattle.hum_turns.specs.Links.{has_room, view}
-use Rattle.hum_turns.proofs.Near.{source_touches}
+use Rattle.hum_turns.specs.Links.{view}
 use Rattle.hum_engine.specs.Scene.{Scene, plan_of, at_of, IsAt, IsKind, IsAbout}
-use Rattle.hum_engine.specs.Scene.{IsActor, HasActor, MayAct, MayTurn, Done, Fed, KeepsOthers, HasRoom}
-use Rattle.std.proofs.lemmas.Bool.{false≢true}
-use Rattle.std.specs.Vec.{with_item}
-use Rattle.hum_engine.proofs.Acting.{gives_some, keeps, gave, passing, Passing, link_here, may_take, passed}
-use Rattle.hum_engine.proofs.Netting.{source_here}
-use Rattle.hum_engine.proofs.Readying.{source_ready, room_in, room_stage, some_takes, within_links, touched_gives}
-use Rattle.hum_engine.proofs.Readying.{touched_takes}
-use Rattle.std.proofs.lemmas.Option.{none-some, same_Some, slice_get_within, get_or_from_slice_get}
+use Rattle.hum_engine.specs.Scene.{IsActor, HasActor, MayAct, MayTurn, Done, HasRoom}
+use Rattle.hum_engine.proofs.Acting.{gave, passing, Passing, link_here, may_take}
+use Rattle.hum_engine.proofs.Readying.{room_in, room_stage, some_takes, within_links, touched_gives}
 use Rattle.hum_score.specs.Row.{Row}
 use Rattle.hum_turns.specs.Flow.{Flow}
-use Rattle.hum_turns.specs.Turns.{can, ready, state, pushed, popped}
+use Rattle.hum_turns.specs.Turns.{can, ready, state, pushed}
 use Rattle.hum_turns.specs.Near.{touched}
-use Rattle.hum_nodes.specs.At.{sources_of, readiness_of, At, doing_of, HasPut, HasTaken, MayPut, MayDo, MayChange}
+use Rattle.hum_nodes.specs.At.{sources_of, readiness_of, At, doing_of, HasTaken, MayDo, MayChange}
 use Rattle.hum_nodes.specs.Doing as does
 use Rattle.hum_nodes.specs.Nodes.{StandsAs, is_source, readiness_at, readiness_in}
 use Rattle.hum_nodes.specs.declared.node.Node.{Node}
@@ -30,16 +21,13 @@ use Rattle.hum_engine.specs.declared.link.Link as port
 use Rattle.hum_engine.specs.declared.web.Web.{Web}
 use Rattle.hum_engine.specs.Links.{IsLink, Goes, Tells, is_some_of, taken_of}
 use Rattle.hum_engine.specs.declared.link.Taken.{Taken}
-use Rattle.hum_engine.specs.declared.link.Taken.TheVariants as taken
-use Rattle.hum_engine.specs.Traffic.{Traffic}
-use Rattle.hum_engine.proofs.Doings.{wants_of, gives_of}
-use Rattle.hum_engine.proofs.Feeding.{node_of, node_at}
-use Rattle.hum_engine.proofs.Moving.{nth, set_here}
+use Rattle.hum_engine.proofs.Doings.{wants_of}
+use Rattle.hum_engine.proofs.Feeding.{node_at}
 use Rattle.hum_engine.proofs.Polling.{state_gives}
 use Rattle.hum_engine.proofs.Stepping.{has_done}
-use Rattle.hum_engine.proofs.Taking.{left, wants_at}
-use Rattle.hum_engine.proofs.Tried.{record_left, tells_some}
-use Rattle.hum_engine.proofs.Turning.{stage_fed, stage_ready, one_kind, acting, turn_of}
+use Rattle.hum_engine.proofs.Taking.{left}
+use Rattle.hum_engine.proofs.Tried.{tells_some}
+use Rattle.hum_engine.proofs.Turning.{stage_ready, one_kind, acting, turn_of}
 
 -- A stage that has taken a record ahead, and whose link has room: it gives next, and can.
 pub record IsAhead {S R : Type 0} (stage : Stage S) (k : ℕ) (web : Web S R) (node : Node S R) : Type 0 where

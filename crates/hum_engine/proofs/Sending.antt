@@ -1,5 +1,5 @@
 -- What the sink writes.
-use Rattle.std.proofs.Common.{◌≡◌, ◌∙◌, ◌||◌, ℕ, List, [], ◌∷◌, ◌++◌, Option, Some, None, refl, sym, ap, append-nil, true, false, arith}
+use Rattle.std.proofs.Common.{◌≡◌, ◌∙◌, ℕ, List, [], ◌∷◌, ◌++◌, Option, Some, None, refl, sym, ap, append-nil, true, false}
 use Rattle.std.proofs.Common.{Bool, is_some, if◌then◌else◌}
 use Rattle.std.proofs.lemmas.Bool.{and_parts}
 use Rattle.std.proofs.lemmas.Option.{none-some}
@@ -16,7 +16,6 @@ use Rattle.hum_turns.specs.Turns.{Takes}
 use Rattle.hum_turns.specs.Text.{text}
 use Rattle.hum_turns.proofs.Writing.{text_append}
 use Rattle.hum_engine.specs.Links.{next_of}
-use Rattle.hum_engine.specs.Readers.{is_read_of, is_write}
 use Rattle.hum_engine.specs.declared.net.Net.{Net}
 use Rattle.hum_engine.specs.declared.web.Web.{Web}
 use Rattle.hum_engine.specs.Scene.{Scene, plan_of, Done}

@@ -1,7 +1,7 @@
 -- What a run has come to, also of sources that tell their bytes.
 use Rattle.std.proofs.Common.{◌≡◌, ◌∙◌, ℕ, ◌+◌, ◌-◌, ◌*◌, ◌<◌, ◌≤◌, Bool, true, List, [], ◌∷◌, ◌++◌, length, Option, Some}
-use Rattle.std.proofs.Common.{None, Vec, Global, false, refl, sym, ap, subst, arith, inl, inr, ⊎_elim, slice_get}
-use Rattle.std.specs.Prelude.{is_some, IfSome}
+use Rattle.std.proofs.Common.{None, false, refl, sym, ap, subst, arith, inl, inr, ⊎_elim, slice_get}
+use Rattle.std.specs.Prelude.{is_some}
 use Rattle.std.proofs.lemmas.Bool.{cases_Bool, false≢true}
 use Rattle.std.proofs.lemmas.Option.{none-some, same_Some}
 use Rattle.hum_text.specs.declared.calls.Source.{Ghosts as Source}
@@ -12,14 +12,14 @@ use Rattle.hum_turns.specs.declared.order.Side.{Side}
 use Rattle.hum_turns.specs.declared.result.RunResult.{RunResult}
 use Rattle.hum_turns.specs.Plan.{last}
 use Rattle.hum_turns.specs.Failures.{Now, ended_by, result}
-use Rattle.hum_turns.specs.Orders.{Order, LeansTo, ready_list}
+use Rattle.hum_turns.specs.Orders.{Order, LeansTo}
 use Rattle.hum_turns.proofs.Writing.{still}
 use Rattle.hum_nodes.specs.declared.node.Node.{Node}
 use Rattle.hum_nodes.specs.Nodes.{StandsAs, is_source}
 use Rattle.hum_nodes.proofs.Followed.{read_none}
 use Rattle.hum_nodes.proofs.Standing.{any_rest, reads_few}
 use Rattle.hum_engine.specs.declared.net.Net.{Net}
-use Rattle.hum_engine.specs.Looks.{Look, FromLeft, FromRight, Unseen, Sees, leaning, still_to_ask}
+use Rattle.hum_engine.specs.Looks.{Look, FromLeft, FromRight, Unseen, leaning, still_to_ask}
 use Rattle.hum_engine.specs.Readers.{ended_at}
 use Rattle.hum_engine.specs.Scene.{Scene, plan_of, at_of, before_all}
 use Rattle.hum_engine.specs.Nets.{NetAt, AtEach, IsNet, IsRunning, MayStep, HasAdvanced, MarksFailures, IsCloser}

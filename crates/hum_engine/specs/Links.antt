@@ -1,5 +1,5 @@
 -- How a link stands for what has passed over it.
-use Rattle.std.specs.Prelude.{◌≡◌, ℕ, Bool, true, false, nat_lt, List, [], ◌∷◌, ◌++◌, length, Option, Some, None}
+use Rattle.std.specs.Prelude.{◌≡◌, ℕ, Bool, true, false, nat_lt, List, [], ◌∷◌, length, Option, Some, None}
 use Rattle.hum_score.specs.Row.{Row}
 use Rattle.hum_engine.specs.Traffic.{Traffic}
 use Rattle.hum_stage.specs.declared.faults.End.{End}

@@ -1,5 +1,5 @@
 -- What a run knows of who is ready, and the order by which it goes that leans to a side.
-use Rattle.std.specs.Prelude.{◌≡◌, ℕ, ◌-◌, ◌<◌, ◌≤◌, Bool, false, List, Option, None, Some}
+use Rattle.std.specs.Prelude.{◌≡◌, ℕ, ◌-◌, ◌<◌, ◌≤◌, false, Option, None, Some}
 use Rattle.hum_score.specs.Row.{Row}
 use Rattle.hum_turns.specs.declared.order.Side.{Side}
 use Rattle.hum_turns.specs.Failures.{Now, is_ready}

@@ -1,7 +1,7 @@
 -- What a net stands for: its web, what was written, and how it failed.
 use Rattle.std.specs.Prelude.{◌≡◌, ◌≢◌, ◌⊎◌, ℕ, ◌+◌, ◌-◌, ◌<◌, ◌≤◌}
 use Rattle.std.specs.Prelude.{Bool, true, false, ◌||◌, if◌then◌else◌, List, [], ◌∷◌, ◌++◌, length}
-use Rattle.std.specs.Prelude.{Option, Some, None, IfSome, is_some, slice_get, slice_set, Result, Ok, Err}
+use Rattle.std.specs.Prelude.{Option, Some, None, is_some, slice_get}
 use Rattle.std.specs.Io.KnownBytes.{Appends}
 use Rattle.hum_text.specs.Calls.{counted}
 use Rattle.hum_text.specs.declared.calls.Source.{Ghosts as Source}
@@ -15,11 +15,10 @@ use Rattle.hum_turns.specs.declared.result.RunResult.TheVariants as ends
 use Rattle.hum_turns.specs.Flow.{Begins}
 use Rattle.hum_turns.specs.Plan.{Plan, KeepsFine, last}
 use Rattle.hum_turns.specs.Meaning.{plan_meaning, first_fault, IsNumbered}
-use Rattle.hum_turns.specs.Orders.{Order, Driven, LeansTo, ready_list, choice}
+use Rattle.hum_turns.specs.Orders.{Order, Driven, ready_list, choice}
 use Rattle.hum_turns.specs.Counts.{turns_of, most}
-use Rattle.hum_turns.specs.Links.{Moment, has_room, has_some, linked}
-use Rattle.hum_turns.specs.Turns.{Gives, Takes, state}
-use Rattle.hum_turns.specs.Turns.{is_source as reads_bytes}
+use Rattle.hum_turns.specs.Links.{has_some, linked}
+use Rattle.hum_turns.specs.Turns.{Takes, state}
 use Rattle.hum_turns.specs.Near.{touched}
 use Rattle.hum_turns.specs.Text.{text}
 use Rattle.hum_turns.specs.Failures.{Now, MayFail, Turn, Walk, IsFirst, IsFailure}
@@ -38,7 +37,6 @@ use Rattle.hum_engine.specs.declared.net.Turned.TheVariants as turns
 use Rattle.hum_engine.specs.Readers.{ended_at, failed_at, is_read_of, is_write, ShowsSame, HaveRead, AsksOnce}
 use Rattle.hum_engine.specs.Scene.{Scene, plan_of, moved, before_all, Stands, IsAt, IsNetPlan, IsBegun, Done}
 use Rattle.hum_engine.specs.Scene.{IsActor, AreTakers, IsFull, HasRoom}
-use Rattle.hum_engine.specs.Scene.{KeepsOthers}
 use Rattle.hum_engine.specs.Writing.{WroteFront as WroteSome}
 use Rattle.hum_engine.specs.Looks.{Look, Sees, still_to_ask}
 

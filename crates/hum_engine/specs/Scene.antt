@@ -1,8 +1,7 @@
 -- What nodes and links stand for.
 use Rattle.std.specs.Prelude.{◌≡◌, ◌≢◌, ◌⊎◌, ℕ, ◌+◌, ◌<◌, ◌≤◌, Bool, true, false}
 use Rattle.std.specs.Prelude.{if◌then◌else◌, nat_eq, nat_lt, List, [], ◌++◌}
-use Rattle.std.specs.Prelude.{length, map, Some, slice_get, slice_index}
-use Rattle.std.specs.Vec.{with_item}
+use Rattle.std.specs.Prelude.{length, map, Some, slice_get}
 use Rattle.std.specs.Io.KnownBytes.{Consumes, IsAtEnd}
 use Rattle.hum_text.specs.declared.calls.Source.{Ghosts as Source}
 use Rattle.hum_score.specs.Row.{Row}
@@ -16,11 +15,10 @@ use Rattle.hum_turns.specs.Counts.{total}
 use Rattle.hum_turns.specs.Links.{Moment, given, view, IsOpening}
 use Rattle.hum_turns.specs.Turns.{State, state, can, ready, Does, Step, Run}
 use Rattle.hum_nodes.specs.Fine.{fine}
-use Rattle.hum_nodes.specs.At.{Kind, At, HoldsOneEach, IsLimited, doing_of, readiness_of, holds_of, waits_of, sources_of}
+use Rattle.hum_nodes.specs.At.{Kind, At, HoldsOneEach, IsLimited, doing_of, readiness_of, holds_of, waits_of}
 use Rattle.hum_nodes.specs.At.{fresh as fresh_at}
 use Rattle.hum_nodes.specs.Single.{single}
 use Rattle.hum_nodes.specs.Doing.{Doing}
-use Rattle.hum_nodes.specs.Doing as does
 use Rattle.hum_stage.specs.declared.faults.Readiness.{Readiness}
 use Rattle.hum_nodes.specs.declared.node.Node.{Node}
 use Rattle.hum_nodes.specs.Nodes.{StandsAs, is_source, remaining_of, ended_of}

@@ -1,6 +1,5 @@
 -- What the turn of a stage comes to.
 use Rattle.std.specs.Prelude.{◌≡◌, ℕ, ◌<◌, true, false, Result, Ok, Err, OnOk, OnErr, IfOk, ◌||◌}
-use Rattle.hum_score.specs.Row.{Row}
 use Rattle.hum_read.specs.declared.ReadError.{ReadError}
 use Rattle.hum_read.specs.declared.ReadError.TheVariants as error
 use Rattle.hum_turns.specs.Turns.{state, ready}

@@ -1,4 +1,4 @@
-use Rattle.std.proofs.Common.{ap, sym, arith}
+use Rattle.std.proofs.Common.{ap, arith}
 use Rattle.hum_engine.proofs.Choosing.{left_asked, left_filled, left_on, left_over, left_waits}
 use Rattle.hum_engine.proofs.net.Net.give_left.Goals as goal
 

@@ -15,4 +15,4 @@ pub loop-next-preserved : goal.loop-next-preserved
 loop-next-preserved g c = ran_on c.loop-next.invariant c.in-Some.ensures.advanced refl
 
 pub returns : goal.returns
-returns g c = ran_out c.loop-next.invariant c.exit.ensures.advanced refl
+returns g c = ran_out c.loop-next.invariant c.in_default.ensures.advanced refl

@@ -1,4 +1,4 @@
-use Rattle.std.proofs.Common.{◌∙◌, Some, refl, sym, ap, ap₂}
+use Rattle.std.proofs.Common.{◌∙◌, Some, refl, ap, ap₂}
 use Rattle.hum_read.specs.Steps.{given_by}
 use Rattle.hum_engine.proofs.Feeding.{turn_link, source_room, why_stopped, source_full, told_read}
 use Rattle.hum_engine.proofs.Feeding.{told_failed, link_of}
