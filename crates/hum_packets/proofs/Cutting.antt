@@ -39,7 +39,7 @@ cut-more bytes rest first more packets n x some size is left =
       sizes = All-push IsDataSize packets first x.sizes
           (omega (arith, long, size, some), omega (arith, long, size));
       whole = λ few. elim (x.whole few)
-          as (λ _. ((packets ++ first ∷ [] ≡ []) × (more ≡ bytes)) ⊎ ((packets ++ first ∷ [] ≡ bytes ∷ []) × (more ≡ [])) ) [
+          as (λ _. ((packets ++ first ∷ [] ≡ []) × (more ≡ bytes)) ⊎ ((packets ++ first ∷ [] ≡ bytes ∷ []) × (more ≡ []))) [
             | inl p ↦ inr (one few p.0 p.1, left ∙ drop_all n rest (omega (arith, size, ap length p.1, few)))
             | inr p ↦ absurd (omega (arith, some, ap length p.1))
           ];
