@@ -1,7 +1,7 @@
 -- One case behind another.
-use Rattle.std.proofs.Common.{◌≡◌, ℕ, ◌+◌, ◌-◌, ◌^◌, ◌<◌, ◌≤◌, min, max, List, [], ◌∷◌, ◌++◌, length, refl, sym, ap, subst, ◌∙◌, arith, Bool, true, false, nat_lt, Ok, Err, Some, None, Option, inl, inr, ◌⊎◌, append_assoc, append-nil, length-append}
+use Rattle.std.proofs.Common.{◌≡◌, ℕ, ◌+◌, ◌-◌, ◌^◌, ◌<◌, min, List, [], ◌∷◌, ◌++◌, length, refl, sym, ap, subst, ◌∙◌, arith, Bool, true, false, nat_lt, Err, Some, None, Option, inl, inr, ◌⊎◌, append_assoc, append-nil, length-append}
 use Rattle.std.specs.List.{concat}
-use Rattle.std.specs.Io.KnownBytes.{Appends, Consumes, Keeps, append_known, prepend_known}
+use Rattle.std.specs.Io.KnownBytes.{Appends, Keeps, append_known, prepend_known}
 use Rattle.std.proofs.lemmas.List.{append_cancel_left}
 use Rattle.std.proofs.KnownBytes.{Appends-nil, Appends-trans, Appends-kept, Keeps-refl, Keeps-trans}
 use Rattle.hum_text.specs.declared.calls.Source.{Ghosts as Source}
@@ -16,8 +16,8 @@ use Rattle.hum_net.specs.declared.outcome.Outcome.TheVariants as outcome
 use Rattle.hum_net.specs.Bundles.{IsRefusal}
 use Rattle.hum_packets.specs.declared.stop.Stop.{Stop}
 use Rattle.hum_packets.specs.declared.stop.Stop.TheVariants as stop
-use Rattle.hum_packets.specs.Lists.{Chain, IsText, StopsInList}
-use Rattle.hum_packets.specs.Streams.{Reading, Writing, Took, Lost, HasFailed, Is, IsFront, Grows, Serves, Hands, Answers, HasAnswered, IsAnswer, further, coming, going}
+use Rattle.hum_packets.specs.Lists.{StopsInList}
+use Rattle.hum_packets.specs.Streams.{Reading, Writing, Took, Lost, HasFailed, Is, IsFront, Grows, Hands, Answers, HasAnswered, IsAnswer, further, coming, going}
 use Rattle.hum_packets.specs.Texts.{IsHeld}
 use Rattle.hum_packets.proofs.Feeding.{grows-trans}
 use Rattle.hum_packets.proofs.Stepping.{took-chain, took-then, took-as, chain-more, concat-one, consumes-is, consumes-front}
@@ -25,9 +25,9 @@ use Rattle.hum_many.specs.declared.end.ManyEnd.{ManyEnd}
 use Rattle.hum_many.specs.declared.end.ManyEnd.TheVariants as end
 use Rattle.hum_net.specs.Outcomes.{status_of}
 use Rattle.hum_many.specs.Ends.{end_of, is_read_end, is_write_end}
-use Rattle.hum_many.specs.Cases.{Named, IsCase, IsPlan, StopsInCase, TookCase, EndsHere, LostCase, BreaksCase}
+use Rattle.hum_many.specs.Cases.{Named, IsCase, IsPlan, TookCase, EndsHere, LostCase}
 use Rattle.hum_many.specs.Answers.{told, CaseComes, AnswersCase, AnswerEach}
-use Rattle.hum_many.specs.Many.{PlanComes, Accepts, AnsweredCases, RefusedPlan, StoppedInPlan, StoppedInCase, WroteFront, Written, ManyCome}
+use Rattle.hum_many.specs.Many.{PlanComes, AnsweredCases, RefusedPlan, StoppedInPlan, StoppedInCase, WroteFront, Written, ManyCome}
 use Rattle.hum_many.specs.Talks.{Talked, TalkedToEnd, TalkedTo, ReadFails, HasClosed}
 
 each-more : (plan : List ℕ) (cases : List (List Named)) (answers : List (List ℕ)) (case : List Named) (answer : List ℕ)

@@ -1,5 +1,5 @@
 -- Bytes are cut into packets.
-use Rattle.std.proofs.Common.{◌≡◌, ℕ, ◌+◌, ◌-◌, ◌<◌, ◌≤◌, min, List, [], ◌∷◌, ◌++◌, length, take, drop, map, refl, sym, ap, ◌∙◌, arith, ◌⊎◌, inl, inr, append_assoc, append-nil, length-append, take-append-drop}
+use Rattle.std.proofs.Common.{◌≡◌, ℕ, ◌<◌, ◌≤◌, min, List, [], ◌∷◌, ◌++◌, length, take, drop, map, refl, sym, ap, ◌∙◌, arith, ◌⊎◌, inl, inr, append_assoc, append-nil, take-append-drop}
 use Rattle.std.specs.List.{concat, All}
 use Rattle.std.proofs.lemmas.List.{take_all, drop_all, map-append, length-take-le}
 use Rattle.std.proofs.lemmas.List.Folds.{concat-append}

@@ -1,4 +1,4 @@
-use Rattle.std.proofs.Common.{[], ◌∙◌, sym, subst, true, false}
+use Rattle.std.proofs.Common.{[], ◌∙◌, sym, subst}
 use Rattle.std.proofs.lemmas.Result.{err_from_is_err_and}
 use Rattle.hum_packets.proofs.Feeding.{hands-trans}
 use Rattle.hum_packets.specs.Lists.{StopsInList}

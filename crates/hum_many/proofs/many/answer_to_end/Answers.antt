@@ -1,6 +1,3 @@
-use Rattle.std.proofs.Common.{◌≡◌, true, subst}
-use Rattle.hum_packets.specs.Streams.{HasFailed}
-use Rattle.hum_many.specs.Ends.{is_read_end}
 use Rattle.hum_many.proofs.Talking.{end-fails}
 use Rattle.hum_many.proofs.many.answer_to_end.Goals as goal
 
