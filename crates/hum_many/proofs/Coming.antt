@@ -1,5 +1,5 @@
 -- What comes of a case.
-use Rattle.std.proofs.Common.{◌≡◌, ℕ, List, [], refl, sym, ap, subst, ◌∙◌, Bool, true, false, nat_lt, Some, None, Option, inl, inr, ◌⊎◌}
+use Rattle.std.proofs.Common.{◌≡◌, ℕ, List, [], refl, sym, subst, ◌∙◌, Bool, true, false, nat_lt, Some, Option, inl, inr}
 use Rattle.hum_words.specs.Bundle.{largest}
 use Rattle.hum_turns.specs.declared.result.RunResult.TheVariants as ends
 use Rattle.hum_net.specs.declared.outcome.Outcome.{Outcome}

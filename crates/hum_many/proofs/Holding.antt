@@ -1,13 +1,13 @@
 -- Scores that are held.
-use Rattle.std.proofs.Common.{◌≡◌, ℕ, ◌+◌, ◌-◌, ◌<◌, ◌≤◌, List, [], ◌∷◌, ◌++◌, length, drop, get_or, refl, sym, ap, subst, ◌∙◌, arith, Bool, true, false, ltb, Some, None, Option, append_assoc}
+use Rattle.std.proofs.Common.{◌≡◌, ℕ, ◌+◌, ◌-◌, ◌<◌, ◌≤◌, List, [], ◌∷◌, ◌++◌, length, drop, get_or, refl, sym, ap, ◌∙◌, arith, Bool, true, false, ltb, Some, None}
 use Rattle.std.specs.Str.{bytes_eq}
 use Rattle.std.proofs.lemmas.List.{at_drop_more, at_drop_all}
 use Rattle.std.proofs.lemmas.Bool.{ltb-true, lt-ltb}
 use Rattle.std.proofs.lemmas.Bool.Decides.{nat_tests}
 use Rattle.hum_words.specs.Bundle.{largest}
-use Rattle.hum_packets.specs.Lists.{Then, Chain, IsPacket, IsEnd, IsText, Stops, StopsInList}
-use Rattle.hum_packets.proofs.Stepping.{chain-more, chain-none}
-use Rattle.hum_many.specs.Cases.{Named, size, size_of, score_in, HoldsCase, HoldsScore, IsScore, StopsInCase}
+use Rattle.hum_packets.specs.Lists.{Then, Chain, IsPacket, IsText, Stops, StopsInList}
+use Rattle.hum_packets.proofs.Stepping.{chain-none}
+use Rattle.hum_many.specs.Cases.{Named, size, size_of, score_in, HoldsCase, IsScore, StopsInCase}
 
 pub holds-none : (xs : List Named) → xs ≡ [] → HoldsCase [] xs largest false
 unfolding size

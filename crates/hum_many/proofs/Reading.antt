@@ -1,14 +1,14 @@
 -- Cases that are read.
-use Rattle.std.proofs.Common.{◌≡◌, ℕ, ◌+◌, ◌<◌, List, [], ◌∷◌, ◌++◌, length, refl, ap, subst, ◌∙◌, arith, false, true, Bool}
+use Rattle.std.proofs.Common.{◌≡◌, ℕ, ◌<◌, List, [], ◌∷◌, ◌++◌, length, ap, subst, ◌∙◌, false, true, Bool}
 use Rattle.hum_text.specs.declared.calls.Source.{Ghosts as Source}
 use Rattle.hum_packets.specs.declared.stop.Stop.{Stop}
 use Rattle.hum_packets.specs.declared.stop.Stop.TheVariants.{Broken, Read, Write, Memory}
 use Rattle.hum_packets.specs.Lists.{Then, Chain, IsPacket, IsText, Stops, StopsInList}
-use Rattle.hum_packets.specs.Streams.{Reading, Took, Lost, Ceases, coming, further}
+use Rattle.hum_packets.specs.Streams.{Reading, Took, Lost, further}
 use Rattle.hum_packets.specs.Held.{IsFed, LostAhead, Begins}
 use Rattle.hum_packets.proofs.Feeding.{kept-is}
 use Rattle.hum_packets.proofs.Stepping.{took-then, took-as, lost-then, lost-as, fed-took, fed-lost, chain-more, chain-none}
-use Rattle.hum_many.specs.Cases.{Named, IsScore, IsCase, StopsInCase, TookCase, LostCase, EndsHere}
+use Rattle.hum_many.specs.Cases.{Named, IsScore, StopsInCase, TookCase, LostCase, EndsHere}
 use Rattle.hum_many.proofs.Holding.{score-read, stops-next, stops-score}
 
 module _ {R : Type 0} (source : Source R) where

@@ -1,7 +1,7 @@
 -- One case behind another.
-use Rattle.std.proofs.Common.{◌≡◌, ℕ, ◌+◌, ◌-◌, ◌^◌, ◌<◌, ◌≤◌, min, max, List, [], ◌∷◌, ◌++◌, length, refl, sym, ap, subst, ◌∙◌, arith, Bool, true, false, nat_lt, Ok, Err, Some, None, Option, inl, inr, ◌⊎◌, append_assoc, append-nil, length-append}
+use Rattle.std.proofs.Common.{◌≡◌, ℕ, ◌+◌, ◌-◌, ◌^◌, ◌<◌, min, List, [], ◌∷◌, ◌++◌, length, refl, sym, ap, subst, ◌∙◌, arith, Bool, true, false, nat_lt, Err, Some, None, Option, inl, inr, ◌⊎◌, append_assoc, append-nil, length-append}
 use Rattle.std.specs.List.{concat}
-use Rattle.std.specs.Io.KnownBytes.{Appends, Consumes, Keeps, append_known, prepend_known}
+use Rattle.std.specs.Io.KnownBytes.{Appends, Keeps, append_known, prepend_known}
 use Rattle.std.proofs.lemmas.List.{append_cancel_left}
 use Rattle.std.proofs.KnownBytes.{Appends-nil, Appends-trans, Appends-kept, Keeps-refl, Keeps-trans}
 use Rattle.hum_text.specs.declared.calls.Source.{Ghosts as Source}
@@ -16,19 +16,19 @@ use Rattle.hum_net.specs.declared.outcome.Outcome.TheVariants as outcome
 use Rattle.hum_net.specs.Bundles.{IsRefusal}
 use Rattle.hum_packets.specs.declared.stop.Stop.{Stop}
 use Rattle.hum_packets.specs.declared.stop.Stop.TheVariants as stop
-use Rattle.hum_packets.specs.Lists.{Chain, IsText, StopsInList}
-use Rattle.hum_packets.specs.Streams.{Reading, Writing, Took, Lost, Is, IsFront, Grows, Serves, Hands, Answers, HasAnswered, IsAnswer, further, coming, going}
+use Rattle.hum_packets.specs.Lists.{StopsInList}
+use Rattle.hum_packets.specs.Streams.{Reading, Writing, Took, Lost, HasFailed, Is, IsFront, Grows, Hands, Answers, HasAnswered, IsAnswer, further, coming, going}
 use Rattle.hum_packets.specs.Texts.{IsHeld}
 use Rattle.hum_packets.proofs.Feeding.{grows-trans}
 use Rattle.hum_packets.proofs.Stepping.{took-chain, took-then, took-as, chain-more, concat-one, consumes-is, consumes-front}
 use Rattle.hum_many.specs.declared.end.ManyEnd.{ManyEnd}
 use Rattle.hum_many.specs.declared.end.ManyEnd.TheVariants as end
 use Rattle.hum_net.specs.Outcomes.{status_of}
-use Rattle.hum_many.specs.Ends.{end_of, is_write_end}
-use Rattle.hum_many.specs.Cases.{Named, IsCase, IsPlan, StopsInCase, TookCase, EndsHere, LostCase, BreaksCase}
+use Rattle.hum_many.specs.Ends.{end_of, is_read_end, is_write_end}
+use Rattle.hum_many.specs.Cases.{Named, IsCase, IsPlan, TookCase, EndsHere, LostCase}
 use Rattle.hum_many.specs.Answers.{told, CaseComes, AnswersCase, AnswerEach}
-use Rattle.hum_many.specs.Many.{PlanComes, Accepts, AnsweredCases, RefusedPlan, StoppedInPlan, StoppedInCase, WroteFront, Written, ManyCome}
-use Rattle.hum_many.specs.Talks.{Talked, TalkedToEnd, TalkedTo, HasClosed}
+use Rattle.hum_many.specs.Many.{PlanComes, AnsweredCases, RefusedPlan, StoppedInPlan, StoppedInCase, WroteFront, Written, ManyCome}
+use Rattle.hum_many.specs.Talks.{Talked, TalkedToEnd, TalkedTo, ReadFails, HasClosed}
 
 each-more : (plan : List ℕ) (cases : List (List Named)) (answers : List (List ℕ)) (case : List Named) (answer : List ℕ)
     → AnswerEach plan cases answers → AnswersCase plan case answer → AnswerEach plan (cases ++ case ∷ []) (answers ++ answer ∷ [])
@@ -458,3 +458,46 @@ close-come source sink start input first middle last output ended is unread unas
           (unsent-come (source.remaining input) (sink.contents output) (going sink middle) (sink.contents middle.sink) middle.waiting ended here
           (Keeps-refl (going sink middle)) grown))
     ]
+
+-- a stop for a failed read has one
+pub lost-fails : {R : Type 0} (source : Source R) (S : List ℕ → List ℕ → Type 0) (r : Reading R) (stop : Stop) → Lost source S r stop
+    → ReadFails source stop
+lost-fails source S r (stop.Broken at) lost = tt
+lost-fails source S r stop.Read lost = lost.failed
+lost-fails source S r stop.Write lost = tt
+lost-fails source S r stop.Memory lost = tt
+
+pub case-fails : {R : Type 0} (source : Source R) (r : Reading R) (stop : Stop) → LostCase source r stop → ReadFails source stop
+case-fails source r (stop.Broken at) lost = tt
+case-fails source r stop.Read lost = lost.failed
+case-fails source r stop.Write lost = tt
+case-fails source r stop.Memory lost = tt
+
+pub tell-fails : {R W : Type 0} (source : Source R) (sink : Sink W) (text line : List ℕ) (a b : Writing W) (stop : Stop)
+    → HasAnswered sink text line a b (Err stop) → ReadFails source stop
+tell-fails source sink text line a b (stop.Broken at) h = tt
+tell-fails source sink text line a b stop.Read h = absurd h
+tell-fails source sink text line a b stop.Write h = tt
+tell-fails source sink text line a b stop.Memory h = tt
+
+pub end-fails : {R : Type 0} (source : Source R) (stop : Stop) → ReadFails source stop → is_read_end (end_of stop) ≡ true → HasFailed source
+end-fails source (stop.Broken at) h is = absurd (cc)
+end-fails source stop.Read h is = h
+end-fails source stop.Write h is = absurd (cc)
+end-fails source stop.Memory h is = absurd (cc)
+
+never-read : {R : Type 0} (source : Source R) (b : Bool) → (b ≡ true → HasFailed source) → ((reader : R) → source.failed reader ≡ false)
+    → b ≡ false
+never-read source true h never =
+    let one = h refl in
+    let clash : true ≡ false = sym one.1 ∙ never one.0 in absurd (cc)
+never-read source false h never = refl
+
+pub closed-unread : {R W : Type 0} (source : Source R) (sink : Sink W) (middle last : Writing W) (ended is : ManyEnd)
+    → HasClosed sink middle last ended is → (is_read_end ended ≡ true → HasFailed source) → ((reader : R) → source.failed reader ≡ false)
+    → is_read_end is ≡ false
+closed-unread source sink middle last ended is closed failed never = elim closed as (λ _. is_read_end is ≡ false) [
+  | inl sent ↦ ap is_read_end sent.1 ∙ never-read source (is_read_end ended) failed never
+  | inr (inl none) ↦ ap is_read_end none.0
+  | inr (inr none) ↦ ap is_read_end none.0
+]

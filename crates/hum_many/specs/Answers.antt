@@ -1,5 +1,5 @@
 -- Answers to cases.
-use Rattle.std.specs.Prelude.{◌≡◌, ℕ, ◌==◌, Bool, true, if◌then◌else◌, List, [], ◌∷◌, ◌++◌, Option, Some, codes, decimal, nat_lt}
+use Rattle.std.specs.Prelude.{◌≡◌, ℕ, ◌==◌, Bool, true, if◌then◌else◌, List, [], ◌∷◌, ◌++◌, Some, codes, decimal, nat_lt}
 use Rattle.hum_packets.specs.Streams.{IsAnswer}
 use Rattle.hum_words.specs.Bundle.{largest}
 use Rattle.hum_turns.specs.declared.result.RunResult.TheVariants as ends

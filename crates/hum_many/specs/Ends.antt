@@ -30,3 +30,12 @@ is_write_end (Broken at) = false
 is_write_end Read = false
 is_write_end Write = true
 is_write_end Memory = false
+
+-- whether it was a read that failed
+abbrev pub is_read_end : ManyEnd → Bool
+is_read_end Finished = false
+is_read_end (Plan is) = false
+is_read_end (Broken at) = false
+is_read_end Read = true
+is_read_end Write = false
+is_read_end Memory = false

@@ -5,8 +5,9 @@ use Rattle.std.specs.Io.KnownBytes.{Appends}
 use Rattle.hum_text.specs.declared.calls.Source.{Ghosts as Source}
 use Rattle.hum_text.specs.declared.calls.Sink.{Ghosts as Sink}
 use Rattle.hum_packets.specs.declared.stop.Stop.{Stop}
+use Rattle.hum_packets.specs.declared.stop.Stop.TheVariants as stop
 use Rattle.hum_packets.specs.Lists.{Chain}
-use Rattle.hum_packets.specs.Streams.{Reading, Writing, Took, Serves, coming, going}
+use Rattle.hum_packets.specs.Streams.{Reading, Writing, Took, Serves, HasFailed, coming, going}
 use Rattle.hum_many.specs.Cases.{Named, IsCase, EndsHere, LostCase}
 use Rattle.hum_many.specs.Answers.{AnswerEach}
 use Rattle.hum_many.specs.Ends.{end_of, is_write_end}
@@ -38,6 +39,13 @@ module _ {R W : Type 0} (source : Source R) (sink : Sink W) where
   abbrev pub AllCome : Reading R → Writing W → Writing W → Result ManyEnd Stop → Type 0
   AllCome old before after (Ok is) = ManyCome (coming source old) (going sink before) (going sink after) is
   AllCome old before after (Err stop) = ManyCome (coming source old) (going sink before) (going sink after) (end_of stop)
+
+-- A stop for a failed read has one.
+abbrev pub ReadFails : {R : Type 0} → Source R → Stop → Type 0
+ReadFails source (stop.Broken at) = Unit {0}
+ReadFails source stop.Read = HasFailed source
+ReadFails source stop.Write = Unit {0}
+ReadFails source stop.Memory = Unit {0}
 
 module _ {W : Type 0} (sink : Sink W) where
   -- What waited was written, where no write failed before; a write may have failed now.

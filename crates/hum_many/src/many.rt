@@ -1,10 +1,10 @@
 //! A plan and cases that are read, and their answers.
-ghost use Rattle.std.specs.Prelude.{◌≡◌, ◌||◌, false, nat_lt, OnOk, IfOk, IfErr};
+ghost use Rattle.std.specs.Prelude.{◌≡◌, ◌||◌, true, false, nat_lt, OnOk, IfOk, IfErr};
 ghost use Rattle.hum_net.specs.Outcomes.{status_of};
-ghost use Rattle.hum_packets.specs.Streams.{Hands, is_write, coming, going};
-ghost use Rattle.hum_many.specs.Ends.{is_write_end};
+ghost use Rattle.hum_packets.specs.Streams.{Hands, HasFailed, is_write, coming, going};
+ghost use Rattle.hum_many.specs.Ends.{is_read_end, is_write_end};
 ghost use Rattle.hum_many.specs.Many.{PlanComes, ManyCome};
-ghost use Rattle.hum_many.specs.Talks.{TalkedToEnd, TalkedTo, AllCome, HasClosed};
+ghost use Rattle.hum_many.specs.Talks.{TalkedToEnd, TalkedTo, AllCome, ReadFails, HasClosed};
 
 use crate::answers::{run_case, tell};
 use crate::cases::read_case;
@@ -63,6 +63,8 @@ fn answer_all<R: Source + Drop, W: Sink + Drop>(
     ensures come { AllCome R.Source W.Sink packets.old answers.old answers.new result }
     ensures hands { Hands W.Sink answers.old answers.new (is_write result) }
     ensures end { IfOk result (λ end. is_write_end end ≡ false) }
+    ensures unread { IfOk result (λ end. is_read_end end ≡ false) }
+    ensures failed { IfErr result (ReadFails R.Source) }
 {
     let plan = read_text(alloc, packets, answers, LONGEST_PLAN + 1)?.bytes;
     let outcome = plan_outcome(alloc, &plan);
@@ -83,6 +85,7 @@ fn answer_to_end<R: Source + Drop, W: Sink + Drop>(
     requires { packets.old.passed ≡ 0 }
     ensures come { ManyCome (coming R.Source packets.old) (going W.Sink answers.old) (going W.Sink answers.new) result }
     ensures hands { Hands W.Sink answers.old answers.new (is_write_end result) }
+    ensures failed { is_read_end result ≡ true → HasFailed R.Source }
 {
     match answer_all(alloc, packets, answers) {
         Ok(end) => end,
@@ -117,6 +120,9 @@ pub fn run_many<R: Source + Drop, W: Sink + Drop>(
 
     // A failed write or flush is told exactly where one set the output's mark.
     ensures marked { W.failed result.1 ≡ (W.failed output || is_write_end result.0) }
+
+    // Where no read can fail, none is told to.
+    ensures unread { ((reader : R) → R.failed reader ≡ false) → is_read_end result.0 ≡ false }
 {
     let mut answers = Answers::new(alloc, output);
     let Ok(mut packets) = Packets::new(alloc, input) else {

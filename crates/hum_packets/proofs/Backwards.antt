@@ -1,11 +1,11 @@
 -- Lists are read back, and in one way.
-use Rattle.std.proofs.Common.{◌≡◌, ℕ, ◌+◌, ◌-◌, ◌*◌, ◌/◌, ◌%◌, ◌<◌, ◌≤◌, List, [], ◌∷◌, ◌++◌, length, take, drop, map, refl, sym, ap, subst, ◌∙◌, arith, Some, None, append_assoc, length-append}
+use Rattle.std.proofs.Common.{◌≡◌, ℕ, ◌+◌, ◌-◌, ◌*◌, ◌/◌, ◌%◌, ◌<◌, ◌≤◌, List, [], ◌∷◌, ◌++◌, length, take, drop, map, refl, sym, ap, subst, ◌∙◌, arith, Some, append_assoc, length-append}
 use Rattle.std.specs.List.{concat, All}
 use Rattle.std.proofs.Math.Seq.{take-append_seam, drop-append_seam}
 use Rattle.std.proofs.lemmas.List.Elements.{All-head, All-tail}
 use Rattle.std.proofs.lemmas.Bool.Decides.{nat_tests}
-use Rattle.hum_packets.specs.Packets.{digit_of, hex, digits, pair_of, joined, size_by, size_at, Front, front, front_by, packet, end, neither, packet_of, list_of, zeros}
-use Rattle.hum_packets.specs.Lists.{Chain, IsPacket, IsEnd, IsList}
+use Rattle.hum_packets.specs.Packets.{digit_of, hex, digits, pair_of, size_by, size_at, front, front_by, packet, end, packet_of, zeros}
+use Rattle.hum_packets.specs.Lists.{Chain, IsPacket}
 use Rattle.hum_packets.specs.Laws.{IsShort, IsReadBack, IsReadInOneWay}
 
 digit-hex : (d : ℕ) → d < 16 → digit_of (hex d) ≡ Some d

@@ -1,5 +1,5 @@
 -- Bytes are cut into packets.
-use Rattle.std.proofs.Common.{◌≡◌, ℕ, ◌+◌, ◌-◌, ◌<◌, ◌≤◌, min, List, [], ◌∷◌, ◌++◌, length, take, drop, map, refl, sym, ap, ◌∙◌, arith, ◌⊎◌, inl, inr, append_assoc, append-nil, length-append, take-append-drop}
+use Rattle.std.proofs.Common.{◌≡◌, ℕ, ◌<◌, ◌≤◌, min, List, [], ◌∷◌, ◌++◌, length, take, drop, map, refl, sym, ap, ◌∙◌, arith, ◌⊎◌, inl, inr, append_assoc, append-nil, take-append-drop}
 use Rattle.std.specs.List.{concat, All}
 use Rattle.std.proofs.lemmas.List.{take_all, drop_all, map-append, length-take-le}
 use Rattle.std.proofs.lemmas.List.Folds.{concat-append}
@@ -39,7 +39,7 @@ cut-more bytes rest first more packets n x some size is left =
       sizes = All-push IsDataSize packets first x.sizes
           (omega (arith, long, size, some), omega (arith, long, size));
       whole = λ few. elim (x.whole few)
-          as (λ _. ((packets ++ first ∷ [] ≡ []) × (more ≡ bytes)) ⊎ ((packets ++ first ∷ [] ≡ bytes ∷ []) × (more ≡ [])) ) [
+          as (λ _. ((packets ++ first ∷ [] ≡ []) × (more ≡ bytes)) ⊎ ((packets ++ first ∷ [] ≡ bytes ∷ []) × (more ≡ []))) [
             | inl p ↦ inr (one few p.0 p.1, left ∙ drop_all n rest (omega (arith, size, ap length p.1, few)))
             | inr p ↦ absurd (omega (arith, some, ap length p.1))
           ];

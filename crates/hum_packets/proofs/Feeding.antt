@@ -1,12 +1,12 @@
 -- What is read ahead.
-use Rattle.std.proofs.Common.{◌≡◌, ℕ, ◌+◌, ◌-◌, ◌<◌, ◌≤◌, List, [], ◌∷◌, ◌++◌, length, take, drop, refl, sym, ap, ◌∙◌, arith, Bool, true, false, ◌||◌, Option, Some, None, append_assoc, append-nil, length-append, take-append-drop, slice_range}
+use Rattle.std.proofs.Common.{◌≡◌, ℕ, ◌+◌, ◌-◌, ◌≤◌, List, [], ◌++◌, length, take, drop, refl, sym, ap, ◌∙◌, arith, Bool, true, false, ◌||◌, Option, Some, None, append_assoc, append-nil, take-append-drop, slice_range}
 use Rattle.std.specs.Io.KnownBytes.{Appends, Consumes, Keeps, prepend_known}
 use Rattle.std.proofs.KnownBytes.{Keeps-refl, Keeps-trans, Appends-nil, Appends-trans, append_known-moved}
 use Rattle.std.specs.List.{copy_within}
 use Rattle.hum_text.proofs.WindowLemmas.{moved-window, window-front, grow-window}
 use Rattle.hum_text.specs.declared.calls.Source.{Ghosts as Source}
 use Rattle.hum_text.specs.declared.calls.Sink.{Ghosts as Sink}
-use Rattle.hum_packets.specs.Streams.{Reading, Writing, coming, going, Is, IsFront, Grows, Hands, Serves}
+use Rattle.hum_packets.specs.Streams.{Reading, Writing, going, Is, IsFront, Grows, Hands, Serves}
 use Rattle.hum_packets.specs.Held.{IsFed}
 
 or_chain : (p q r f : Bool) → q ≡ (p || false) → r ≡ (q || f) → r ≡ (p || f)

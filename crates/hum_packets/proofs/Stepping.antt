@@ -1,17 +1,17 @@
 -- One piece behind another.
-use Rattle.std.proofs.Common.{◌≡◌, ℕ, ◌+◌, ◌-◌, ◌^◌, ◌<◌, ◌≤◌, min, List, [], ◌∷◌, ◌++◌, length, take, drop, refl, sym, ap, subst, ◌∙◌, arith, max, Bool, true, false, ◌⊎◌, inl, inr, Ok, Err, Option, Some, None, append_assoc, append-nil, length-append, take-append-drop}
+use Rattle.std.proofs.Common.{◌≡◌, ℕ, ◌+◌, ◌<◌, ◌≤◌, List, [], ◌∷◌, ◌++◌, length, take, drop, refl, sym, ap, subst, ◌∙◌, arith, Bool, true, false, inl, inr, Ok, Err, Option, Some, None, append_assoc, append-nil, length-append, take-append-drop}
 use Rattle.std.proofs.lemmas.List.{length-take-le}
 use Rattle.std.proofs.lemmas.List.Folds.{concat-append}
 use Rattle.std.proofs.lemmas.Bool.{cases_lt}
 use Rattle.std.specs.List.{concat}
-use Rattle.std.specs.Io.KnownBytes.{Consumes, Keeps, prepend_known}
+use Rattle.std.specs.Io.KnownBytes.{Consumes, prepend_known}
 use Rattle.std.proofs.KnownBytes.{Consumes-nil, Consumes-trans}
 use Rattle.hum_text.specs.declared.calls.Source.{Ghosts as Source}
 use Rattle.hum_packets.specs.declared.stop.Stop.{Stop}
 use Rattle.hum_packets.specs.declared.stop.Stop.TheVariants.{Broken, Read, Write, Memory}
-use Rattle.hum_packets.specs.Packets.{size_at, front, packet, end, neither}
+use Rattle.hum_packets.specs.Packets.{size_at, front, neither}
 use Rattle.hum_packets.specs.Lists.{Then, Chain, IsPacket, IsEnd, Stops}
-use Rattle.hum_packets.specs.Streams.{Reading, coming, further, Is, IsFront, Took, Breaks, Ceases, HasFailed, Lost}
+use Rattle.hum_packets.specs.Streams.{Reading, coming, further, Is, IsFront, Took, HasFailed, Lost}
 use Rattle.hum_packets.specs.Held.{HoldsPacket, IsFed, Fed, LostAhead, TookOne}
 use Rattle.hum_packets.proofs.Fronts.{front-wrong, front-short, front-cut, front-end, front-held, size-least, size_at-append}
 use Rattle.hum_packets.proofs.Feeding.{pending-front, kept-is, kept-front, kept-consumes, or_none, all-coming}

@@ -1,7 +1,7 @@
 -- Lists of packets, as they are read from some bytes: each relation says what stands behind.
 use Rattle.std.specs.Prelude.{◌≡◌, ℕ, ◌<◌, ◌≤◌, List, [], ◌∷◌, length}
 use Rattle.std.specs.List.{concat, All}
-use Rattle.hum_packets.specs.Packets.{Front, packet, end, neither, front}
+use Rattle.hum_packets.specs.Packets.{packet, end, neither, front}
 
 -- The first is read of these bytes, and then the second.
 abbrev pub Then : (List ℕ → List ℕ → Type 0) → (List ℕ → List ℕ → Type 0) → List ℕ → List ℕ → Type 0

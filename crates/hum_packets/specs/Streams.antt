@@ -1,5 +1,5 @@
 -- What reading and writing do to a source and to a sink.
-use Rattle.std.specs.Prelude.{◌≡◌, ℕ, ◌+◌, ◌-◌, ◌^◌, ◌<◌, ◌≤◌, min, max, Bool, true, false, ◌||◌, nat_le}
+use Rattle.std.specs.Prelude.{◌≡◌, ℕ, ◌+◌, ◌-◌, ◌^◌, ◌<◌, min, max, Bool, true, false, ◌||◌, nat_le}
 use Rattle.std.specs.Prelude.{List, ◌++◌, length, take, Option, None, Some, Result, Ok, Err}
 use Rattle.std.specs.Io.KnownBytes.{Consumes, Appends, Keeps, prepend_known, append_known}
 use Rattle.hum_text.specs.declared.calls.Source.{Ghosts as Source}

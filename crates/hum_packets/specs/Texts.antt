@@ -1,5 +1,5 @@
 -- Texts that were read and held.
-use Rattle.std.specs.Prelude.{◌≡◌, ℕ, Bool, List}
+use Rattle.std.specs.Prelude.{ℕ, Bool, List}
 use Rattle.hum_text.specs.declared.calls.Source.{Ghosts as Source}
 use Rattle.hum_packets.specs.Lists.{IsText}
 use Rattle.hum_packets.specs.Streams.{Reading, Took, Holds}

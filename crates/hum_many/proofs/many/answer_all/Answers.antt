@@ -1,9 +1,11 @@
-use Rattle.std.proofs.Common.{◌∙◌, sym, subst, true, false}
+use Rattle.std.proofs.Common.{[], ◌∙◌, sym, subst}
 use Rattle.std.proofs.lemmas.Result.{err_from_is_err_and}
 use Rattle.hum_packets.proofs.Feeding.{hands-trans}
+use Rattle.hum_packets.specs.Lists.{StopsInList}
+use Rattle.hum_many.specs.Answers.{told}
 use Rattle.hum_many.specs.Many.{PlanComes}
 use Rattle.hum_many.specs.Talks.{TalkedToEnd, TalkedTo}
-use Rattle.hum_many.proofs.Talking.{plan-stops, told-stops, told-refused, told-all, told-to}
+use Rattle.hum_many.proofs.Talking.{plan-stops, told-stops, told-refused, told-all, told-to, lost-fails, tell-fails, case-fails}
 use Rattle.hum_many.proofs.many.answer_all.Goals as goal
 
 pub returns-in_err-plan-clause-come : goal.returns-in_err-plan-clause-come
@@ -63,3 +65,20 @@ returns-clause-come g c =
 pub returns-clause-hands : goal.returns-clause-hands
 returns-clause-hands g c =
     hands-trans (hands-trans c.in_ok-plan.ensures.serves.hands c.in_ok-tell.ensures.hands) c.in_ok-answer_cases.ensures.hands
+
+pub returns-in_err-plan-clause-failed : goal.returns-in_err-plan-clause-failed
+returns-in_err-plan-clause-failed g c =
+    let p = err_from_is_err_and c.from_residual.result c.from_residual.ensures.1 in
+    rw (p.1, p.2) (lost-fails g.R.Source StopsInList c.args.packets.now c.in_err-plan.field-0.0 c.in_err-plan.ensures.lost)
+
+pub returns-in_err-tell-clause-failed : goal.returns-in_err-tell-clause-failed
+returns-in_err-tell-clause-failed g c =
+    let p = err_from_is_err_and c.from_residual-in_err-tell.result c.from_residual-in_err-tell.ensures.1 in
+    rw (p.1, p.2) (tell-fails g.R.Source g.W.Sink [] (told c.plan_outcome-outcome.result) c.read_text.new.answers c.tell.new.answers
+    c.in_err-tell.field-0.0 c.in_err-tell.ensures.answered)
+
+pub returns-in_err-answer_cases-clause-failed : goal.returns-in_err-answer_cases-clause-failed
+returns-in_err-answer_cases-clause-failed g c =
+    let p = err_from_is_err_and c.from_residual-in_err-answer_cases.result c.from_residual-in_err-answer_cases.ensures.1 in
+    let to = c.in_err-answer_cases.ensures.stops in
+    rw (p.1, p.2) (case-fails g.R.Source to.last c.in_err-answer_cases.field-0.0 to.lost)

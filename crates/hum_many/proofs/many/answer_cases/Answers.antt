@@ -1,4 +1,3 @@
-use Rattle.std.proofs.Common.{sym}
 use Rattle.std.proofs.lemmas.Result.{err_from_is_err_and}
 use Rattle.hum_packets.proofs.Feeding.{hands-refl, hands-trans}
 use Rattle.hum_many.proofs.Talking.{talked-none, talked-kept, tell-more, tell-stops}

@@ -1,9 +1,9 @@
-use Rattle.std.proofs.Common.{◌≡◌, ℕ, List, [], ◌∷◌, ◌++◌, ◌∙◌, sym, refl, subst, true, false, arith, rules}
+use Rattle.std.proofs.Common.{◌≡◌, [], ◌∷◌, ◌++◌, ◌∙◌, sym, refl, subst, true, false, arith, rules}
 use Rattle.std.specs.List.{concat}
 use Rattle.std.proofs.Math.Seq.{take-nil}
 use Rattle.std.proofs.lemmas.Result.{err_from_is_err_and}
 use Rattle.std.proofs.lemmas.Bool.Decides.{nat_tests}
-use Rattle.hum_packets.specs.Lists.{Then, Chain, IsPacket, IsEnd, IsText, Stops, StopsInList}
+use Rattle.hum_packets.specs.Lists.{Then, Chain, IsPacket, IsEnd, Stops, StopsInList}
 use Rattle.hum_packets.specs.Streams.{Holds, Took}
 use Rattle.hum_packets.proofs.Feeding.{serves-refl, serves-trans}
 use Rattle.hum_packets.proofs.Stepping.{took-chain, took-then, took-as, took-true, took-false, lost-then, lost-as, chain-more, concat-one}

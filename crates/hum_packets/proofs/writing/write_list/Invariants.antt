@@ -1,7 +1,6 @@
 -- Packets were cut off, and written.
 use Rattle.std.proofs.Common.{◌≡◌, ℕ, List, ◌++◌, length, map}
 use Rattle.std.specs.List.{concat}
-use Rattle.std.specs.Io.{StartsWith}
 use Rattle.hum_packets.specs.Packets.{packet_of}
 use Rattle.hum_packets.proofs.Cutting.{CutSoFar}
 use Rattle.hum_packets.proofs.writing.write_list.Given as goal

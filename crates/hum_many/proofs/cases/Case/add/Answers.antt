@@ -1,5 +1,5 @@
-use Rattle.std.proofs.Common.{◌≡◌, ◌++◌, ◌∷◌, [], ◌-◌, ◌∙◌, sym, ap, subst, refl}
-use Rattle.hum_many.specs.Cases.{Named, HoldsCase, HoldsScore, size_of}
+use Rattle.std.proofs.Common.{◌++◌, ◌∷◌, [], ◌-◌, ◌∙◌, sym, ap, subst}
+use Rattle.hum_many.specs.Cases.{HoldsCase, HoldsScore}
 use Rattle.hum_many.proofs.Holding.{holds-one, holds-less}
 use Rattle.hum_many.proofs.cases.Case.add.Goals as goal
 use Rattle.hum_many.proofs.cases.Case.add.Goals.{in-Ok, in-Err}

@@ -1,4 +1,4 @@
-use Rattle.std.proofs.Common.{take, drop, sym, ap, subst, ◌∙◌, ◌||◌, true}
+use Rattle.std.proofs.Common.{take, sym, ap, subst, ◌∙◌, ◌||◌, true}
 use Rattle.std.specs.Io.KnownBytes.{Appends}
 use Rattle.hum_packets.proofs.Feeding.{handed}
 use Rattle.hum_packets.proofs.answers.Answers.send.Goals as goal

@@ -1,4 +1,4 @@
-use Rattle.std.proofs.Common.{◌≡◌, ◌+◌, ◌-◌, ◌≤◌, arith, length, slice_range, refl}
+use Rattle.std.proofs.Common.{◌+◌, ◌-◌, arith, slice_range, refl}
 use Rattle.hum_packets.proofs.Feeding.{fed-read, refilled}
 use Rattle.hum_packets.proofs.packets.Packets.fill.Goals as goal
 
