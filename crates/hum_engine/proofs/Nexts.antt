@@ -1,10 +1,11 @@
 -- What a stage that isn't a source gives or takes next.
+use Rattle.std.proofs.lemmas.Option.{same_Some}
 use Rattle.std.proofs.Common.{◌≡◌, ◌∙◌, ◌<◌, ℕ, length, true, false, List, [], Some}
 use Rattle.std.proofs.Common.{slice_get, slice_set, slice_index, get_or, refl, sym, ap}
 use Rattle.hum_stage.specs.declared.contract.Stage.{Ghosts as Stage}
 use Rattle.hum_turns.specs.Links.{view}
 use Rattle.hum_engine.specs.Scene.{Scene, plan_of, at_of, IsAt, IsKind, IsAbout}
-use Rattle.hum_engine.specs.Scene.{IsActor, HasActor, MayAct, MayTurn, Done, HasRoom}
+use Rattle.hum_engine.specs.Scene.{IsActor, HasActor, MayAct, MayTurn, Done, HasRoom, GivesAhead}
 use Rattle.hum_engine.proofs.Acting.{gave, passing, Passing, link_here, may_take}
 use Rattle.hum_engine.proofs.Readying.{room_in, room_stage, some_takes, within_links, touched_gives}
 use Rattle.hum_score.specs.Row.{Row}
@@ -13,7 +14,7 @@ use Rattle.hum_turns.specs.Turns.{can, ready, state, pushed}
 use Rattle.hum_turns.specs.Near.{touched}
 use Rattle.hum_nodes.specs.At.{sources_of, readiness_of, At, doing_of, HasTaken, MayDo, MayChange}
 use Rattle.hum_nodes.specs.Doing as does
-use Rattle.hum_nodes.specs.Nodes.{StandsAs, is_source, readiness_at, readiness_in}
+use Rattle.hum_nodes.specs.Nodes.{StandsAs, is_source, gives_ahead, readiness_at, readiness_in}
 use Rattle.hum_nodes.specs.declared.node.Node.{Node}
 use Rattle.hum_stage.specs.declared.faults.Readiness.TheVariants as kinds
 use Rattle.hum_nodes.proofs.Standing.{any_rest, stage_bytes}
@@ -36,6 +37,19 @@ pub record IsAhead {S R : Type 0} (stage : Stage S) (k : ℕ) (web : Web S R) (n
   pub may : (s : Scene) → IsAt stage web s → MayAct stage k does.Gives web s
 
 module _ {S R : Type 0} {stage : Stage S} {k : ℕ} {web : Web S R} {node : Node S R} {s : Scene} where
+  pub ahead_at : HasActor stage k web s → node ≡ get_or web.nodes.items k node → gives_ahead node ≡ true
+      → GivesAhead k web
+  ahead_at h value is n at = rw (same_Some n _ (sym at ∙ node_at h.less h.at.stand value)) is
+
+  -- it is about to give
+  pub ahead_about : HasActor stage k web s → node ≡ get_or web.nodes.items k node
+      → ((rest : List ℕ) (t : At) → StandsAs stage.stands node rest t → (is_source node ≡ false) × (doing_of t ≡ does.Gives))
+      → IsAbout stage k does.Gives web s
+  ahead_about h value gives =
+      let stand = h.at.stand.nodes k node (node_at h.less h.at.stand value) in
+      let g = gives _ _ stand in
+      record { actor = h; bytes = stage_bytes stage.stands node (s.rests k) _ g.0 stand; does = g.1 }
+
   pub ahead : IsAt stage web s → HasRoom k web → node ≡ get_or web.nodes.items k node
       → ((rest : List ℕ) (t : At) → StandsAs stage.stands node rest t → (is_source node ≡ false) × (doing_of t ≡ does.Gives))
       → IsAhead stage k web node

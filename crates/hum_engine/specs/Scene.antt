@@ -21,7 +21,7 @@ use Rattle.hum_nodes.specs.Single.{single}
 use Rattle.hum_nodes.specs.Doing.{Doing}
 use Rattle.hum_stage.specs.declared.faults.Readiness.{Readiness}
 use Rattle.hum_nodes.specs.declared.node.Node.{Node}
-use Rattle.hum_nodes.specs.Nodes.{StandsAs, is_source, remaining_of, ended_of}
+use Rattle.hum_nodes.specs.Nodes.{StandsAs, is_source, gives_ahead, remaining_of, ended_of}
 use Rattle.hum_engine.specs.declared.link.Link.{Link}
 use Rattle.hum_engine.specs.Links.{IsLink, room}
 use Rattle.hum_engine.specs.declared.web.Web.{Web}
@@ -217,6 +217,10 @@ pub record HasRoom {S R : Type 0} (k : ℕ) (web : Web S R) : Type 0 where
   pub link : Link
   pub its : slice_get web.links.items k ≡ Some link
   pub room : room link ≡ true
+
+-- Stage k has taken the record ahead that it gives next.
+abbrev pub GivesAhead : {S R : Type 0} → ℕ → Web S R → Type 0
+GivesAhead {S} {R} k web = (node : Node S R) → slice_get web.nodes.items k ≡ Some node → gives_ahead node ≡ true
 
 -- Stage k is a source, and its link is full.
 pub record IsFull {S R : Type 0} (k : ℕ) (web : Web S R) : Type 0 where

@@ -1,6 +1,6 @@
 //! Nodes and their links.
 ghost use Rattle.std.specs.Prelude.{◌≡◌, ◌≤◌, ◌<◌, ℕ, true, false, length};
-ghost use Rattle.std.specs.Prelude.{IfOk, OnOk, ◌-◌};
+ghost use Rattle.std.specs.Prelude.{IfOk, OnOk, Ok, ◌-◌};
 ghost use Rattle.hum_turns.specs.Turns.{Gives, Takes, Ends, state, can, ready};
 ghost use Rattle.hum_turns.specs.Plan.{last};
 ghost use Rattle.hum_turns.specs.Near.{touched};
@@ -11,11 +11,11 @@ ghost use Rattle.hum_stage.specs.declared.faults.Readiness.TheVariants as kinds;
 ghost use Rattle.hum_score.specs.Row.{Row};
 ghost use Rattle.hum_engine.specs.Links.{taken_of, is_some_of};
 ghost use Rattle.hum_engine.specs.declared.link.Taken.TheVariants as taken;
-ghost use Rattle.hum_engine.specs.Told.{HasPolled, ComesTo, GivesOn};
+ghost use Rattle.hum_engine.specs.Told.{HasPolled, HasActed, ComesTo, GivesOn};
 ghost use Rattle.hum_engine.specs.Scene.{Scene, plan_of, Somewhere, IsAt, IsActor, MayTurn, MayAct};
 ghost use Rattle.hum_engine.specs.Scene.{IsKind, Keeps, Done, IsAbout};
 ghost use Rattle.hum_engine.specs.Scene.{IsAboutKind, IsDoing, HasActor};
-ghost use Rattle.hum_engine.specs.Scene.{IsBegun, Stands, HasStage, held_of, room_of, rooms_of, HasRoom};
+ghost use Rattle.hum_engine.specs.Scene.{IsBegun, Stands, HasStage, held_of, room_of, rooms_of, HasRoom, GivesAhead};
 
 use crate::link::{Link, Taken};
 use hum_nodes::Node;
@@ -138,6 +138,18 @@ impl<S: Stage + Drop, R: Source + Drop> Web<S, R> {
         self.pool.keep(row);
     }
 
+    // A stage whose link has room gives the record that it has taken ahead.
+    #[inline(always)]
+    fn give_ahead(&mut self, k: usize)
+        requires at { Somewhere (IsAt S.Stage self.old) }
+        requires room { HasRoom k self.old }
+        requires ahead { GivesAhead k self.old }
+        ensures { HasActed S.Stage R.Source k self.old self.new (Ok k) }
+    {
+        let row = self.nodes[k].take_ahead();
+        self.links[k].push(row);
+    }
+
     // A stage gives a record onto its link.
     #[inline(always)]
     fn give(&mut self, k: usize) -> Result<(), AllocError>
@@ -207,6 +219,22 @@ impl<S: Stage + Drop, R: Source + Drop> Web<S, R> {
         requires { Somewhere (HasActor S.Stage k self.old) }
         ensures { ComesTo S.Stage R.Source k self.old self.new result }
     {
+        if !self.nodes[k].gives_ahead() {
+            return self.turn_by_readiness(k);
+        }
+        if !self.links[k].has_room() {
+            return Moved::Waits;
+        }
+        self.give_ahead(k);
+        Moved::Gave
+    }
+
+    // The same, by what it does next.
+    #[inline(always)]
+    fn turn_by_readiness(&mut self, k: usize) -> Moved
+        requires { Somewhere (HasActor S.Stage k self.old) }
+        ensures { ComesTo S.Stage R.Source k self.old self.new result }
+    {
         let node = &self.nodes[k];
         if node.is_source() {
             if !self.may_read(k) {
@@ -273,8 +301,7 @@ impl<S: Stage + Drop, R: Source + Drop> Web<S, R> {
         ensures { GivesOn S.Stage R.Source k self.old self.new result }
     {
         if self.nodes[k].gives_ahead() {
-            let row = self.nodes[k].take_ahead();
-            self.links[k].push(row);
+            self.give_ahead(k);
             return Moved::Gave;
         }
         if self.nodes[k].is_source() && self.links[k].is_unset() {

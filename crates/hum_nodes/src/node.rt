@@ -188,8 +188,11 @@ impl<S: Stage + Drop, R: Source + Drop> Node<S, R> {
     }
 
     /// Whether the record that it gives next was taken ahead.
+    #[inline(always)]
     pub fn gives_ahead(&self) -> bool
-        ensures { result ≡ gives_ahead self.now }
+        ensures ahead { result ≡ gives_ahead self.now }
+        ensures gives { result ≡ true → (rest : List ℕ) (t : At) → StandsAs S.stands self.now rest t
+            → (is_source self.now ≡ false) × (doing_of t ≡ does.Gives) }
     {
         self.ahead.is_some()
     }

@@ -92,8 +92,8 @@ pub trait LooksAhead {
     fn lasting(&self, held: &VecDeque<Self::Held>) -> usize
         ensures { Lasts (follows self.now held.now.items) result };
 
-    /// How many bytes what is kept of those that wait takes, beside its own size: no more than what they say
-    /// needs.
+    /// How many bytes the records take that are kept of those that wait, beside their own size: no more than what
+    /// they say needs.
     fn room(&self, held: &VecDeque<Self::Held>) -> usize
         ensures { (look : Look) (past rows : List Row) → follows self.now held.now.items look past rows
             → result ≤ rooms_for rows };
