@@ -4,15 +4,18 @@
 The bundle of each row is asked as a case, three times in one process, with a case between them that is refused and one without scores:
 it must be answered each time as the row says. Each plan of the files NAME.plans must be refused or accepted as they say. A stream of
 four lists is cut at each of its bytes, and at each place where a packet may begin stands what is none; it is sent byte by byte, and to
-an output that takes nothing. One line for each that fails; the last line is `N passed, M failed`."""
+an output that takes nothing; and each call for memory, read and write fails in turn. One line for each that fails; the last line is `N passed, M failed`."""
 import glob
 import os
 import re
+import shutil
 import subprocess
 import sys
+import tempfile
 
 import check
 import made
+from faults import built
 from packets import answer, answers, case, packets
 
 PLAN = packets(b'out: read a | extract -f 1\n')
@@ -132,6 +135,39 @@ def try_ends(judge, program):
     judge.want('a folder as input', (ended.returncode, ended.stdout, ended.stderr), (3, b'', b'humpipe-many: read failed\n'))
 
 
+LACKS = (3, b'humpipe: out of memory')
+
+
+def is_lacking(found):
+    """Whether of some answers each is right, or tells that memory ran out behind a front of its text."""
+    fits = [said == wanted or said[::2] == LACKS and wanted[1].startswith(said[1]) for said, wanted in zip(found, ANSWERS)]
+    return all(fits) and sum(said[::2] == LACKS for said in found) <= 1
+
+
+def try_faults(judge, program, folder):
+    """One call for memory, read or write after the other fails, and no other: what comes behind is as ever."""
+    library, stream = built(folder), b''.join(STREAM)
+    whole = subprocess.run([program], input=stream, capture_output=True).stdout
+
+    def failing(call, error, number):
+        load = {**os.environ, 'LD_PRELOAD': library, 'FAULT': f'{call} {error} {number}', 'COUNTS': f'{folder}/counts'}
+        ended = subprocess.run([program], input=stream, capture_output=True, env=load, timeout=check.SECONDS)
+        counts = open(f'{folder}/counts').read().split()
+        return ended, int(counts[['memory', 'read', 'write'].index(call)])
+
+    for call, error in ('memory', 12), ('read', 5), ('write', 28):
+        for number in range(1, failing(call, error, 10**9)[1] + 1):
+            ended, _ = failing(call, error, number)
+            line = {'memory': b'out of memory', 'read': b'read failed', 'write': b'write failed'}[call]
+            told = ended.stderr == b'humpipe-many: ' + line + b'\n' and ended.returncode == 3
+            if call == 'write':
+                fine = told and whole.startswith(ended.stdout)
+            else:
+                found = answers(ended.stdout)
+                fine = is_lacking(found) and (told or ended.stderr == b'' and (len(found) == len(ANSWERS) or found == [(3, b'', LACKS[1])]))
+            judge.want(f'{call} fails at call {number}', (fine, ended.returncode if not fine else 0), (True, 0))
+
+
 def main():
     program = os.path.abspath(sys.argv[1])
     judge = Judge()
@@ -145,6 +181,11 @@ def main():
     try_cuts(judge, program)
     try_forms(judge, program)
     try_ends(judge, program)
+    with tempfile.TemporaryDirectory(prefix='humpipe-many-') as folder:
+        if shutil.which('cc'):
+            try_faults(judge, program, folder)
+        else:
+            print('left out: what needs a C compiler, which is not here')
     print(f'{judge.passed} passed, {judge.failed} failed')
     sys.exit(judge.failed > 0)
 
