@@ -1,9 +1,12 @@
 //! A stage that gives as many records as a score may have, and one that would give one more.
+ghost use Rattle.std.specs.Prelude.{◌≤◌, length};
+ghost use Rattle.hum_score.specs.InOrder.{IsClosed};
+ghost use Rattle.hum_stage.specs.Meaning.{Meaning, opening};
 ghost use Rattle.hum_tests.specs.Copies.{copies, repeating};
 ghost use Rattle.hum_words.specs.declared.commands.Command.TheVariants.{Rid};
 
 use crate::compared::{holds, same};
-use crate::scores::score;
+use crate::scores::{Lines, score};
 use hum_record::{Record, Spare};
 use hum_stage::{
     AtOnce, Command, Decides, DueRecords, End, Fault, MOST_RECORDS, Refusal, Rule, Stage, State,
@@ -71,7 +74,7 @@ impl Decides for Repeating {
 
     ghost decide = { repeating };
 
-    ghost use Rattle.std.specs.Prelude.{⊥, ◌≡◌};
+    ghost use Rattle.std.specs.Prelude.{◌≡◌};
 
     ghost keeps = { λ _. ⊥ };
 
@@ -100,10 +103,13 @@ impl Decides for Repeating {
     }
 }
 
-// What a stage is ready for that has been put the first record of a score so many times, or all its records.
-fn told(rt: &impl Abort, alloc: Global, times: u64) -> State {
-    let mut stage = <AtOnce<Repeating>>::new(alloc, 2, times);
-    let mut rest = VecDeque::from_vec(score(rt, alloc, &[b"**x", b"*-"]));
+// What a stage is ready for that has been put records until it wants none, or all of a closed score.
+fn told<S: Stage + Drop>(rt: &impl Abort, mut stage: S, records: Vec<Record>) -> State
+    requires fresh { (m : Meaning) × S.stands stage (opening m) }
+    requires closed { IsClosed records.items }
+    requires few { length records.items ≤ MOST_RECORDS }
+{
+    let mut rest = VecDeque::from_vec(records);
     while let Some(next) = rest.pop_front() {
         stage.put(next).expect(rt, "memory");
         match stage.state() {
@@ -115,11 +121,21 @@ fn told(rt: &impl Abort, alloc: Global, times: u64) -> State {
     stage.state()
 }
 
+// The stage of that command.
+fn stage_of(alloc: Global, times: u64) -> AtOnce<Repeating>
+    ensures { (m : Meaning) × ⟦<AtOnce<Repeating> as Stage>⟧.stands result (opening m) }
+{
+    <AtOnce<Repeating>>::new(alloc, 2, times)
+}
+
 #[test]
 fn a_stage_gives_as_many_records_as_a_score_may_have(rt: HostRuntime) {
-    let is = told(&rt, rt.alloc(), MOST_RECORDS);
+    let lines: Lines = &[b"**x", b"*-"];
+    let as_many = stage_of(rt.alloc(), MOST_RECORDS);
+    let is = told(&rt, as_many, score(&rt, rt.alloc(), lines));
     holds(&rt, matches!(is, State::Gives), "as many");
-    let State::Done(end) = told(&rt, rt.alloc(), MOST_RECORDS + 1) else {
+    let one_more = stage_of(rt.alloc(), MOST_RECORDS + 1);
+    let State::Done(end) = told(&rt, one_more, score(&rt, rt.alloc(), lines)) else {
         panic!(rt; "one more is given");
     };
     let fault = Fault {

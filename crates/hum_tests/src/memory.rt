@@ -241,8 +241,13 @@ fn runs_write_until_memory_runs_out(rt: HostRuntime) {
     for &(bundle, want) in RUNS {
         for link in [1, 16] {
             let mut page = Vec::with_capacity(rt.alloc(), 1_024).expect(&rt, "memory");
-            let (outcome, _writer) =
-                run_bundle(rt.alloc(), bundle, link, &mut Rightmost, Marked::new(&mut page));
+            let (outcome, _writer) = run_bundle(
+                rt.alloc(),
+                bundle,
+                link,
+                &mut Rightmost,
+                Marked::new(&mut page),
+            );
             if let Outcome::Run(RunResult::Finished) = outcome {
                 same_bytes(&rt, &page, want, "all is written");
             } else {

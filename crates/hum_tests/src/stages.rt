@@ -162,7 +162,11 @@ pub fn stage(rt: &impl Abort, alloc: Global, plan: &[u8]) -> CommandStage
 }
 
 // The lines that are put, and those that are given.
-pub fn lines(rt: &impl Abort, alloc: Global, puts: &[Put]) -> (Vec<&'static [u8]>, Vec<&'static [u8]>) {
+pub fn lines(
+    rt: &impl Abort,
+    alloc: Global,
+    puts: &[Put],
+) -> (Vec<&'static [u8]>, Vec<&'static [u8]>) {
     let mut put = Vec::new(alloc);
     let mut given = Vec::new(alloc);
     for (line, lines, _held) in puts {
