@@ -34,6 +34,10 @@ impl<'a> Source for HeldScore<'a> {
 
     ghost failed = { λ s. false };
 
+    fn hint(&self) -> usize {
+        self.rest.len()
+    }
+
     fn read(&mut self, buf: &mut [u8]) -> io::Result<usize> {
         self.calls = self.calls.saturating_add(1);
         self.rest.read(buf)
