@@ -155,6 +155,7 @@ module _ {S R : Type 0} {stage : Stage S} (reader : Source R) {k : ℕ} {old : W
   polled_comes (moves.Took link) able h = absurd h
   polled_comes (moves.Heard link) able h = absurd h
   polled_comes (moves.Failed error) able h = record { was_ready = able; tells = h }
+  polled_comes moves.Over able h = absurd h
 
   pub polled_gives : (m : Moved) → ((s : Scene) → HasActor stage k old s → ready (plan_of s) s.size s.links k ≡ true)
       → HasPolled stage reader k old new m → GivesOn stage reader k old new m
@@ -164,3 +165,4 @@ module _ {S R : Type 0} {stage : Stage S} (reader : Source R) {k : ℕ} {old : W
   polled_gives (moves.Took link) able h = absurd h
   polled_gives (moves.Heard link) able h = absurd h
   polled_gives (moves.Failed error) able h = record { was_ready = able; tells = h }
+  polled_gives moves.Over able h = absurd h

@@ -28,7 +28,7 @@ use Rattle.hum_engine.specs.Scene.{Scene, plan_of, moved, Somewhere, IsAt, IsAct
 use Rattle.hum_engine.specs.Told.{HasTold, HasActed, ComesTo, GivesOn, AsksOne}
 use Rattle.hum_engine.specs.Nets.{AtEach, MayAsk, HasTurned, HasWorked, HasCome, HasGivenOn, IsChanged, SinkActed}
 use Rattle.hum_engine.specs.Nets.{MarksFailures}
-use Rattle.hum_engine.specs.Nets.{failed_by, turned_by, turns_by, fault_by}
+use Rattle.hum_engine.specs.Nets.{failed_by, turns_by, fault_by}
 use Rattle.hum_engine.proofs.Bounds.{turns_few}
 use Rattle.hum_engine.proofs.Netting.{at_now, ready_at, unfailed_at, unheard_at, ready_result, source_here}
 use Rattle.hum_engine.proofs.Netting.{stage_turned, sink_turned, may_write}
@@ -183,7 +183,7 @@ module _ {S R W : Type 0} {stage : Stage S} (reader : Source R) {writer : Sink W
   module _ (m : MayAsk stage writer k old) {new : Net S R W} where
     pub came : (moved : Moved) → ComesTo stage reader k old.web web moved
         → new ≡ record old { web = web; turns = turns_by moved old.turns; failure = failed_by k moved old.failure }
-        → HasCome stage reader writer k old new (turned_by moved)
+        → HasCome stage reader writer k old new moved
     unfolding link_by
     came moves.Waits h net = record {
       idle = stage_ready other h.idle;
@@ -194,10 +194,11 @@ module _ {S R W : Type 0} {stage : Stage S} (reader : Source R) {writer : Sink W
     came (moves.Took link) h net = rw (unfailed_on m net) (worked (Ok link) h.0, h.1, h.2)
     came (moves.Heard link) h net = rw (unfailed_on m net) (worked (Ok link) h.0, h.1)
     came (moves.Failed e) h net = (k, rw net (worked (Err e) h))
+    came moves.Over h net = absurd h
 
     pub given_on : (moved : Moved) → GivesOn stage reader k old.web web moved
         → new ≡ record old { web = web; turns = turns_by moved old.turns; failure = failed_by k moved old.failure }
-        → HasGivenOn stage reader writer k old new (turned_by moved)
+        → HasGivenOn stage reader writer k old new moved
     unfolding link_by
     given_on moves.Waits h net = net ∙ ap (λ w. record old { web = w }) h
     given_on moves.Gave h net = rw (unfailed_on m net) (worked (Ok k) h)
@@ -205,6 +206,7 @@ module _ {S R W : Type 0} {stage : Stage S} (reader : Source R) {writer : Sink W
     given_on (moves.Took link) h net = absurd h
     given_on (moves.Heard link) h net = absurd h
     given_on (moves.Failed e) h net = (k, rw net (worked (Err e) h))
+    given_on moves.Over h net = absurd h
 
 -- The sink was ready and has had its turn, which is counted.
 pub sunk : {S R W : Type 0} {stage : Stage S} {reader : Source R} {writer : Sink W} {k link : ℕ} {old mid : Net S R W}

@@ -32,8 +32,6 @@ use Rattle.hum_engine.specs.declared.web.Web.{Web}
 use Rattle.hum_engine.specs.declared.web.Moved.{Moved}
 use Rattle.hum_engine.specs.declared.web.Moved.TheVariants as moves
 use Rattle.hum_engine.specs.declared.net.Net.{Net}
-use Rattle.hum_engine.specs.declared.net.Turned.{Turned}
-use Rattle.hum_engine.specs.declared.net.Turned.TheVariants as turns
 use Rattle.hum_engine.specs.Readers.{ended_at, failed_at, is_read_of, is_write, ShowsSame, HaveRead, AsksOnce}
 use Rattle.hum_engine.specs.Scene.{Scene, plan_of, moved, before_all, Stands, IsAt, IsNetPlan, IsBegun, Done}
 use Rattle.hum_engine.specs.Scene.{IsActor, AreTakers, IsFull, HasRoom}
@@ -230,15 +228,7 @@ failed_by k moves.Filled failure = failure
 failed_by k (moves.Took link) failure = failure
 failed_by k (moves.Heard link) failure = failure
 failed_by k (moves.Failed error) failure = Some (fault_by k error)
-
--- what that turn is to the net
-abbrev pub turned_by : Moved → Turned
-turned_by moves.Waits = turns.Waits
-turned_by moves.Gave = turns.Gave
-turned_by moves.Filled = turns.Filled
-turned_by (moves.Took link) = turns.Took link
-turned_by (moves.Heard link) = turns.Heard link
-turned_by (moves.Failed error) = turns.Over
+failed_by k moves.Over failure = failure
 
 -- it counts, if it was one
 abbrev pub turns_by : Moved → ℕ → ℕ
@@ -248,6 +238,7 @@ turns_by moves.Filled turns = turns + 1
 turns_by (moves.Took link) turns = turns + 1
 turns_by (moves.Heard link) turns = turns + 1
 turns_by (moves.Failed error) turns = turns + 1
+turns_by moves.Over turns = turns + 1
 
 -- The link that a turn of actor k has changed; where it has failed, its own may stand for it.
 abbrev pub IsChanged : ℕ → Scene → Option RunResult → ℕ → Type 0
@@ -302,26 +293,30 @@ pub record HasWorked {S R W : Type 0} (stage : Stage S) (reader : Source R) (wri
   pub little : AsksLittle stage reader writer k old new
 
 -- What a turn of actor k comes to. Where it has taken a record, that link has room.
-abbrev pub HasCome : {S R W : Type 0} → Stage S → Source R → Sink W → ℕ → Net S R W → Net S R W → Turned → Type 0
-HasCome stage reader writer k old new turns.Waits = HasRested stage writer k old new
-HasCome stage reader writer k old new turns.Gave = HasWorked stage reader writer k k old new false
-HasCome stage reader writer k old new turns.Filled =
+abbrev pub HasCome : {S R W : Type 0} → Stage S → Source R → Sink W → ℕ → Net S R W → Net S R W → Moved → Type 0
+HasCome stage reader writer k old new moves.Waits = HasRested stage writer k old new
+HasCome stage reader writer k old new moves.Gave = HasWorked stage reader writer k k old new false
+HasCome stage reader writer k old new moves.Filled =
     HasWorked stage reader writer k k old new false × IsFull k new.web
-HasCome stage reader writer k old new (turns.Took link) =
+HasCome stage reader writer k old new (moves.Took link) =
     HasWorked stage reader writer k link old new false × (link < k) × HasRoom link new.web
-HasCome stage reader writer k old new (turns.Heard link) =
+HasCome stage reader writer k old new (moves.Heard link) =
     HasWorked stage reader writer k link old new false × (link < k)
-HasCome stage reader writer k old new turns.Over = (link : ℕ) × HasWorked stage reader writer k link old new true
+HasCome stage reader writer k old new (moves.Failed error) =
+    (link : ℕ) × HasWorked stage reader writer k link old new true
+HasCome stage reader writer k old new moves.Over = (link : ℕ) × HasWorked stage reader writer k link old new true
 
 -- What it comes to where it gives or reads at once.
-abbrev pub HasGivenOn : {S R W : Type 0} → Stage S → Source R → Sink W → ℕ → Net S R W → Net S R W → Turned → Type 0
-HasGivenOn stage reader writer k old new turns.Waits = new ≡ old
-HasGivenOn stage reader writer k old new turns.Gave = HasWorked stage reader writer k k old new false
-HasGivenOn stage reader writer k old new turns.Filled =
+abbrev pub HasGivenOn : {S R W : Type 0} → Stage S → Source R → Sink W → ℕ → Net S R W → Net S R W → Moved → Type 0
+HasGivenOn stage reader writer k old new moves.Waits = new ≡ old
+HasGivenOn stage reader writer k old new moves.Gave = HasWorked stage reader writer k k old new false
+HasGivenOn stage reader writer k old new moves.Filled =
     HasWorked stage reader writer k k old new false × IsFull k new.web
-HasGivenOn stage reader writer k old new (turns.Took link) = ⊥
-HasGivenOn stage reader writer k old new (turns.Heard link) = ⊥
-HasGivenOn stage reader writer k old new turns.Over = (link : ℕ) × HasWorked stage reader writer k link old new true
+HasGivenOn stage reader writer k old new (moves.Took link) = ⊥
+HasGivenOn stage reader writer k old new (moves.Heard link) = ⊥
+HasGivenOn stage reader writer k old new (moves.Failed error) =
+    (link : ℕ) × HasWorked stage reader writer k link old new true
+HasGivenOn stage reader writer k old new moves.Over = ⊥
 
 -- A prefix of the plan's text was written.
 pub record WroteFront (s : Scene) (start held : Option (List ℕ)) : Type 0 where

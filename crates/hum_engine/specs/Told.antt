@@ -9,7 +9,7 @@ use Rattle.hum_text.specs.declared.calls.Source.{Ghosts as Source}
 use Rattle.hum_nodes.specs.Polls.{is_failed_read}
 use Rattle.hum_engine.specs.declared.web.Web.{Web}
 use Rattle.hum_engine.specs.declared.web.Moved.{Moved}
-use Rattle.hum_engine.specs.declared.web.Moved.TheVariants.{Waits, Gave, Filled, Took, Heard, Failed}
+use Rattle.hum_engine.specs.declared.web.Moved.TheVariants.{Waits, Gave, Filled, Took, Heard, Failed, Over}
 use Rattle.hum_engine.specs.Readers.{failed_at, HasReadNone, AsksOnce}
 use Rattle.hum_engine.specs.Scene.{Scene, plan_of, HasActor, IsActor, IsKind, IsFull, HasRoom, KeepsOthers, Fed}
 
@@ -50,6 +50,7 @@ HasPolled stage reader k old new Filled = HasTold stage reader k old new (Ok k) 
 HasPolled stage reader k old new (Took link) = ⊥
 HasPolled stage reader k old new (Heard link) = ⊥
 HasPolled stage reader k old new (Failed error) = HasTold stage reader k old new (Err error)
+HasPolled stage reader k old new Over = ⊥
 
 -- What a turn of stage k comes to. Where it has taken a record, that link has room.
 abbrev pub ComesTo : {S R : Type 0} → Stage S → Source R → ℕ → Web S R → Web S R → Moved → Type 0
@@ -60,6 +61,7 @@ ComesTo stage reader k old new (Took link) =
     HasActed stage reader k old new (Ok link) × (link < k) × HasRoom link new
 ComesTo stage reader k old new (Heard link) = HasActed stage reader k old new (Ok link) × (link < k)
 ComesTo stage reader k old new (Failed error) = HasActed stage reader k old new (Err error)
+ComesTo stage reader k old new Over = ⊥
 
 -- What the turn of stage k comes to if it gives at once, or reads.
 abbrev pub GivesOn : {S R : Type 0} → Stage S → Source R → ℕ → Web S R → Web S R → Moved → Type 0
@@ -69,3 +71,4 @@ GivesOn stage reader k old new Filled = HasActed stage reader k old new (Ok k) �
 GivesOn stage reader k old new (Took link) = ⊥
 GivesOn stage reader k old new (Heard link) = ⊥
 GivesOn stage reader k old new (Failed error) = HasActed stage reader k old new (Err error)
+GivesOn stage reader k old new Over = ⊥

@@ -19,7 +19,7 @@ ghost use Rattle.hum_engine.specs.Nets.{HasSent, SinkWaited, SinkActed, MayGo, I
 ghost use Rattle.hum_engine.specs.Nets.{HadFewEach, IsLinked};
 ghost use Rattle.hum_engine.specs.Nets.{NetAt, AtEach, AreBegun, IsNet, RunsBy, WroteFront};
 ghost use Rattle.hum_engine.specs.Nets.{MayAsk, HasCome, HasGivenOn, HasGone, AsksLittle};
-ghost use Rattle.hum_engine.specs.Nets.{fault_by, turned_by, turns_by, failed_by, MayStep, HasAdvanced, IsCloser};
+ghost use Rattle.hum_engine.specs.Nets.{fault_by, turns_by, failed_by, MayStep, HasAdvanced, IsCloser};
 
 use crate::link::Taken;
 use crate::takers::takers_of;
@@ -44,23 +44,6 @@ pub struct Net<S, R, W> {
     actors: Vec<bool>,
     // who takes from each link
     takers: Vec<usize>,
-}
-
-/// What a turn has come to.
-#[derive(Clone, Copy)]
-enum Turned {
-    /// The actor isn't ready, and nothing has changed.
-    Waits,
-    /// It has changed its own link alone.
-    Gave,
-    /// It is a source, and what it gave has filled its link.
-    Filled,
-    /// It has taken a record from this link.
-    Took(usize),
-    /// It has heard the end on this link.
-    Heard(usize),
-    /// The run is over.
-    Over,
 }
 
 impl<S: Stage + Drop, R: Source + Drop, W: Sink> Net<S, R, W> {
@@ -121,28 +104,20 @@ impl<S: Stage + Drop, R: Source + Drop, W: Sink> Net<S, R, W> {
 
     // Counts the turn of a stage, which tells what it has come to. A failure ends the run.
     #[inline(always)]
-    fn settle(&mut self, k: usize, moved: Moved) -> Turned
+    fn settle(&mut self, k: usize, moved: Moved)
         requires number { k < 255 }
         requires few { self.old.turns < 2 ^ 64 - 1 }
-        ensures turned { result ≡ turned_by moved }
-        ensures net { self.new ≡ record self.old {
+        ensures { self.new ≡ record self.old {
           turns = turns_by moved self.old.turns;
           failure = failed_by k moved self.old.failure;
         } }
     {
-        let turned = match moved {
-            Moved::Waits => return Turned::Waits,
-            Moved::Gave => Turned::Gave,
-            Moved::Filled => Turned::Filled,
-            Moved::Took(link) => Turned::Took(link),
-            Moved::Heard(link) => Turned::Heard(link),
-            Moved::Failed(error) => {
-                self.fail(k, error);
-                Turned::Over
-            }
-        };
+        match moved {
+            Moved::Waits => return,
+            Moved::Failed(error) => self.fail(k, error),
+            Moved::Gave | Moved::Filled | Moved::Took(_) | Moved::Heard(_) | Moved::Over => {}
+        }
         self.turns += 1;
-        turned
     }
 
     /// A net of nodes that were asked nothing yet, with links of this size, from 1 to 4,096.
@@ -214,34 +189,36 @@ impl<S: Stage + Drop, R: Source + Drop, W: Sink> Net<S, R, W> {
 
     // A turn of this actor, if it is ready.
     #[inline(always)]
-    fn act(&mut self, k: usize) -> Turned
+    fn act(&mut self, k: usize) -> Moved
         requires { MayAsk S.Stage W.Sink k self.old }
         ensures { HasCome S.Stage R.Source W.Sink k self.old self.new result }
     {
         if k == self.web.count() {
             let last = self.web.last();
             let Some(is_over) = self.sink_turn() else {
-                return Turned::Waits;
+                return Moved::Waits;
             };
             self.turns += 1;
             if is_over {
-                return Turned::Over;
+                return Moved::Over;
             }
-            return Turned::Took(last);
+            return Moved::Took(last);
         }
         let moved = self.web.turn(k);
-        self.settle(k, moved)
+        self.settle(k, moved);
+        moved
     }
 
     // The turn of a stage whose link has room, if it gives or reads at once.
     #[inline(always)]
-    fn give_on(&mut self, k: usize) -> Turned
+    fn give_on(&mut self, k: usize) -> Moved
         requires ask { MayAsk S.Stage W.Sink k self.old }
         requires room { HasRoom k self.old.web }
         ensures { HasGivenOn S.Stage R.Source W.Sink k self.old self.new result }
     {
         let moved = self.web.give_on(k);
-        self.settle(k, moved)
+        self.settle(k, moved);
+        moved
     }
 
     /// One turn of an actor that is ready: a stage by its number, from 0, or the sink by the number of stages.
@@ -252,12 +229,13 @@ impl<S: Stage + Drop, R: Source + Drop, W: Sink> Net<S, R, W> {
         ensures little { AsksLittle S.Stage R.Source W.Sink k self.old self.new }
     {
         match self.act(k) {
-            Turned::Waits => unreachable!(),
-            Turned::Gave => false,
-            Turned::Filled => false,
-            Turned::Took(_) => false,
-            Turned::Heard(_) => false,
-            Turned::Over => true,
+            Moved::Waits => unreachable!(),
+            Moved::Gave => false,
+            Moved::Filled => false,
+            Moved::Took(_) => false,
+            Moved::Heard(_) => false,
+            Moved::Failed(_) => true,
+            Moved::Over => true,
         }
     }
 
@@ -309,13 +287,14 @@ impl<S: Stage + Drop, R: Source + Drop, W: Sink> Net<S, R, W> {
         ensures closer { IsCloser (looks.FromLeft k) (left_at result) self.old self.new (is_none result) }
     {
         match self.act(k) {
-            Turned::Waits => Some(k + 1),
-            Turned::Filled => Some(k + 1),
-            Turned::Gave => Some(k),
-            Turned::Heard(link) => Some(link),
+            Moved::Waits => Some(k + 1),
+            Moved::Filled => Some(k + 1),
+            Moved::Gave => Some(k),
+            Moved::Heard(link) => Some(link),
             // room has come on that link: most often its stage gives at once
-            Turned::Took(link) => self.give_left(link),
-            Turned::Over => None,
+            Moved::Took(link) => self.give_left(link),
+            Moved::Failed(_) => None,
+            Moved::Over => None,
         }
     }
 
@@ -329,12 +308,13 @@ impl<S: Stage + Drop, R: Source + Drop, W: Sink> Net<S, R, W> {
         ensures turns { self.old.turns ≤ self.new.turns }
     {
         match self.give_on(k) {
-            Turned::Filled => Some(k + 1),
-            Turned::Over => None,
-            Turned::Waits => Some(k),
-            Turned::Gave => Some(k),
-            Turned::Took(_) => Some(k),
-            Turned::Heard(_) => Some(k),
+            Moved::Filled => Some(k + 1),
+            Moved::Failed(_) => None,
+            Moved::Over => None,
+            Moved::Waits => Some(k),
+            Moved::Gave => Some(k),
+            Moved::Took(_) => Some(k),
+            Moved::Heard(_) => Some(k),
         }
     }
 
@@ -360,12 +340,13 @@ impl<S: Stage + Drop, R: Source + Drop, W: Sink> Net<S, R, W> {
         ensures closer { IsCloser (looks.FromRight k) (right_at result) self.old self.new (is_none result) }
     {
         match self.act(k) {
-            Turned::Waits => Some(k - 1),
-            Turned::Gave => Some(self.takers[k]),
-            Turned::Filled => Some(self.takers[k]),
-            Turned::Took(_) => Some(k),
-            Turned::Heard(_) => Some(k),
-            Turned::Over => None,
+            Moved::Waits => Some(k - 1),
+            Moved::Gave => Some(self.takers[k]),
+            Moved::Filled => Some(self.takers[k]),
+            Moved::Took(_) => Some(k),
+            Moved::Heard(_) => Some(k),
+            Moved::Failed(_) => None,
+            Moved::Over => None,
         }
     }
 

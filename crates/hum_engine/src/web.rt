@@ -40,6 +40,8 @@ pub enum Moved {
     Heard(usize),
     /// A read has failed, or memory ran out.
     Failed(ReadError),
+    /// It is the sink, and the run is over.
+    Over,
 }
 
 /// Nodes, and the link of each.

@@ -50,6 +50,5 @@ settle-requires-clause-few g c = omega (arith, asked_few c.requires)
 
 pub returns : goal.returns
 returns g c =
-    rw c.settle.ensures.turned
-    (came g.R.Source (λ here. c.if-k-count.false (here ∙ sym c.count.ensures)) c.requires c.turn-moved.result c.turn-moved.ensures
-    c.settle.ensures.net)
+    came g.R.Source (λ here. c.if-k-count.false (here ∙ sym c.count.ensures)) c.requires c.turn-moved.result c.turn-moved.ensures
+    c.settle.ensures

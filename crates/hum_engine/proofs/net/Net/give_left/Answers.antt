@@ -11,11 +11,11 @@ returns-in-Filled-clause-advanced g c = left_filled c.requires.may c.in-Filled.e
 pub returns-in-Filled-clause-turns : goal.returns-in-Filled-clause-turns
 returns-in-Filled-clause-turns g c = omega (arith, c.in-Filled.ensures.0.gone.turns)
 
-pub returns-in-Over-clause-advanced : goal.returns-in-Over-clause-advanced
-returns-in-Over-clause-advanced g c = left_over c.requires.may c.in-Over.ensures.1
+pub returns-in-Failed-clause-advanced : goal.returns-in-Failed-clause-advanced
+returns-in-Failed-clause-advanced g c = left_over c.requires.may c.in-Failed.ensures.1
 
-pub returns-in-Over-clause-turns : goal.returns-in-Over-clause-turns
-returns-in-Over-clause-turns g c = omega (arith, c.in-Over.ensures.1.gone.turns)
+pub returns-in-Failed-clause-turns : goal.returns-in-Failed-clause-turns
+returns-in-Failed-clause-turns g c = omega (arith, c.in-Failed.ensures.1.gone.turns)
 
 pub returns-in-Waits-clause-advanced : goal.returns-in-Waits-clause-advanced
 returns-in-Waits-clause-advanced g c = left_waits c.requires.may c.in-Waits.ensures
@@ -34,3 +34,6 @@ returns-in-Took g c = absurd c.in-Took.ensures
 
 pub returns-in-Heard : goal.returns-in-Heard
 returns-in-Heard g c = absurd c.in-Heard.ensures
+
+pub returns-in-Over : goal.returns-in-Over
+returns-in-Over g c = absurd c.in-Over.ensures

@@ -14,6 +14,5 @@ settle-requires-clause-few g c = omega (arith, asked_few c.requires.ask)
 
 pub returns : goal.returns
 returns g c =
-    rw c.settle.ensures.turned
-    (given_on g.R.Source (λ here. omega (arith, asked_room c.requires.ask c.requires.room, here)) c.requires.ask
-    c.give_on-moved.result c.give_on-moved.ensures c.settle.ensures.net)
+    given_on g.R.Source (λ here. omega (arith, asked_room c.requires.ask c.requires.room, here)) c.requires.ask
+    c.give_on-moved.result c.give_on-moved.ensures c.settle.ensures

@@ -56,3 +56,9 @@ overflow_add-result g c = omega (arith, left_few c.requires)
 
 pub overflow_add-result-in-Filled : goal.overflow_add-result-in-Filled
 overflow_add-result-in-Filled g c = omega (arith, left_few c.requires)
+
+pub returns-in-Failed-clause-advanced : goal.returns-in-Failed-clause-advanced
+returns-in-Failed-clause-advanced g c = left_over c.requires c.in-Failed.ensures.1
+
+pub returns-in-Failed-clause-closer : goal.returns-in-Failed-clause-closer
+returns-in-Failed-clause-closer g c = inl refl

@@ -54,3 +54,9 @@ returns-in-Filled-clause-advanced g c =
     right_on c.requires c.in-Filled.ensures.0
     (nth c.act.new.self.takers.items c.args.k c.index-in-Filled.result.now
     (link_few (right_asked c.requires) c.in-Filled.ensures.0) c.index-in-Filled.ensures)
+
+pub returns-in-Failed-clause-advanced : goal.returns-in-Failed-clause-advanced
+returns-in-Failed-clause-advanced g c = right_over c.requires c.in-Failed.ensures.1
+
+pub returns-in-Failed-clause-closer : goal.returns-in-Failed-clause-closer
+returns-in-Failed-clause-closer g c = inl refl
