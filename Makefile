@@ -124,7 +124,9 @@ test: lint early
 		python3 tests/faults.py "$$program" && \
 		python3 tests/many.py $(many) && \
 		python3 tests/growth.py "$$program" && \
-		HUMPIPE=$$(realpath "$$program") && HUMPIPE_MANY=$$(realpath $(many)) && export HUMPIPE HUMPIPE_MANY && (cd python && python3 -m tests) && \
+		HUMPIPE=$$(realpath "$$program") && export HUMPIPE && beside=$$(mktemp -d) && \
+		ln -s "$$HUMPIPE" "$$beside/humpipe" && ln -s "$$(realpath $(many))" "$$beside/humpipe-many" && \
+		(cd python && HUMPIPE=$$beside/humpipe python3 -m tests) && rm -r "$$beside" && \
 		python3 packaging/check.py "$$program" && \
 		python3 tests/recipes.py "$$program" && \
 		python3 docs/check.py "$$program"; \
