@@ -68,6 +68,10 @@ class Case:
 TESTS = f'{HERE}/../crates/hum_tests/out/hum_tests_tests'
 
 
+# what a test of memory.rt tells where what it needs couldn't be made
+UNMADE = 'memory: ', 'a record: Memory', 'no rule is broken: Memory', 'a plan: Memory'
+
+
 def memory_faults(folder, library):
     """What comes of each test of memory.rt while one request for memory after the other fails: it passes, or says that what it needs couldn't be made."""
     environment = {**os.environ, 'LD_PRELOAD': library, 'COUNTS': f'{folder}/said'}
@@ -81,7 +85,7 @@ def memory_faults(folder, library):
         yield '' if ran(test, 0).returncode == 0 else f'{test} fails where memory lasts', False
         for number in range(1, int(open(f'{folder}/said').read().split()[0]) + 1):
             ended = ran(test, number)
-            is_unmade = ended.returncode == -signal.SIGABRT and ended.stderr.startswith(('memory: ', 'a record: Memory'))
+            is_unmade = ended.returncode == -signal.SIGABRT and ended.stderr.startswith(UNMADE)
             yield '' if ended.returncode == 0 or is_unmade else f'{test}, request {number}: {ended.stderr[:200]}', True
 
 
