@@ -36,7 +36,13 @@ def answer(plan: bytes, score: Path, *, stdout: Union[int, IO[bytes]] = subproce
 
 def feeds() -> Optional[str]:
     """The program that is kept: `humpipe-many` beside the program, or what the variable HUMPIPE_MANY names; none where that is empty."""
-    found = os.environ.get('HUMPIPE_MANY', os.path.join(os.path.dirname(program()), 'humpipe-many'))
+    return _found(*(os.environ.get(name) for name in ('HUMPIPE_MANY', 'HUMPIPE', 'PATH')))
+
+
+@lru_cache(maxsize=64)
+def _found(many: Optional[str], *_: Optional[str]) -> Optional[str]:
+    """That program, looked for once while the variables that name it stay the same."""
+    found = os.path.join(os.path.dirname(program()), 'humpipe-many') if many is None else many
     return found if found and os.access(found, os.X_OK) else None
 
 
@@ -85,14 +91,10 @@ class Feed:
 
     def ask(self, case: bytes, stdout: Union[int, IO[bytes]], timeout: Optional[float]) -> Answer:
         """The answer to a case. The program is ended where it takes too long."""
-        late, parts = threading.Event(), []
-
-        def end_it() -> None:
-            late.set()
-            self.process.kill()
-
-        clock = threading.Timer(timeout or 0, end_it)
-        if timeout is not None:
+        parts: List[bytes] = []
+        late = threading.Event()
+        clock = None if timeout is None else threading.Timer(timeout, self._end, [late])
+        if clock:
             clock.start()
         try:
             self._put(case)
@@ -105,9 +107,14 @@ class Feed:
                 raise
             return _written(parts, stdout, Answer(b'', out_of_time(timeout or 0)))
         finally:
-            clock.cancel()
+            if clock:
+                clock.cancel()
         status, _, told = ending.partition(b' ')
         return _written(parts, stdout, Answer(b'', error_at_end(int(status), told)))
+
+    def _end(self, late: threading.Event) -> None:
+        late.set()
+        self.process.kill()
 
     def close(self) -> None:
         self.process.kill()
