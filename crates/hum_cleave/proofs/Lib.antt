@@ -8,4 +8,3 @@ pub mod Signs
 pub mod Joined
 pub mod MergedLeads
 pub mod KeepsScores
-mod Examples

@@ -5,7 +5,6 @@ pub mod ChosenJoins
 pub mod Flags
 pub mod Taking
 pub mod KeepsScores
-mod Examples
 pub mod Weights
 pub mod OneByOne
 pub mod FirstJoin

@@ -1,4 +1,3 @@
-mod Examples
 pub mod Ending
 pub mod Keeping
 pub mod Growth

@@ -1,5 +1,4 @@
 pub mod Above
-mod Examples
 pub mod Keeping
 pub mod Nearest
 pub mod Passing

@@ -1,5 +1,3 @@
-pub mod PitchExamples
-mod Theory
 pub mod Steps
 pub mod Answering
 pub mod Reading

@@ -1,5 +1,3 @@
-mod Examples
-mod ToneExamples
 pub mod Moving
 pub mod TokenTone
 pub mod Parts
@@ -16,4 +14,3 @@ pub mod GivenLawful
 pub mod MintedLawful
 pub mod LastNotes
 pub mod MintSteps
-mod Worked
