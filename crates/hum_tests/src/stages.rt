@@ -14,12 +14,12 @@ use std::collections::VecDeque;
 use std::process::Abort;
 
 /// A line that is put, the lines that are given then, and how many records wait after them.
-pub type Put = (&'static [u8], Lines, usize);
+pub(crate) type Put = (&'static [u8], Lines, usize);
 
 /// A plan with one command, and the lines of a closed score.
-pub type Row = (&'static [u8], &'static [Put]);
+pub(crate) type Row = (&'static [u8], &'static [Put]);
 
-pub const ROWS: &[Row] = &[
+pub(crate) const ROWS: &[Row] = &[
     (
         b"out: read a | rid -Tid",
         &[
@@ -146,7 +146,7 @@ pub const ROWS: &[Row] = &[
 ];
 
 // The stage of the command of a plan, to which nothing was put yet.
-pub fn stage(rt: &impl Abort, alloc: Global, plan: &[u8]) -> CommandStage
+pub(crate) fn stage(rt: &impl Abort, alloc: Global, plan: &[u8]) -> CommandStage
     ensures { (m : Meaning) × ⟦<CommandStage as Stage>⟧.stands result (opening m) }
 {
     let plan = parse_plan(alloc, plan).expect(rt, "a plan");
@@ -162,7 +162,7 @@ pub fn stage(rt: &impl Abort, alloc: Global, plan: &[u8]) -> CommandStage
 }
 
 // The lines that are put, and those that are given.
-pub fn lines(
+pub(crate) fn lines(
     rt: &impl Abort,
     alloc: Global,
     puts: &[Put],
