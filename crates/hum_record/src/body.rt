@@ -13,7 +13,7 @@ ghost use Rattle.hum_score.specs.Row.{chosen};
 ghost use Rattle.hum_score.specs.Spelling.{has_byte, reading, parts, Fails};
 
 use crate::filling::{WHOLE, put_filled};
-use crate::holding::{fit, hold_copy, hold_far, hold_line};
+use crate::holding::{fit, hold_behind, hold_copy, hold_far, hold_line};
 use crate::leaving::move_in_front;
 use crate::near::{FEW, NEAR, copy_near, copy_places, put_places};
 use crate::putting::put_behind;
@@ -430,6 +430,20 @@ impl Body {
         ensures ends { OnOk result
             (self.new.ends ≡ self.old.ends ++ length self.new.text ∷ []) }
     {
+        if token.len() > SHORT_BYTES && self.held.len() - self.len <= token.len() + 1 {
+            return self.add_long(token);
+        }
+        self.add_short(token)
+    }
+
+    // The same, in room that is made first for as much again.
+    fn add_short(&mut self, token: &[u8]) -> Result<(), AllocError>
+        requires { length self.old.text + length token.now < 2 ^ 31 }
+        ensures text { OnOk result
+            (self.new.text ≡ self.old.text ++ (tab_between self.old.ends ++ token.now)) }
+        ensures ends { OnOk result
+            (self.new.ends ≡ self.old.ends ++ length self.new.text ∷ []) }
+    {
         if self.places.len() == self.count {
             fill_places(&mut self.places, 2 * self.count + 1)?;
         }
@@ -441,6 +455,31 @@ impl Body {
         self.places[self.count] = end as u32;
         self.count += 1;
         Ok(())
+    }
+
+    // The same of a long token, for which there is no room: the text grows by it, and nothing is filled first.
+    #[inline(never)]
+    fn add_long(&mut self, token: &[u8]) -> Result<(), AllocError>
+        requires { length self.old.text + length token.now < 2 ^ 31 }
+        ensures text { OnOk result
+            (self.new.text ≡ self.old.text ++ (tab_between self.old.ends ++ token.now)) }
+        ensures ends { OnOk result
+            (self.new.ends ≡ self.old.ends ++ length self.new.text ∷ []) }
+    {
+        let (len, count) = (self.len, self.count);
+        self.len = 0;
+        self.count = 0;
+        match hold_behind(&mut self.held, len, &mut self.places, count, token) {
+            Ok(end) => {
+                self.len = end;
+                self.count = count + 1;
+                Ok(())
+            }
+            Err(refused) => {
+                shorten(&mut self.held, &mut self.places);
+                Err(refused)
+            }
+        }
     }
 
     /// The same of a token of 1 to 16 bytes, as most are, where there is room for it and no doubt that the

@@ -1,6 +1,7 @@
 //! Lists that hold a text, LF behind it, and the places where its tokens end.
-ghost use Rattle.std.specs.Prelude.{◌≡◌, ◌≤◌, ◌<◌, length, take, slice_index};
+ghost use Rattle.std.specs.Prelude.{◌≡◌, ◌≤◌, ◌<◌, ◌+◌, ◌^◌, ◌++◌, ◌∷◌, [], length, take, slice_index};
 ghost use Rattle.std.specs.Prelude.{OnOk, IfOk, IfErr, IfSome, Ok, false, vec_len};
+ghost use Rattle.hum_record.specs.Building.{between};
 ghost use Rattle.hum_record.specs.Fields.{AreFields, row_in};
 ghost use Rattle.hum_record.specs.Lines.{IsLine};
 ghost use Rattle.hum_record.specs.Plain.{HasPlaces};
@@ -30,6 +31,36 @@ fn hold(held: &mut Vec<u8>, text: &[u8]) -> Result<(), AllocError>
     fill_bytes(held, text.len() + 1)?;
     held[text.len()] = b'\n';
     Ok(())
+}
+
+/// Puts a token behind the first `len` bytes of a text, a tab before it if tokens stand there, and LF behind it; puts
+/// where it ends behind the first `count` places; and answers that.
+pub fn hold_behind(
+    held: &mut Vec<u8>,
+    len: usize,
+    places: &mut Vec<u32>,
+    count: usize,
+    token: &[u8],
+) -> Result<usize, AllocError>
+    requires text { len ≤ vec_len held.old }
+    requires places { count ≤ vec_len places.old }
+    requires few { len + length token.now < 2 ^ 31 }
+    ensures text { IfOk result (λ end. take end held.new.items
+        ≡ take len held.old.items ++ (between count ++ token.now)) }
+    ensures room { IfOk result (IsRoomOf held.new) }
+    ensures ends { IfOk result (λ end. places.new.items ≡ take count places.old.items ++ end ∷ []) }
+{
+    held.truncate(len);
+    held.reserve(token.len() + 2)?;
+    if count != 0 {
+        held.push(b'\t')?;
+    }
+    held.extend_from_slice(token)?;
+    let end = held.len();
+    held.push(b'\n')?;
+    places.truncate(count);
+    places.push(end as u32)?;
+    Ok(end)
 }
 
 /// Puts a line in place of what is held, and where its tokens end, and answers how many; or finds the first

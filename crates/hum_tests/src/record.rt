@@ -215,6 +215,27 @@ fn long_token(alloc: Global, len: usize) -> Result<Vec<u8>, AllocError>
     Ok(vec![in alloc; b'a'; len]?)
 }
 
+/// How long tokens are that stand side by side: longer ones than a short record has room for among others.
+const SIZES: &[usize] = &[1, 513, 2, 600, 16, 70_000, 3, 1, 2_000, 520];
+
+#[test]
+fn builds_records_of_long_tokens(rt: HostRuntime) {
+    let alloc = rt.alloc();
+    let mut builder = RecordBuilder::new(alloc, SpinedKind::Values);
+    let mut whole = Vec::new(alloc);
+    for len in SIZES {
+        let token = long_token(alloc, (*len).max(1)).expect(&rt, "memory");
+        builder.push(&token).expect(&rt, "a token");
+        if !whole.is_empty() {
+            whole.push(b'\t').expect(&rt, "memory");
+        }
+        whole.extend_from_slice(&token).expect(&rt, "memory");
+    }
+    let record = builder.finish();
+    same_bytes(&rt, record.text(), &whole, "long tokens side by side");
+    check_alike(&rt, &record, &read(&rt, alloc, &whole));
+}
+
 // What a second token is answered.
 fn second_push(
     rt: &impl Abort,

@@ -4,9 +4,9 @@ use Rattle.hum_record.specs.Lines.{IsEnded}
 use Rattle.hum_record.specs.Room.{most_bytes, most_places}
 use Rattle.hum_record.proofs.Held.{ended_kept}
 use Rattle.hum_record.proofs.Added.{Counts, counts, more_bytes, more_places, added_text, added_ends}
-use Rattle.hum_record.proofs.body.Body.add.Goals.{then-len-self+in_ok-fill_places, else-len-self}
-use Rattle.hum_record.proofs.body.Body.add.Goals.{then-len-self-2+in_ok-fill_bytes, else-len-self-2}
-use Rattle.hum_record.proofs.body.Body.add.Goals as goal
+use Rattle.hum_record.proofs.body.Body.add_short.Goals.{then-len-self+in_ok-fill_places, else-len-self}
+use Rattle.hum_record.proofs.body.Body.add_short.Goals.{then-len-self-2+in_ok-fill_bytes, else-len-self-2}
+use Rattle.hum_record.proofs.body.Body.add_short.Goals as goal
 
 pub returns : goal.returns
 returns c =
