@@ -132,8 +132,8 @@ test: lint early
 		python3 docs/check.py "$$program"; \
 	else echo 'no program at humpipe or crates/humpipe/out/humpipe: make it, or say DOCS=no'; echo '0 passed, 1 failed'; exit 1; fi
 
-bench: humpipe
-	python3 bench/run.py
+bench: $(needed)
+	PROGRAM=$(there) python3 bench/run.py
 
 rows: humpipe
 	@python3 tests/check.py humpipe

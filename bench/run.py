@@ -1,9 +1,12 @@
 #!/usr/bin/env python3
-"""run.py [WORD ..]: user seconds, elapsed seconds and peak memory of ./humpipe beside other programs, on the same scores in the
+"""run.py [WORD ..]: processor seconds, elapsed seconds and peak memory of humpipe beside other programs, on the same scores in the
 same run. With words, only what has one of them in its title.
 
-The scores are made once, in bench/data. The programs run in turn, five times each, and the least times of each count. A program
-that isn't on the machine is left out. Of a shell's pipe the times and the memory of all its processes are added up."""
+The scores are made once, in bench/data. The programs run in turn, five times each, and the least times of each count: those of the
+processor are user's and system's together. A program that isn't on the machine is left out, and told; so is one that writes other bytes than the first.
+Of a shell's pipe the times and the memory of all its processes are added up. PROGRAM names another humpipe than ./humpipe, BENCH_MEGABYTES other sizes
+than 50."""
+import hashlib
 import os
 import shlex
 import shutil
@@ -15,7 +18,8 @@ HERE = os.path.dirname(os.path.abspath(__file__))
 TOP = os.path.dirname(HERE)
 DATA = os.path.join(HERE, 'data')
 ROUNDS = 5
-SIZES = [int(size) for size in os.environ.get('BENCH_MEGABYTES', '10 100').split()]
+SIZES = [int(size) for size in os.environ.get('BENCH_MEGABYTES', '50').split()]
+PROGRAM = os.path.abspath(os.environ.get('PROGRAM') or os.path.join(TOP, 'humpipe'))
 
 # the columns as they stand in each line; nothing is followed
 EXTRACT = 'BEGIN { FS = OFS = "\\t" } /^!!/ { print; next } { print $1, $3 }'
@@ -49,7 +53,7 @@ def peak_of(pid):
 
 
 def measured(words):
-    """The user seconds and the elapsed seconds of one run, and the peak memory in MiB. The output goes to a file."""
+    """The processor's seconds and the elapsed seconds of one run, the peak memory in MiB, and a sum of what was written. The output goes to a file."""
     peak = 0
     with open(os.path.join(DATA, 'out'), 'wb') as out:
         begin = time.monotonic()
@@ -65,17 +69,19 @@ def measured(words):
         program.returncode = os.waitstatus_to_exitcode(status)
     if program.returncode != 0:
         sys.exit(f'{words[0]} ended with status {program.returncode}')
-    return usage.ru_utime, elapsed, peak / 1024
+    with open(os.path.join(DATA, 'out'), 'rb') as out:
+        written = hashlib.file_digest(out, 'sha1').digest() if hasattr(hashlib, 'file_digest') else hashlib.sha1(out.read()).digest()
+    return usage.ru_utime + usage.ru_stime, elapsed, peak / 1024, written
 
 
 def best_of(programs):
-    """For each program the least user and elapsed seconds of its runs, and its greatest peak. They run in turn, so that what else
-    the machine does meets all of them."""
-    runs = [(float('inf'), float('inf'), 0)] * len(programs)
+    """For each program the least seconds of the processor and of the clock of its runs, its greatest peak, and what it wrote. They run in turn, so that
+    what else the machine does meets all of them."""
+    runs = [(float('inf'), float('inf'), 0, b'')] * len(programs)
     for _ in range(ROUNDS):
         for i, (_name, words) in enumerate(programs):
-            user, elapsed, peak = measured(words)
-            runs[i] = (min(runs[i][0], user), min(runs[i][1], elapsed), max(runs[i][2], peak))
+            seconds, elapsed, peak, written = measured(words)
+            runs[i] = (min(runs[i][0], seconds), min(runs[i][1], elapsed), max(runs[i][2], peak), written)
     return runs
 
 
@@ -85,10 +91,14 @@ def show(title, programs):
         return
     there = [(name, words) for name, words in programs if shutil.which(words[0])]
     print(title)
+    for name, words in programs:
+        if (name, words) not in there:
+            print(f'  {name:24} left out: {words[0]} is not there')
     runs = best_of(there)
-    for (name, _words), (user, elapsed, peak) in zip(there, runs):
-        ratio = f'  {there[0][0]} takes {runs[0][0] / user:.2f} times as long' if user > 0 and name != there[0][0] else ''
-        print(f'  {name:24} {user:6.2f} s user {elapsed:6.2f} s elapsed {peak:6.1f} MiB{ratio}', flush=True)
+    for (name, _words), (seconds, elapsed, peak, written) in zip(there, runs):
+        ratio = f'  {there[0][0]} takes {runs[0][0] / seconds:.2f} times as long' if seconds > 0 and name != there[0][0] else ''
+        other = '' if written == runs[0][3] else '  (other bytes)'
+        print(f'  {name:24} {seconds:6.2f} s {elapsed:6.2f} s elapsed {peak:6.1f} MiB{ratio}{other}', flush=True)
 
 
 def plan(name, text, *options):
@@ -96,7 +106,7 @@ def plan(name, text, *options):
     path = os.path.join(DATA, name + '.hpl')
     with open(path, 'w') as out:
         out.write(text + '\n')
-    return ['./humpipe', *options, path]
+    return [PROGRAM, *options, path]
 
 
 def pipe(*commands):
@@ -110,9 +120,9 @@ def awk(name, score):
 
 
 def rust(name, score):
-    """The program in Rust of this name beside this one, with its words for a score, as a list; none where there is no rustc."""
+    """The program in Rust of this name beside this one, with its words for a score, as a list."""
     if not shutil.which('rustc'):
-        return []
+        return [(f'{name}.rs', ['rustc'])]
     binary = os.path.join(DATA, name)
     source, shared = (os.path.join(HERE, file) for file in (name + '.rs', 'lines.rs'))
     if not os.path.exists(binary) or os.path.getmtime(binary) < max(map(os.path.getmtime, (source, shared))):
@@ -190,6 +200,40 @@ def tree(size):
     ])
 
 
+def side_by_side(size):
+    """A whole score beside itself."""
+    score = made_score(size)
+    show(f'{size} MB, a score beside itself', [
+        ('humpipe', plan('beside', f'a: read {score}\nb: read {score}\nout: assemble a b')),
+        ('paste', ['paste', score, score]),
+    ])
+
+
+def lengths():
+    """Lines of so many bytes, at the edges of what is looked at in one go."""
+    columns = 4
+    for length in (60, 63, 64, 70, 100, 127, 128, 130):
+        score = os.path.join(DATA, f'lines{length}.krn')
+        # four tokens, and the tabs between them
+        sizes = [(length - columns + 1 + k) // columns for k in range(columns)]
+        with open(score, 'w') as out:
+            row = lambda token: '\t'.join([token] * columns) + '\n'
+            out.write(row('**x') + ('\t'.join('4c' + 'x' * (many - 2) for many in sizes) + '\n') * (20_000_000 // length) + row('*-'))
+        show(f'20 MB, lines of {length} bytes, rid -G', [('humpipe', plan('plan', f'out: read {score} | rid -G')), ('grep -v', ['grep', '-v', '^!!', score])])
+
+
+def starts():
+    """A thousand runs over a score of a hundred lines."""
+    score = os.path.join(DATA, 'short.krn')
+    with open(score, 'w') as out:
+        out.write('**kern\n' + '4c\n' * 98 + '*-\n')
+    loop = lambda *words: ['sh', '-c', f'for k in $(seq 1000); do {shlex.join(words)}; done']
+    show('1,000 runs over a hundred lines', [
+        ('humpipe, rid -G', loop(*plan('short', f'out: read {score} | rid -G'))),
+        ('cat', loop('cat', score)), ('mawk', loop('mawk', '!/^!!/', score)), ('grep -v', loop('grep', '-v', '^!!', score)),
+    ])
+
+
 def waiting():
     """Scores of which context holds many records."""
     for lines in (16_000, 32_000, 65_000):
@@ -217,6 +261,9 @@ def main():
         chain(size)
         stages(size)
         tree(size)
+        side_by_side(size)
+    lengths()
+    starts()
     waiting()
 
 
