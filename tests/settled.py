@@ -14,7 +14,8 @@ import subprocess
 
 from check import SECONDS, shown, write
 
-BLOCK = 65_536
+# what the first read asks for, and each behind it
+FIRST, BLOCK = 8_192, 65_536
 # so many bytes of a branch may wait for those of others
 AHEAD = 100
 RIGHT = ['--link', '1', '--order', 'right']
@@ -55,7 +56,7 @@ class Settled:
 
     def __init__(self, program, folder, library, plan, branches, whole, short=None):
         self.program, self.folder, self.library, self.branches, self.whole = program, folder, library, branches, whole
-        self.name, self.step = f'{plan.decode()[-60:].strip()!r} over {len(whole)} bytes', short or BLOCK
+        self.name, self.limit = f'{plan.decode()[-60:].strip()!r} over {len(whole)} bytes', short
         self.short = {'SHORT': str(short)} if short else {}
         os.makedirs(f'{folder}/cut')
         for place in (folder, f'{folder}/cut'):
@@ -63,7 +64,7 @@ class Settled:
         write(f'{folder}/a', whole)
         self.texts = {0: b''}
         (self.status, self.text, self.told), (self.memory, reads, self.writes) = self.run()
-        self.blocks = -(-len(whole) // self.step)
+        self.blocks = next(reads for reads in range(len(whole) + 1) if self.size_of(reads) >= len(whole))
         # those of the plan; each branch reads its blocks, and finds the end
         self.before = reads - branches * (self.blocks + 1)
 
@@ -74,6 +75,10 @@ class Settled:
         ended = subprocess.run([self.program, *way, 'plan'], cwd=folder, env=environment, timeout=SECONDS, stdin=subprocess.DEVNULL, capture_output=True)
         with open(f'{folder}/said') as said:
             return (ended.returncode, ended.stdout, ended.stderr), [int(count) for count in said.read().split()[:3]]
+
+    def size_of(self, reads):
+        """How many bytes so many reads of the score give, where there are as many."""
+        return reads * self.limit if self.limit else reads and FIRST + (reads - 1) * BLOCK
 
     def settled(self, size):
         """What is written for the whole lines of so many bytes of the score."""
@@ -94,10 +99,10 @@ class Settled:
 
     def bounds(self, reads):
         """The least and the most that is written once so many reads of the score were made, each of them by all branches or by some."""
-        size = reads // self.branches * self.step
+        size = self.size_of(reads // self.branches)
         if self.branches == 1:
             return (self.settled(size),) * 2
-        return self.settled(min(size, len(self.whole)) - AHEAD), self.settled(size + self.step)
+        return self.settled(min(size, len(self.whole)) - AHEAD), self.settled(self.size_of(reads // self.branches + 1))
 
     def failed_read(self, number, way=RIGHT, **more):
         fault = f'read {errno.EIO} {self.before + number + 1}'
@@ -107,8 +112,7 @@ class Settled:
     def failed_memory(self, number, **more):
         fault = f'memory {errno.ENOMEM} {number}'
         found, (_, reads, _) = self.run(FAULT=fault, **more)
-        got = (reads - self.before) // self.branches * self.step
-        least = self.settled(got - self.step)
+        least = self.settled(self.size_of(max(0, (reads - self.before) // self.branches - 1)))
         return self.judge(fault, MEMORY, found, least, self.text), least
 
     def faults(self):
@@ -124,7 +128,7 @@ class Settled:
             yield self.failed_memory(number)[0]
         for number in range(1, self.writes + 1):
             fault = f'write {errno.ENOSPC} {number}'
-            least = self.text[:(number - 1) * self.step if self.short else 0]
+            least = self.text[:(number - 1) * self.limit if self.limit else 0]
             yield self.judge(fault, WRITE, self.run(FAULT=fault)[0], least, self.text)
         yield from self.swallowed(reads)
 

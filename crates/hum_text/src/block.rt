@@ -158,8 +158,8 @@ fn read_at<R: Source>(bytes: &mut Vec<u8>, at: usize, reader: &mut R) -> io::Res
     reader.read(&mut bytes[at..to])
 }
 
-// Makes room behind the window, and says where it begins then: at first for as many bytes as are left, if they
-// are few.
+// Makes room behind the window, and says where it begins then: at first for as many bytes as are left, as far as is
+// known, and for a large read where these weren't all.
 fn make_room(
     bytes: &mut Vec<u8>,
     start: usize,
@@ -185,7 +185,7 @@ fn make_room(
     if len - end >= LARGEST_READ {
         return Ok(start);
     }
-    if start > 0 && end - start <= len / 2 {
+    if len >= 2 * LARGEST_READ && start > 0 && end - start <= len / 2 {
         bytes.copy_within(start..end, 0);
         return Ok(0);
     }

@@ -12,6 +12,9 @@ use std::marker::Model;
 /// How many bytes a read asks for at most.
 pub const LARGEST_READ: usize = 65_536;
 
+/// For how many there is room at first where a source doesn't tell how many it has, so that a short score takes little.
+const FIRST_READ: usize = 8_128;
+
 /// What bytes are read from.
 pub trait Source {
     // the bytes that reads will give from here on, where they are known
@@ -23,7 +26,7 @@ pub trait Source {
 
     /// How many bytes it has left, as far as it knows: room for them is made at once. More may come.
     fn hint(&self) -> usize {
-        2 * LARGEST_READ
+        FIRST_READ
     }
 
     /// Reads into `buf`, which has room for 1 to 65,536 bytes. 0 bytes are the end.
