@@ -179,8 +179,8 @@ def _kept(plan: bytes) -> Feed:
             return feed
         feed.close()
     _own.feed = None
-    _own.feed = Feed(plan)
-    return _own.feed  # type: ignore[no-any-return]
+    feed = _own.feed = Feed(plan)
+    return feed
 
 
 _lock = threading.Lock()

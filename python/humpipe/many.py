@@ -127,4 +127,6 @@ def with_bar(results: Iterator[Result], jobs: Iterable[Any], progress: Optional[
     except ImportError:
         return results
     total = len(jobs) if isinstance(jobs, Sized) else None
-    return iter(tqdm(results, total=total, unit='score', disable=None if progress is None else False))
+    # (on a terminal alone, where nothing is said)
+    disable: Any = None if progress is None else False
+    return iter(tqdm(results, total=total, unit='score', disable=disable))
