@@ -7,3 +7,4 @@ pub mod Said
 pub mod Quiet
 pub mod Trees
 mod Examples
+mod Copying
