@@ -1,9 +1,10 @@
 //! Which spines become one, under which name, and what goes between their data.
-ghost use Rattle.std.specs.Prelude.{◌≡◌, true};
+ghost use Rattle.std.specs.Prelude.{◌≡◌, IfOk, true};
 ghost use Rattle.hum_score.specs.Spelling.{has_byte};
 ghost use Rattle.hum_choices.specs.Cleave.{is_name, fits_in_token};
 
 use hum_score::token_sign;
+use std::alloc::{AllocError, Global};
 use std::marker::Model;
 
 /// Which spines become one, under which name, and what goes between their data tokens.
@@ -70,6 +71,20 @@ impl CleaveOptions {
             new_name,
             separator,
         }
+    }
+
+    /// The same options once more.
+    ///
+    /// # Errors
+    /// Out of memory.
+    pub fn copy(&self, alloc: Global) -> Result<CleaveOptions, AllocError>
+        ensures { IfOk result (λ copy. copy ≡ self.now) }
+    {
+        Ok(CleaveOptions {
+            name: self.name.to_vec(alloc)?,
+            new_name: self.new_name.to_vec(alloc)?,
+            separator: self.separator.to_vec(alloc)?,
+        })
     }
 
     /// The exclusive interpretation of the spines that become one.

@@ -1,7 +1,7 @@
 //! How null data tokens are filled.
 ghost use Rattle.std.specs.Prelude.{◌≡◌, IfOk};
 
-use hum_pattern::Pattern;
+use hum_pattern::{Pattern, copied};
 use std::alloc::{AllocError, Global};
 
 /// How null data tokens are filled.
@@ -21,12 +21,8 @@ impl DittoOptions {
     pub fn copy(&self, alloc: Global) -> Result<DittoOptions, AllocError>
         ensures { IfOk result (λ copy. copy ≡ self.now) }
     {
-        let skip = match &self.skip {
-            Some(skip) => Some(skip.copy(alloc)?),
-            None => None,
-        };
         Ok(DittoOptions {
-            skip,
+            skip: copied(alloc, &self.skip)?,
             parentheses: self.parentheses,
         })
     }

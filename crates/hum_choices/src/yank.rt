@@ -1,5 +1,9 @@
 //! Which passages are chosen.
-use hum_pattern::Pattern;
+ghost use Rattle.std.specs.Prelude.{◌≡◌, IfOk};
+ghost use Rattle.hum_choices.specs.Options.{markers_of};
+
+use hum_pattern::{Pattern, copied};
+use std::alloc::{AllocError, Global};
 
 /// Where passages begin, and how they are numbered. A passage is a stretch of records, from a
 /// marker to before the next or to the end.
@@ -52,5 +56,38 @@ impl Drop for Markers {
             Markers::Occurrences(_opens, _ends) => {}
             Markers::Labels(_name) => {}
         }
+    }
+}
+
+impl Markers {
+    /// The same once more.
+    fn copy(&self, alloc: Global) -> Result<Markers, AllocError>
+        ensures { IfOk result (λ copy. markers_of copy ≡ markers_of self.now) }
+    {
+        match self {
+            Markers::Lines => Ok(Markers::Lines),
+            Markers::Numbers(pattern) => Ok(Markers::Numbers(pattern.copy(alloc)?)),
+            Markers::Occurrences(opens, ends) => Ok(Markers::Occurrences(
+                opens.copy(alloc)?,
+                copied(alloc, ends)?,
+            )),
+            Markers::Labels(name) => Ok(Markers::Labels(name.to_vec(alloc)?)),
+        }
+    }
+}
+
+impl YankOptions {
+    /// The same options once more.
+    ///
+    /// # Errors
+    /// Out of memory.
+    pub fn copy(&self, alloc: Global) -> Result<YankOptions, AllocError>
+        ensures markers { IfOk result (λ copy. markers_of copy.markers ≡ markers_of self.now.markers) }
+        ensures ranges { IfOk result (λ copy. copy.ranges.items ≡ self.now.ranges.items) }
+    {
+        Ok(YankOptions {
+            markers: self.markers.copy(alloc)?,
+            ranges: self.ranges.to_vec(alloc)?,
+        })
     }
 }

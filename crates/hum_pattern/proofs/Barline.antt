@@ -9,7 +9,7 @@ use Rattle.regex_hir.specs.Re.{Re, accept, attempt, alt, byte_in, cat, empty, li
 use Rattle.regex_hir.specs.Find.{first_from}
 use Rattle.regex_hir.specs.Looks.{holds, holds_between}
 use Rattle.regex_hir.specs.declared.look.Look.TheVariants.{Start}
-use Rattle.hum_pattern.specs.Meaning.{expression, matched, first_end}
+use Rattle.hum_pattern.specs.Meaning.{IsExpression, expression, matched, first_end}
 use Rattle.hum_pattern.specs.Searching.{begins_with}
 use Rattle.hum_pattern.proofs.OnLiterals.{patterns_on_literals}
 
@@ -19,6 +19,10 @@ barline = alt (cat (look Start) (cat (literal (61 ∷ [])) empty)) (byte_in [])
 is_barline : expression (codes "^=") ≡ barline
 unfolding patterns_on_literals
 is_barline = refl
+
+pub barline_is : IsExpression (codes "^=")
+unfolding patterns_on_literals
+barline_is = omega arith
 
 there : (hay : List ℕ) (k : ℕ) → k < length hay → is_some (slice_get hay k) ≡ true
 there [] k h = absurd (omega (arith, h))

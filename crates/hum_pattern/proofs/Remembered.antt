@@ -19,6 +19,9 @@ get_set (z ∷ zs) zero y (suc i) x h = inl h
 get_set (z ∷ zs) (suc j) y zero x h = inl h
 get_set (z ∷ zs) (suc j) y (suc i) x h = get_set zs j y i x h
 
+pub found_none : (text : List ℕ) → AllFound text []
+found_none text = record { each = λ i searched at. cc }
+
 pub none_finds : (text : List ℕ) (new : Searched) → new.found ≡ None → Finds text new
 none_finds text new none = record { is = λ found e. let k = sym none ∙ e in cc }
 

@@ -11,7 +11,7 @@ ghost use Rattle.hum_pattern.specs.declared.PatternFault.TheVariants.{Refused, T
 
 mod searched;
 
-use crate::searched::{Searched, none_searched, recalled, remember};
+use crate::searched::{Searched, recalled, remember};
 use regex::Error as RegexError;
 use regex::bytes::{Matcher, Regex};
 use std::alloc::{AllocError, Global};
@@ -63,119 +63,72 @@ fn barline_end(token: &[u8]) -> Option<usize>
 ///
 /// What is worked out of its text stays in memory to the program's end, so that each search has the
 /// tables that those before it filled.
-pub struct Pattern {
+struct Expression {
     regex: &'static Regex,
     // on the heap, since it is some kilobytes large
     matcher: Box<Matcher<'static>>,
     // tokens that were searched before
     searched: Vec<Searched>,
-    // it is the pattern of barlines, for which a look at a token's first byte is enough
-    is_barline: bool,
 }
 
 // Written out, so that a caller's proof sees one call and not the drop of each field.
-impl Drop for Pattern {
+impl Drop for Expression {
     fn drop(self) {
-        let Pattern {
+        let Expression {
             regex: _,
             matcher: _matcher,
             searched: _searched,
-            is_barline: _,
         } = self;
     }
 }
 
-impl Model for Pattern {
-    ghost use Rattle.std.specs.Prelude.{◌≡◌, ℕ, List, box_value};
+impl Model for Expression {
+    ghost use Rattle.std.specs.Prelude.{ℕ, List, box_value};
     ghost use Rattle.regex.specs.Bytes.{regex_source, regex_pattern, matcher_pattern};
-    ghost use Rattle.hum_pattern.specs.Searching.{SearchesFor, AllFound, MayBeBarline};
+    ghost use Rattle.hum_pattern.specs.Searching.{SearchesFor, AllFound};
 
     ghost Value = { List ℕ };
 
-    ghost view = { λ p. regex_source p.regex.now };
+    ghost view = { λ e. regex_source e.regex.now };
 
-    ghost invariant = { λ p. SearchesFor (regex_source p.regex.now) (matcher_pattern (box_value p.matcher))
-        × AllFound (regex_source p.regex.now) p.searched.items
-        × MayBeBarline p.is_barline (regex_source p.regex.now)
-        × SearchesFor (regex_source p.regex.now) (regex_pattern p.regex.now) };
+    ghost invariant = { λ e. SearchesFor (regex_source e.regex.now) (matcher_pattern (box_value e.matcher))
+        × AllFound (regex_source e.regex.now) e.searched.items
+        × SearchesFor (regex_source e.regex.now) (regex_pattern e.regex.now) };
 }
 
-impl Pattern {
+impl Expression {
     ghost use Rattle.regex.specs.Bytes.{regex_source, regex_pattern};
     ghost use Rattle.hum_pattern.specs.Searching.{SearchesFor};
 
-    /// The pattern of an expression, with what its searches write to.
-    fn searching(
-        alloc: Global,
-        regex: &'static Regex,
-        is_barline: bool,
-    ) -> Result<Pattern, AllocError>
-        requires searches { SearchesFor (regex_source regex.now) (regex_pattern regex.now) }
-        requires barline { MayBeBarline is_barline (regex_source regex.now) }
-        ensures { IfOk result (λ pattern. pattern ≡ regex_source regex.now) }
+    /// An expression, with what its searches write to.
+    fn searching(alloc: Global, regex: &'static Regex) -> Result<Expression, AllocError>
+        requires { SearchesFor (regex_source regex.now) (regex_pattern regex.now) }
+        ensures { IfOk result (λ expression. expression ≡ regex_source regex.now) }
     {
-        Ok(Pattern {
+        Ok(Expression {
             regex,
             matcher: Box::new(alloc, regex.matcher(alloc)?)?,
-            searched: none_searched(alloc)?,
-            is_barline,
+            searched: Vec::new(alloc),
         })
     }
 
-    /// The same of an expression that stays in memory from now on.
-    fn lasting(alloc: Global, regex: Regex, is_barline: bool) -> Result<Pattern, AllocError>
-        requires searches { SearchesFor (regex_source regex) (regex_pattern regex) }
-        requires barline { MayBeBarline is_barline (regex_source regex) }
-        ensures { IfOk result (λ pattern. pattern ≡ regex_source regex) }
+    /// The same of one that stays in memory from now on.
+    fn lasting(alloc: Global, regex: Regex) -> Result<Expression, AllocError>
+        requires { SearchesFor (regex_source regex) (regex_pattern regex) }
+        ensures { IfOk result (λ expression. expression ≡ regex_source regex) }
     {
         let regex: &'static Regex = Box::leak(Box::new(alloc, regex)?);
-        Pattern::searching(alloc, regex, is_barline)
+        Expression::searching(alloc, regex)
     }
 
-    /// The pattern of a text.
-    ///
-    /// # Errors
-    /// [`PatternFault::Refused`] and [`PatternFault::TooLarge`] by the text, and running out of memory.
-    pub fn new(alloc: Global, text: &str) -> Result<Pattern, PatternFault>
-        ensures text { IfOk result (λ pattern. pattern ≡ text.now) }
-        ensures valid { OnOk result (IsExpression text.now) }
-        ensures refused { IfErr result (λ fault. fault ≡ Refused → IsNone text.now) }
-        ensures too_large { IfErr result (λ fault. fault ≡ TooLarge → IsExpression text.now) }
+    /// The same expression once more.
+    fn copy(&self, alloc: Global) -> Result<Expression, AllocError>
+        ensures { IfOk result (λ expression. expression ≡ self.now) }
     {
-        match Regex::new(alloc, text) {
-            Ok(regex) => match Pattern::lasting(alloc, regex, is_barline(text)) {
-                Ok(pattern) => Ok(pattern),
-                Err(_) => Err(PatternFault::Memory),
-            },
-            Err(RegexError::Syntax(_)) => Err(PatternFault::Refused),
-            Err(RegexError::OutOfMemory) => Err(PatternFault::Memory),
-            Err(RegexError::CompiledTooBig) => Err(PatternFault::TooLarge),
-            Err(RegexError::Internal) => Err(PatternFault::TooLarge),
-        }
+        Expression::searching(alloc, self.regex)
     }
 
-    /// The same pattern once more. What was worked out of its text serves both.
-    ///
-    /// # Errors
-    /// Out of memory.
-    pub fn copy(&self, alloc: Global) -> Result<Pattern, AllocError>
-        ensures { IfOk result (λ pattern. pattern ≡ self.now) }
-    {
-        Pattern::searching(alloc, self.regex, self.is_barline)
-    }
-
-    /// Whether the pattern has a match anywhere in a token.
-    pub fn matches(&mut self, token: &[u8]) -> bool
-        ensures found { result ≡ matched self.old token.now }
-        ensures same { self.new ≡ self.old }
-    {
-        if self.is_barline {
-            return begins_barline(token);
-        }
-        self.finds(token)
-    }
-
-    /// The same, by what is remembered of the token, or by a search.
+    /// Whether it has a match anywhere in a token, by what is remembered of the token, or by a search.
     #[inline(never)]
     fn finds(&mut self, token: &[u8]) -> bool
         ensures found { result ≡ matched self.old token.now }
@@ -189,15 +142,133 @@ impl Pattern {
         found
     }
 
+    /// Where the leftmost match ends in a token.
+    fn end_of_first(&mut self, token: &[u8]) -> Option<usize>
+        ensures found { result ≡ first_end self.old token.now }
+        ensures same { self.new ≡ self.old }
+    {
+        self.matcher.shortest_match(token)
+    }
+}
+
+/// The expression that a text is.
+fn expression_of(alloc: Global, text: &str) -> Result<Expression, PatternFault>
+    ensures text { IfOk result (λ expression. expression ≡ text.now) }
+    ensures valid { OnOk result (IsExpression text.now) }
+    ensures refused { IfErr result (λ fault. fault ≡ Refused → IsNone text.now) }
+    ensures too_large { IfErr result (λ fault. fault ≡ TooLarge → IsExpression text.now) }
+{
+    match Regex::new(alloc, text) {
+        Ok(regex) => match Expression::lasting(alloc, regex) {
+            Ok(expression) => Ok(expression),
+            Err(_) => Err(PatternFault::Memory),
+        },
+        Err(RegexError::Syntax(_)) => Err(PatternFault::Refused),
+        Err(RegexError::OutOfMemory) => Err(PatternFault::Memory),
+        Err(RegexError::CompiledTooBig) => Err(PatternFault::TooLarge),
+        Err(RegexError::Internal) => Err(PatternFault::TooLarge),
+    }
+}
+
+/// What searches for a pattern.
+#[derive(Drop)]
+enum Search {
+    /// for that of barlines: a look at a token's first byte
+    Barlines,
+    /// for any other
+    Expression(Expression),
+}
+
+/// A pattern that is tried on tokens.
+pub struct Pattern {
+    search: Search,
+}
+
+// Written out, so that a caller's proof sees one call and not the drop of each field.
+impl Drop for Pattern {
+    fn drop(self) {
+        let Pattern { search: _search } = self;
+    }
+}
+
+impl Model for Pattern {
+    ghost use Rattle.std.specs.Prelude.{ℕ, List};
+    ghost use Rattle.hum_pattern.specs.Text.{text_of};
+
+    ghost Value = { List ℕ };
+
+    ghost view = { λ p. text_of p.search };
+}
+
+impl Pattern {
+    /// The pattern of a text.
+    ///
+    /// # Errors
+    /// [`PatternFault::Refused`] and [`PatternFault::TooLarge`] by the text, and running out of memory.
+    pub fn new(alloc: Global, text: &str) -> Result<Pattern, PatternFault>
+        ensures text { IfOk result (λ pattern. pattern ≡ text.now) }
+        ensures valid { OnOk result (IsExpression text.now) }
+        ensures refused { IfErr result (λ fault. fault ≡ Refused → IsNone text.now) }
+        ensures too_large { IfErr result (λ fault. fault ≡ TooLarge → IsExpression text.now) }
+    {
+        if is_barline(text) {
+            return Ok(Pattern {
+                search: Search::Barlines,
+            });
+        }
+        let expression = expression_of(alloc, text)?;
+        Ok(Pattern {
+            search: Search::Expression(expression),
+        })
+    }
+
+    /// The same pattern once more. What was worked out of its text serves both.
+    ///
+    /// # Errors
+    /// Out of memory.
+    pub fn copy(&self, alloc: Global) -> Result<Pattern, AllocError>
+        ensures { IfOk result (λ pattern. pattern ≡ self.now) }
+    {
+        let search = match &self.search {
+            Search::Barlines => Search::Barlines,
+            Search::Expression(expression) => Search::Expression(expression.copy(alloc)?),
+        };
+        Ok(Pattern { search })
+    }
+
+    /// Whether the pattern has a match anywhere in a token.
+    pub fn matches(&mut self, token: &[u8]) -> bool
+        ensures found { result ≡ matched self.old token.now }
+        ensures same { self.new ≡ self.old }
+    {
+        match &mut self.search {
+            Search::Barlines => begins_barline(token),
+            Search::Expression(expression) => expression.finds(token),
+        }
+    }
+
     /// Where the leftmost match ends in a token, counted in bytes from its beginning.
     pub fn end_of_first(&mut self, token: &[u8]) -> Option<usize>
         ensures found { result ≡ first_end self.old token.now }
         ensures same { self.new ≡ self.old }
     {
-        if self.is_barline {
-            return barline_end(token);
+        match &mut self.search {
+            Search::Barlines => barline_end(token),
+            Search::Expression(expression) => expression.end_of_first(token),
         }
-        self.matcher.shortest_match(token)
+    }
+}
+
+/// The same pattern once more, where there is one.
+///
+/// # Errors
+/// Out of memory.
+pub fn copied(alloc: Global, pattern: &Option<Pattern>) -> Result<Option<Pattern>, AllocError>
+    ensures { IfOk result (λ copy. copy ≡ pattern.now) }
+{
+    match pattern {
+        None => Ok(None),
+        Some(pattern) => Ok(Some(pattern.copy(alloc)?)),
     }
 }
 

@@ -53,18 +53,21 @@ impl Searched {
     }
 }
 
-/// No token was searched as yet.
-pub(crate) fn none_searched(alloc: Global) -> Result<Vec<Searched>, AllocError>
-    ensures { IfOk result (λ searched. (text : List ℕ) → AllFound text searched.items) }
+/// Makes the places that are still to be made, as far as there is memory for them.
+fn make_places(searched: &mut Vec<Searched>)
+    ensures { (text : List ℕ) → AllFound text searched.old.items → AllFound text searched.new.items }
 {
-    let mut searched = Vec::new(alloc);
-    for _ in 0..PLACES {
-        searched.push(Searched {
+    let alloc = *searched.allocator();
+    for _ in searched.len()..PLACES {
+        let place = Searched {
             token: Vec::new(alloc),
             found: None,
-        })?;
+        };
+        match searched.push(place) {
+            Ok(()) => {}
+            Err(_) => return,
+        }
     }
-    Ok(searched)
 }
 
 /// Whether a match was found in a token, if that is remembered.
@@ -79,14 +82,17 @@ pub(crate) fn recalled(searched: &[Searched], token: &[u8]) -> Option<bool>
     searched[place].known(token)
 }
 
-/// A token is remembered in which a match was found or none.
+/// A token is remembered in which a match was found or none, if there is memory for it.
 pub(crate) fn remember(searched: &mut Vec<Searched>, token: &[u8], found: bool)
     ensures { (text : List ℕ) → AllFound text searched.old.items → matched text token.now ≡ found
         → AllFound text searched.new.items }
 {
-    let place = place_of(token);
-    if token.len() > LONGEST || place >= searched.len() {
+    if token.len() > LONGEST {
         return;
     }
-    searched[place].set(token, found);
+    let place = place_of(token);
+    make_places(searched);
+    if place < searched.len() {
+        searched[place].set(token, found);
+    }
 }

@@ -6,3 +6,4 @@ pub mod Agreed
 pub mod Said
 pub mod Quiet
 pub mod Trees
+mod Copying

@@ -1,7 +1,7 @@
 use Rattle.std.proofs.Common.{◌∙◌, sym}
 use Rattle.regex.specs.Bytes.{regex_source}
 use Rattle.hum_pattern.proofs.Reading.{same_test}
-use Rattle.hum_pattern.proofs.Pattern.finds.Goals as goal
+use Rattle.hum_pattern.proofs.Expression.finds.Goals as goal
 
 pub returns-clause-found : goal.returns-clause-found
 returns-clause-found c =
@@ -16,5 +16,4 @@ invariant_of-self c =
           (sym (c.is_match-found.ensures.found ∙ same_test text c.args.token.now _
           (rw c.deref_mut.ensures.value c.self.invariant.0) (λ k. (c.type_inv.token k).fits))),
       c.self.invariant.2,
-      c.self.invariant.3,
     )
