@@ -11,7 +11,7 @@ ghost use Rattle.hum_assemble.specs.Merge.{moved, advanced, text_of_first, part_
 ghost use Rattle.hum_assemble.specs.{Sizes.tokens_len, Places.kind_at};
 
 use crate::places::{Place, null_at};
-use crate::placing::{place, stand_behind, width_after};
+use crate::placing::{stand, stand_behind};
 use hum_path::{MOST_SPINES, Paths};
 use hum_record::{Kind, MOST_BYTES, Record, RecordBuilder};
 use hum_stage::End;
@@ -96,8 +96,7 @@ impl SourceHead {
     {
         // Its text is lawful.
         let _kind = row.kind();
-        let place = place(self.opened, self.inside, &self.paths, &row);
-        let width = width_after(self.opened, &self.paths, &row);
+        let (place, width) = stand(self.opened, self.inside, &self.paths, &row);
         self.head = Some(Head { row, place, width });
     }
 
@@ -253,6 +252,7 @@ impl SourceHead {
 
     /// Goes on by one record that is given; where it isn't this one's, it may be due in the round
     /// that begins.
+    #[inline(always)]
     pub fn go_on(
         &mut self,
         taken: bool,
@@ -274,9 +274,14 @@ impl SourceHead {
         };
         let Head {
             row,
-            place: _,
+            place,
             width: _,
         } = head;
+        if let Place::Note = place {
+            // data leaves the spines as they stand
+            self.due = false;
+            return Ok(Some(row));
+        }
         match self.paths.follow(&row) {
             Ok(_) => {}
             Err(AllocError) => {
