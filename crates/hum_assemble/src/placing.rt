@@ -1,9 +1,9 @@
 //! Where a record stands in its score, and how many spines stand behind it.
 ghost use Rattle.std.specs.Prelude.{◌≡◌, ◌≤◌, None, false, true, length, map};
 ghost use Rattle.std.specs.List.{list_all};
-ghost use Rattle.hum_score.specs.Row.{tokens_of, kind_of};
+ghost use Rattle.hum_score.specs.Row.{tokens_of, text_of, kind_of};
 ghost use Rattle.hum_score.specs.declared.records.Kind.TheVariants.{Interpretation, Values};
-ghost use Rattle.hum_score.specs.{Sign.sign_of, Rules.fault_of};
+ghost use Rattle.hum_score.specs.{Sign.sign_of, Rules.fault_of, Spelling.IsTextOf};
 ghost use Rattle.hum_score.specs.Spines.{Path, width, after};
 ghost use Rattle.hum_assemble.specs.Source.{is_end, is_inside, place, interpretation_place};
 ghost use Rattle.hum_assemble.specs.Source.{by_comment, unit_place};
@@ -149,7 +149,8 @@ fn width_after(opened: bool, paths: &Paths, row: &Record) -> usize
 }
 
 fn is_data(row: &Record) -> bool
-    ensures { result ≡ true → kind_of row.now ≡ Values }
+    ensures data { result ≡ true → kind_of row.now ≡ Values }
+    ensures lawful { IsTextOf row.now (text_of row.now) }
 {
     matches!(row.kind(), Kind::Values)
 }
@@ -162,7 +163,10 @@ fn stand_any(opened: bool, inside: bool, paths: &Paths, row: &Record) -> (Place,
     requires valid { fault_of paths.now.path row.now ≡ None }
     ensures place { result.0 ≡ place paths.now.path row.now }
     ensures width { result.1 ≡ width (after paths.now.path row.now) }
+    ensures lawful { IsTextOf row.now (text_of row.now) }
 {
+    // Its text is lawful.
+    let _kind = row.kind();
     let place = place(opened, inside, paths, row);
     let width = width_after(opened, paths, row);
     (place, width)
@@ -175,6 +179,7 @@ pub fn stand(opened: bool, inside: bool, paths: &Paths, row: &Record) -> (Place,
     requires valid { fault_of paths.now.path row.now ≡ None }
     ensures place { result.0 ≡ place paths.now.path row.now }
     ensures width { result.1 ≡ width (after paths.now.path row.now) }
+    ensures lawful { IsTextOf row.now (text_of row.now) }
 {
     if opened && !inside && !paths.is_closed() && is_data(row) {
         return (Place::Note, paths.width());

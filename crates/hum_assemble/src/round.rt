@@ -134,6 +134,7 @@ fn is_too_long(sources: &[SourceHead], going: bool, p: Place) -> bool
 }
 
 /// Whether the records at this place may be given.
+#[inline(never)]
 fn ahead_at(sources: &[SourceHead], given: u64, going: bool, p: Place) -> Next
     ensures { result ≡ ahead_at going p sources.now given }
 {
@@ -157,18 +158,18 @@ fn are_notes(sources: &[SourceHead], spines: usize, bytes: usize) -> bool
     match sources {
         [] => true,
         [source, rest @ ..] => {
+            let Place::Note = source.place_at(false) else {
+                return false;
+            };
             let width = source.width_ahead();
             let len = source.part_len(true, Place::Note);
-            matches!(source.place_at(false), Place::Note)
-                && width <= spines
-                && len <= bytes
-                && are_notes(rest, spines - width, bytes - len)
+            width <= spines && len <= bytes && are_notes(rest, spines - width, bytes - len)
         }
     }
 }
 
 /// What can be done next where all that is asked is known. Mostly that is data of each source.
-#[inline]
+#[inline(always)]
 fn ahead_known(sources: &[SourceHead], given: u64, going: bool) -> Next
     ensures { result ≡ ahead_at going (earliest going sources.now) sources.now given }
 {
@@ -198,6 +199,7 @@ pub fn ahead_open(sources: &[SourceHead], given: u64, going: bool, known: usize)
 }
 
 /// What can be done next, after so many records were given.
+#[inline(never)]
 fn ahead(sources: &[SourceHead], given: u64, going: bool) -> Next
     requires { going ≡ any_due sources.now }
     ensures { result ≡ ahead (record { sources = sources.now; given = given }) }
@@ -223,6 +225,7 @@ fn all_wait(sources: &[SourceHead]) -> bool
 
 /// Whether a round goes on, and what can be done next, after so many records were given. Behind data each
 /// source is asked for its next record.
+#[inline(always)]
 pub fn look_ahead(sources: &[SourceHead], given: u64) -> (bool, Next)
     ensures going { result.0 ≡ any_due sources.now }
     ensures next { result.1 ≡ ahead (record { sources = sources.now; given = given }) }
@@ -337,7 +340,7 @@ fn give_side_by_side(
     Ok(builder.finish())
 }
 
-/// Gives the record at this place. One that needs no null tokens is moved.
+/// Gives the record at this place. One that needs no null tokens is moved, but of data it is seldom the only part.
 fn give_at(
     alloc: Global,
     sources: &mut [SourceHead],
@@ -354,7 +357,8 @@ fn give_at(
     match p.kind() {
         None => give_alone(sources, going, p, pool),
         Some(kind) => {
-            if are_few_parts(sources, true, going, p, 1) {
+            let may_be_alone = !matches!(p, Place::Note) || sources.len() == 1;
+            if may_be_alone && are_few_parts(sources, true, going, p, 1) {
                 give_alone(sources, going, p, pool)
             } else {
                 give_side_by_side(alloc, kind, sources, going, p, pool)

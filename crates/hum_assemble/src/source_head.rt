@@ -94,8 +94,6 @@ impl SourceHead {
         ensures put { self.new ≡ record self.old { coming = row ∷ [] } }
         ensures lawful { AreLawful self.old.path (row ∷ []) }
     {
-        // Its text is lawful.
-        let _kind = row.kind();
         let (place, width) = stand(self.opened, self.inside, &self.paths, &row);
         self.head = Some(Head { row, place, width });
     }
