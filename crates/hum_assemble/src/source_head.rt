@@ -3,7 +3,7 @@ ghost use Rattle.std.specs.Prelude.{◌≡◌, ◌++◌, ◌∷◌, ◌≤◌, [
 ghost use Rattle.std.specs.Prelude.{length, if◌then◌else◌};
 ghost use Rattle.std.specs.List.{AllByRecursion};
 ghost use Rattle.hum_record.specs.{Building.spelled, Room.rooms_for};
-ghost use Rattle.hum_score.specs.{Spelling.IsToken, Row.tokens_of};
+ghost use Rattle.hum_score.specs.{Spelling.IsToken, Row.tokens_of, Row.Spined};
 ghost use Rattle.hum_score.specs.{Spines.width, Rules.fault_of};
 ghost use Rattle.hum_assemble.specs.{Head.first_of, Head.AreLawful, Source.untouched};
 ghost use Rattle.hum_assemble.specs.Round.{shown, place_at, takes};
@@ -69,6 +69,25 @@ fn push_tokens(builder: &mut RecordBuilder, row: &Record) -> Result<(), AllocErr
         builder.push_fitting(row.token(j))?;
     }
     Ok(())
+}
+
+/// Adds the tokens of a record, all at once where there is room for them.
+fn push_row(builder: &mut RecordBuilder, row: &Record) -> Result<(), AllocError>
+    requires spined { row.now ≡ Spined builder.old.kind (tokens_of row.now) }
+    requires tokens { AllByRecursion (IsToken builder.old.kind) (tokens_of row.now) }
+    requires fits { length (spelled (builder.old.tokens ++ tokens_of row.now)) ≤ MOST_BYTES }
+    ensures { OnOk result (builder.new ≡ record builder.old {
+      tokens = builder.old.tokens ++ tokens_of row.now;
+    }) }
+{
+    // one alone is put faster as a token
+    if row.width() == 1 {
+        return push_tokens(builder, row);
+    }
+    if builder.push_row(row) {
+        return Ok(());
+    }
+    push_tokens(builder, row)
 }
 
 impl SourceHead {
@@ -244,7 +263,7 @@ impl SourceHead {
         }
         match &self.head {
             None => Ok(()),
-            Some(head) => push_tokens(builder, &head.row),
+            Some(head) => push_row(builder, &head.row),
         }
     }
 
