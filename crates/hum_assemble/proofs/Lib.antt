@@ -37,3 +37,4 @@ pub mod Few
 pub mod Firsts
 pub mod One
 pub mod Pushing
+pub mod Notes

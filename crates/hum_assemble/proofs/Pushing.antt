@@ -1,20 +1,15 @@
 -- Tokens that are added to a record in the making.
-use Rattle.std.proofs.Common.{◌≡◌, ◌∙◌, sym, ap, subst, ℕ, zero, suc, ◌+◌, ◌-◌, ◌<◌, ◌≤◌, Bool, not, ◌&&◌, ◌||◌}
+use Rattle.std.proofs.Common.{◌≡◌, ◌∙◌, refl, sym, ap, ℕ, zero, suc, ◌+◌, ◌<◌, ◌≤◌, Bool}
 use Rattle.std.proofs.Common.{List, [], ◌∷◌, ◌++◌, length, take, drop, get_or, append_assoc, append-nil, arith, Option}
 use Rattle.std.specs.List.{AllByRecursion}
 use Rattle.std.proofs.lemmas.List.{drop_all, take_all, take_more}
 use Rattle.hum_record.specs.Building.{Draft}
-use Rattle.hum_score.specs.declared.records.SpinedKind.{SpinedKind}
 use Rattle.hum_score.specs.Row.{Row}
 use Rattle.hum_score.specs.Spelling.{IsToken}
 use Rattle.hum_assemble.specs.declared.places.Place.{Place}
-use Rattle.hum_assemble.specs.Head.{AreLawful, AllLawful}
-use Rattle.hum_assemble.specs.Places.{is_shared}
-use Rattle.hum_assemble.specs.Round.{takes}
-use Rattle.hum_assemble.specs.Merge.{all_moved, part_given, tokens_given}
+use Rattle.hum_assemble.specs.Merge.{all_moved, tokens_given}
 use Rattle.hum_assemble.specs.Source.{Source}
 use Rattle.hum_assemble.specs.Taking.{row_taken}
-use Rattle.hum_assemble.proofs.Firsts.{others}
 
 -- a draft with other tokens
 abbrev with : Draft → List (List ℕ) → Draft
@@ -48,33 +43,6 @@ pub all_added : (old before : Draft) (ts : List (List ℕ)) (j : ℕ) → before
     → length ts ≤ j → before ≡ with old (old.tokens ++ ts)
 all_added old before ts j is over = is ∙ ap (λ more. with old (old.tokens ++ more)) (take_all j ts over)
 
--- What a source has was added.
-pub first_lawful : (ss : List Source) (s : Source) → 1 ≤ length ss → s ≡ get_or ss 0 s → AllLawful ss → AreLawful s.path s.coming
-first_lawful [] s some is h = absurd (omega (arith, some))
-first_lawful (x ∷ ss) s some is h = rw is h.0
-
-pub others_lawful : (ss : List Source) → 1 ≤ length ss → AllLawful ss → AllLawful (take (length ss - 1) (drop 1 ss))
-others_lawful [] some h = absurd (omega (arith, some))
-others_lawful (x ∷ ss) some h = subst (λ all. AllLawful all) (sym (others x ss)) h.1
-
-pub part_added : (free going on taken : Bool) (p : Place) (ss : List Source) (s : Source) (before after : List (List ℕ))
-    → 1 ≤ length ss → s ≡ get_or ss 0 s → taken ≡ takes free going p s → on ≡ (free && (is_shared p || not taken))
-    → after ≡ before ++ part_given taken p s
-    → after ++ tokens_given on going p (take (length ss - 1) (drop 1 ss)) ≡ before ++ tokens_given free going p ss
-part_added free going on taken p [] s before after some is t o grown = absurd (omega (arith, some))
-part_added free going on taken p (x ∷ xs) s before after some is t o grown =
-    rw (grown, o, t, is, others x xs) (append_assoc before (part_given (takes free going p x) p x) _)
-
-pub parts_added : (old now : Draft) (free going : Bool) (p : Place) (ss : List Source) (all : List (List ℕ)) → length ss < 1
-    → now.kind ≡ old.kind → now.spent ≡ old.spent → now.tokens ++ tokens_given free going p ss ≡ all → now ≡ with old all
-parts_added old now free going p [] all none kind spent is =
-    ap (with now) (sym (append-nil now.tokens) ∙ is)
-    ∙ ap (λ k. drafted k all now.spent) kind ∙ ap (λ s. drafted old.kind all s) spent
-  where
-    drafted : SpinedKind → List (List ℕ) → Bool → Draft
-    drafted kind tokens spent = record { kind = kind; tokens = tokens; spent = spent }
-parts_added old now free going p (x ∷ xs) all none kind spent is = absurd (omega (arith, none))
-
 -- all sources have gone on
 pub all_gone : (free going : Bool) (p : Place) (i : ℕ) (ss all : List Source) → length ss ≤ i
     → take i ss ++ all_moved free going p (drop i ss) ≡ all → ss ≡ all
@@ -84,3 +52,8 @@ all_gone free going p i ss all over h =
 pub none_taken : (given : Option Row) (free going : Bool) (p : Place) (i : ℕ) (ss : List Source) (all : Option Row) → length ss ≤ i
     → row_taken given free going p (drop i ss) ≡ all → given ≡ all
 none_taken given free going p i ss all over h = rw (drop_all i ss over) at h
+
+-- nothing is added then
+pub none_left : (free going : Bool) (p : Place) (i : ℕ) (ss : List Source) (tokens : List (List ℕ)) → length ss ≤ i
+    → tokens ≡ [] → tokens ++ tokens_given free going p (drop i ss) ≡ []
+none_left free going p i ss tokens over none = rw (none, drop_all i ss over) refl

@@ -1,11 +1,12 @@
 -- Tokens at the front of some for which a record has room.
 use Rattle.std.proofs.Common.{◌≡◌, ◌∙◌, refl, sym, ap, ℕ, zero, suc, ◌<◌, ◌≤◌, Bool, List, [], ◌∷◌, ◌++◌, length}
-use Rattle.std.proofs.Common.{take, get_or, append_assoc, arith}
+use Rattle.std.proofs.Common.{take, drop, get_or, append_assoc, arith}
+use Rattle.std.proofs.lemmas.List.{drop_more}
 use Rattle.hum_record.specs.Building.{spelled}
 use Rattle.hum_record.proofs.Drafts.{spelled_front}
 use Rattle.hum_assemble.specs.declared.places.Place.{Place}
 use Rattle.hum_assemble.specs.Source.{Source}
-use Rattle.hum_assemble.specs.Round.{takes, still_free}
+use Rattle.hum_assemble.specs.Round.{takes}
 use Rattle.hum_assemble.specs.Merge.{part_given, tokens_given}
 
 pub front_fits : (front rest all : List (List ℕ)) → all ≡ front ++ rest → length (spelled all) ≤ 1048576
@@ -43,11 +44,10 @@ pub part_fits : (tokens part rest : List (List ℕ)) → length (spelled (tokens
     → length (spelled (tokens ++ part)) ≤ 1048576
 part_fits tokens part rest h = front_fits (tokens ++ part) rest (tokens ++ (part ++ rest)) (sym (append_assoc tokens part rest)) h
 
--- what the first of some sources has in the record that is given
-pub first_fits : (tokens : List (List ℕ)) (free going : Bool) (p : Place) (ss : List Source) (s d : Source)
-    → 1 ≤ length ss → s ≡ get_or ss 0 d
-    → length (spelled (tokens ++ tokens_given free going p ss)) ≤ 1048576
-    → length (spelled (tokens ++ part_given (takes free going p s) p s)) ≤ 1048576
-first_fits tokens free going p [] s d some is h = absurd (omega (arith, some))
-first_fits tokens free going p (x ∷ ss) s d some is h =
-    rw is (part_fits tokens (part_given (takes free going p x) p x) (tokens_given (still_free free going p x) going p ss) h)
+-- what a source has in the record that is given
+pub source_fits : (tokens : List (List ℕ)) (free going taken : Bool) (p : Place) (ss : List Source) (i : ℕ) (d : Source)
+    → i < length ss → taken ≡ takes free going p (get_or ss i d)
+    → length (spelled (tokens ++ tokens_given free going p (drop i ss))) ≤ 1048576
+    → length (spelled (tokens ++ part_given taken p (get_or ss i d))) ≤ 1048576
+source_fits tokens free going taken p ss i d less t h =
+    let parted = rw (drop_more ss i d less) at h in rw t (part_fits tokens _ _ parted)

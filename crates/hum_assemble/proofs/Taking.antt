@@ -349,3 +349,12 @@ part_tokens free going p s row kind k l c h =
     let f : Some row ≡ Some t.row = ap first_of (sym c) ∙ t.first in
     let same : row ≡ t.row = cc in
     rw same (tokens_lawful t.row kind (sym k ∙ t.kind) t.lawful)
+
+pub part_spined : (free going : Bool) (p : Place) (s : Source) (row : Row) (kind : SpinedKind)
+    → kind_at p ≡ Some kind → AreLawful s.path s.coming → s.coming ≡ row ∷ []
+    → takes free going p s ≡ true → row ≡ Spined kind (tokens_of row)
+part_spined free going p s row kind k l c h =
+    let t = has_there going p s (some_kind p kind k) l (and_right free _ h) in
+    let f : Some row ≡ Some t.row = ap first_of (sym c) ∙ t.first in
+    let same : row ≡ t.row = cc in
+    rw same (spined_is t.row kind (sym k ∙ t.kind))

@@ -37,6 +37,10 @@ is_missing going s = is_asked going s && is_none (shown s)
 abbrev pub is_lost : Bool → Source → Bool
 is_lost going s = is_asked going s && (is_none (shown s) && is_some s.ended)
 
+-- nothing is known as yet of a source that isn't due
+abbrev pub waits : Source → Bool
+waits s = not s.due && (is_none (shown s) && is_none s.ended)
+
 -- of each all that is asked is known
 abbrev pub AllKnown : Bool → List Source → Type 0
 AllKnown going = AllByRecursion (λ s. is_missing going s ≡ false)

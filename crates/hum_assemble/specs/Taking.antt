@@ -1,15 +1,16 @@
 -- Which records a record is given of.
-use Rattle.std.specs.Prelude.{◌≡◌, ◌⊎◌, ℕ, ◌+◌, ◌==◌, nat_le, Bool, true, false, not, ◌||◌}
+use Rattle.std.specs.Prelude.{◌≡◌, ◌⊎◌, ◌≤◌, ℕ, ◌+◌, ◌==◌, nat_le, Bool, true, false, not, ◌||◌}
 use Rattle.std.specs.Prelude.{List, [], ◌∷◌, Option, None, Some, if◌then◌else◌}
-use Rattle.std.specs.List.{list_any}
+use Rattle.std.specs.List.{list_any, AllByRecursion}
 use Rattle.hum_score.specs.Row.{Row}
 use Rattle.hum_score.specs.Spines.{width}
 use Rattle.hum_assemble.specs.declared.places.Place.{Place}
+use Rattle.hum_assemble.specs.declared.places.Place.TheVariants.{Note}
 use Rattle.hum_assemble.specs.Source.{Source}
 use Rattle.hum_assemble.specs.Head.{first_of}
 use Rattle.hum_assemble.specs.Places.{rank, is_over, kind_at}
 use Rattle.hum_assemble.specs.Round.{place_at, takes, still_free}
-use Rattle.hum_assemble.specs.Merge.{part_given}
+use Rattle.hum_assemble.specs.Merge.{part_given, all_moved, spines}
 use Rattle.hum_assemble.specs.Sizes.{tokens_len}
 
 abbrev pub later : Option Row → Option Row → Option Row
@@ -50,3 +51,9 @@ pub record IsGiving (going : Bool) (p : Place) (ss : List Source) : Type 0 where
 -- a global comment, or the tokens of one source without null tokens
 abbrev pub IsAlone : Bool → Place → List Source → Type 0
 IsAlone going p ss = (kind_at p ≡ None) ⊎ (nat_le (parts_given true going p ss) 1 ≡ true)
+
+-- Each source's next record is one of data, and so many spines and bytes are enough for all of them.
+pub record AreNotes (most_spines most_bytes : ℕ) (ss : List Source) : Type 0 where
+  pub all : AllByRecursion (λ s. place_at false s ≡ Note) ss
+  pub few : spines (all_moved true false Note ss) ≤ most_spines
+  pub short : bytes_given true false Note ss ≤ most_bytes

@@ -16,7 +16,7 @@ ghost use Rattle.hum_assemble.specs.Meaning.{all_of, output, GivesOneAsItIs};
 ghost use Rattle.hum_assemble.specs.Standing.{Stands, HoldOneEach, state_by, wants_by};
 
 use crate::places::Next;
-use crate::round::{ahead, ahead_open, any_due, give};
+use crate::round::{ahead_open, give, look_ahead};
 use crate::source_head::SourceHead;
 use hum_record::{Record, Spare};
 use hum_stage::{Command, End, Fault, MOST_RECORDS, Readiness, Rule, State};
@@ -232,8 +232,7 @@ impl Assemble {
         for _ in 0..sources {
             heads.push(SourceHead::new(alloc))?;
         }
-        let going = any_due(&heads);
-        let next = ahead(&heads, 0, going);
+        let (going, next) = look_ahead(&heads, 0);
         Ok(Assemble {
             alloc,
             stage,
@@ -302,8 +301,9 @@ impl Assemble {
             return;
         }
         self.sources[source].end(end);
-        self.going = any_due(&self.sources);
-        self.next = ahead(&self.sources, self.given, self.going);
+        let (going, next) = look_ahead(&self.sources, self.given);
+        self.going = going;
+        self.next = next;
     }
 
     /// The next record that is settled, if there is one, and what it is ready for then. Those of which it is made
@@ -330,8 +330,9 @@ impl Assemble {
         self.spent = true;
         let row = give(self.alloc, &mut self.sources, self.going, place, pool)?;
         self.given += 1;
-        self.going = any_due(&self.sources);
-        self.next = ahead(&self.sources, self.given, self.going);
+        let (going, next) = look_ahead(&self.sources, self.given);
+        self.going = going;
+        self.next = next;
         self.spent = false;
         Ok((Some(row), self.readiness()))
     }

@@ -1,9 +1,9 @@
 //! Where a record stands in its score, and how many spines stand behind it.
-ghost use Rattle.std.specs.Prelude.{◌≡◌, ◌≤◌, None, false, length, map};
+ghost use Rattle.std.specs.Prelude.{◌≡◌, ◌≤◌, None, false, true, length, map};
 ghost use Rattle.std.specs.List.{list_all};
-ghost use Rattle.hum_score.specs.Row.{tokens_of, kind_of};
-ghost use Rattle.hum_score.specs.declared.records.Kind.TheVariants.{Interpretation};
-ghost use Rattle.hum_score.specs.{Sign.sign_of, Rules.fault_of};
+ghost use Rattle.hum_score.specs.Row.{tokens_of, text_of, kind_of};
+ghost use Rattle.hum_score.specs.declared.records.Kind.TheVariants.{Interpretation, Values};
+ghost use Rattle.hum_score.specs.{Sign.sign_of, Rules.fault_of, Spelling.IsTextOf};
 ghost use Rattle.hum_score.specs.Spines.{Path, width, after};
 ghost use Rattle.hum_assemble.specs.Source.{is_end, is_inside, place, interpretation_place};
 ghost use Rattle.hum_assemble.specs.Source.{by_comment, unit_place};
@@ -85,7 +85,7 @@ fn by_comment(row: &Record, comment: Place, other: Place) -> Place
 }
 
 /// Where a record stands in its source.
-pub fn place(opened: bool, inside: bool, paths: &Paths, row: &Record) -> Place
+fn place(opened: bool, inside: bool, paths: &Paths, row: &Record) -> Place
     requires opened { opened ≡ is_opened paths.now.path }
     requires inside { inside ≡ is_inside paths.now.path }
     ensures { result ≡ place paths.now.path row.now }
@@ -130,7 +130,7 @@ fn width_under(row: &Record) -> usize
 }
 
 /// How many spines stand after a record that breaks no path rule.
-pub fn width_after(opened: bool, paths: &Paths, row: &Record) -> usize
+fn width_after(opened: bool, paths: &Paths, row: &Record) -> usize
     requires opened { opened ≡ is_opened paths.now.path }
     requires valid { fault_of paths.now.path row.now ≡ None }
     ensures { result ≡ width (after paths.now.path row.now) }
@@ -146,4 +146,43 @@ pub fn width_after(opened: bool, paths: &Paths, row: &Record) -> usize
         }
         _ => width,
     }
+}
+
+fn is_data(row: &Record) -> bool
+    ensures data { result ≡ true → kind_of row.now ≡ Values }
+    ensures lawful { IsTextOf row.now (text_of row.now) }
+{
+    matches!(row.kind(), Kind::Values)
+}
+
+/// Where such a record stands, and how many spines stand after it.
+#[inline(never)]
+fn stand_any(opened: bool, inside: bool, paths: &Paths, row: &Record) -> (Place, usize)
+    requires opened { opened ≡ is_opened paths.now.path }
+    requires inside { inside ≡ is_inside paths.now.path }
+    requires valid { fault_of paths.now.path row.now ≡ None }
+    ensures place { result.0 ≡ place paths.now.path row.now }
+    ensures width { result.1 ≡ width (after paths.now.path row.now) }
+    ensures lawful { IsTextOf row.now (text_of row.now) }
+{
+    // Its text is lawful.
+    let _kind = row.kind();
+    let place = place(opened, inside, paths, row);
+    let width = width_after(opened, paths, row);
+    (place, width)
+}
+
+/// The same, and most often of data.
+pub fn stand(opened: bool, inside: bool, paths: &Paths, row: &Record) -> (Place, usize)
+    requires opened { opened ≡ is_opened paths.now.path }
+    requires inside { inside ≡ is_inside paths.now.path }
+    requires valid { fault_of paths.now.path row.now ≡ None }
+    ensures place { result.0 ≡ place paths.now.path row.now }
+    ensures width { result.1 ≡ width (after paths.now.path row.now) }
+    ensures lawful { IsTextOf row.now (text_of row.now) }
+{
+    if opened && !inside && !paths.is_closed() && is_data(row) {
+        return (Place::Note, paths.width());
+    }
+    stand_any(opened, inside, paths, row)
 }

@@ -1,14 +1,14 @@
 //! What several sources give side by side.
 ghost use Rattle.std.specs.Prelude.{◌≡◌, ◌≤◌, ◌++◌, ℕ, ◌+◌, nat_lt, nat_le, true, not, ◌&&◌, ◌||◌};
 ghost use Rattle.std.specs.Prelude.{None, Some, IfOk, OnOk, length, take};
-ghost use Rattle.std.specs.List.{list_any, position_from};
+ghost use Rattle.std.specs.List.{list_all, list_any, position_from};
 ghost use Rattle.hum_record.specs.{Building.spelled};
 ghost use Rattle.hum_score.specs.{Row.text_of};
 ghost use Rattle.hum_assemble.specs.{Head.AllLawful, Places.kind_at, Places.is_shared};
-ghost use Rattle.hum_assemble.specs.Round.{any_due, is_lost, is_missing, earliest, AllKnown};
+ghost use Rattle.hum_assemble.specs.Round.{any_due, waits, is_lost, is_missing, earliest, AllKnown};
 ghost use Rattle.hum_assemble.specs.Merge.{spines, all_moved, made, comment_given, tokens_given};
 ghost use Rattle.hum_assemble.specs.Merge.{ahead, ahead_open, ahead_at, given_row, given_on};
-ghost use Rattle.hum_assemble.specs.Taking.{row_taken, bytes_given, parts_given, IsGiving, IsAlone};
+ghost use Rattle.hum_assemble.specs.Taking.{row_taken, bytes_given, parts_given, AreNotes, IsGiving, IsAlone};
 
 use crate::places::{Next, Place};
 use crate::source_head::SourceHead;
@@ -18,7 +18,7 @@ use hum_stage::{MOST_RECORDS, Rule};
 use std::alloc::{AllocError, Global};
 
 /// Whether a round goes on.
-pub fn any_due(sources: &[SourceHead]) -> bool
+fn any_due(sources: &[SourceHead]) -> bool
     ensures { result ≡ any_due sources.now }
 {
     sources.iter().any(|source| source.is_due())
@@ -134,6 +134,7 @@ fn is_too_long(sources: &[SourceHead], going: bool, p: Place) -> bool
 }
 
 /// Whether the records at this place may be given.
+#[inline(never)]
 fn ahead_at(sources: &[SourceHead], given: u64, going: bool, p: Place) -> Next
     ensures { result ≡ ahead_at going p sources.now given }
 {
@@ -150,8 +151,41 @@ fn ahead_at(sources: &[SourceHead], given: u64, going: bool, p: Place) -> Next
     }
 }
 
+/// Whether each source's next record is one of data, and so many spines and bytes are enough for all of them.
+fn are_notes(sources: &[SourceHead], spines: usize, bytes: usize) -> bool
+    ensures { result ≡ true → AreNotes spines bytes sources.now }
+{
+    match sources {
+        [] => true,
+        [source, rest @ ..] => {
+            let Place::Note = source.place_at(false) else {
+                return false;
+            };
+            let width = source.width_ahead();
+            let len = source.part_len(true, Place::Note);
+            width <= spines && len <= bytes && are_notes(rest, spines - width, bytes - len)
+        }
+    }
+}
+
+/// What can be done next where all that is asked is known. Mostly that is data of each source.
+#[inline(always)]
+fn ahead_known(sources: &[SourceHead], given: u64, going: bool) -> Next
+    ensures { result ≡ ahead_at going (earliest going sources.now) sources.now given }
+{
+    if !going
+        && !sources.is_empty()
+        && given < MOST_RECORDS
+        && are_notes(sources, MOST_SPINES, MOST_BYTES + 1)
+    {
+        return Next::Gives(Place::Note);
+    }
+    ahead_at(sources, given, going, earliest(sources, going))
+}
+
 /// What can be done next where all that is asked can still be known, and is known of the first
 /// sources, so many.
+#[inline(always)]
 pub fn ahead_open(sources: &[SourceHead], given: u64, going: bool, known: usize) -> Next
     requires within { known ≤ length sources.now }
     requires known { AllKnown going (take known sources.now) }
@@ -160,12 +194,13 @@ pub fn ahead_open(sources: &[SourceHead], given: u64, going: bool, known: usize)
     let (_, rest) = sources.split_at(known);
     match first_missing(rest, going) {
         Some(j) => Next::Wants(known + j),
-        None => ahead_at(sources, given, going, earliest(sources, going)),
+        None => ahead_known(sources, given, going),
     }
 }
 
 /// What can be done next, after so many records were given.
-pub fn ahead(sources: &[SourceHead], given: u64, going: bool) -> Next
+#[inline(never)]
+fn ahead(sources: &[SourceHead], given: u64, going: bool) -> Next
     requires { going ≡ any_due sources.now }
     ensures { result ≡ ahead (record { sources = sources.now; given = given }) }
 {
@@ -173,6 +208,34 @@ pub fn ahead(sources: &[SourceHead], given: u64, going: bool) -> Next
         return Next::Over;
     }
     ahead_open(sources, given, going, 0)
+}
+
+/// Whether nothing is known as yet of a source that isn't due.
+fn waits(source: &SourceHead) -> bool
+    ensures { result ≡ waits source.now }
+{
+    !source.is_due() && source.shown().is_none() && source.ended().is_none()
+}
+
+fn all_wait(sources: &[SourceHead]) -> bool
+    ensures { result ≡ list_all waits sources.now }
+{
+    sources.iter().all(|source| waits(source))
+}
+
+/// Whether a round goes on, and what can be done next, after so many records were given. Behind data each
+/// source is asked for its next record.
+#[inline(always)]
+pub fn look_ahead(sources: &[SourceHead], given: u64) -> (bool, Next)
+    ensures going { result.0 ≡ any_due sources.now }
+    ensures next { result.1 ≡ ahead (record { sources = sources.now; given = given }) }
+{
+    if !sources.is_empty() && all_wait(sources) {
+        return (false, Next::Wants(0));
+    }
+    let going = any_due(sources);
+    let next = ahead(sources, given, going);
+    (going, next)
 }
 
 /// Whether at most so many sources have a part in the record at this place.
@@ -193,32 +256,6 @@ fn are_few_parts(sources: &[SourceHead], free: bool, going: bool, p: Place, left
             }
         }
     }
-}
-
-/// Adds the tokens of the record at this place, for which there is room.
-fn push_parts(
-    sources: &[SourceHead],
-    going: bool,
-    p: Place,
-    builder: &mut RecordBuilder,
-) -> Result<(), AllocError>
-    requires lawful { AllLawful sources.now }
-    requires kind { kind_at p ≡ Some builder.old.kind }
-    requires fits { length (spelled (builder.old.tokens
-        ++ tokens_given true going p sources.now)) ≤ MOST_BYTES }
-    ensures { OnOk result (builder.new ≡ record builder.old {
-      tokens = builder.old.tokens ++ tokens_given true going p sources.now;
-    }) }
-{
-    let mut free = true;
-    let mut rest = sources;
-    while let [source, right @ ..] = rest {
-        let taken = source.takes(free, going, p);
-        source.push_part(taken, p, builder)?;
-        free = still_free(free, p, taken);
-        rest = right;
-    }
-    Ok(())
 }
 
 /// A record more is given, and the one before it is done with.
@@ -273,27 +310,8 @@ fn give_alone(
     Ok(row)
 }
 
-/// The one record of the records at this place, in the buffers of one that was done with.
-fn side_by_side(
-    alloc: Global,
-    kind: SpinedKind,
-    sources: &[SourceHead],
-    going: bool,
-    p: Place,
-    pool: &mut Spare,
-) -> Result<Record, AllocError>
-    requires kind { kind_at p ≡ Some kind }
-    requires giving { IsGiving going p sources.now }
-    requires lawful { AllLawful sources.now }
-    requires fits { length (text_of (made going p sources.now)) ≤ MOST_BYTES }
-    ensures { IfOk result (λ row. row ≡ made going p sources.now) }
-{
-    let mut builder = RecordBuilder::reusing(alloc, kind, pool);
-    push_parts(sources, going, p, &mut builder)?;
-    Ok(builder.finish())
-}
-
-/// Gives that record: those that it is made of are done with.
+/// Gives the one record of the records at this place, in the buffers of one that was done with. Those that it is
+/// made of are done with then.
 fn give_side_by_side(
     alloc: Global,
     kind: SpinedKind,
@@ -309,14 +327,20 @@ fn give_side_by_side(
     ensures row { IfOk result (λ row. row ≡ made going p sources.old) }
     ensures sources { OnOk result (sources.new ≡ all_moved true going p sources.old) }
 {
-    let row = side_by_side(alloc, kind, sources, going, p, pool)?;
-    if let Some(last) = go_on(sources, going, p, pool)? {
-        pool.keep(last);
+    let mut builder = RecordBuilder::reusing(alloc, kind, pool);
+    let mut free = true;
+    for source in sources.iter_mut() {
+        let taken = source.takes(free, going, p);
+        free = still_free(free, p, taken);
+        source.push_part(taken, p, &mut builder)?;
+        if let Some(row) = source.go_on(taken, going, p)? {
+            pool.keep(row);
+        }
     }
-    Ok(row)
+    Ok(builder.finish())
 }
 
-/// Gives the record at this place. One that needs no null tokens is moved.
+/// Gives the record at this place. One that needs no null tokens is moved, but of data it is seldom the only part.
 fn give_at(
     alloc: Global,
     sources: &mut [SourceHead],
@@ -333,7 +357,8 @@ fn give_at(
     match p.kind() {
         None => give_alone(sources, going, p, pool),
         Some(kind) => {
-            if are_few_parts(sources, true, going, p, 1) {
+            let may_be_alone = !matches!(p, Place::Note) || sources.len() == 1;
+            if may_be_alone && are_few_parts(sources, true, going, p, 1) {
                 give_alone(sources, going, p, pool)
             } else {
                 give_side_by_side(alloc, kind, sources, going, p, pool)

@@ -3,7 +3,7 @@ ghost use Rattle.std.specs.Prelude.{◌≡◌, ◌++◌, ◌∷◌, ◌≤◌, [
 ghost use Rattle.std.specs.Prelude.{length, if◌then◌else◌};
 ghost use Rattle.std.specs.List.{AllByRecursion};
 ghost use Rattle.hum_record.specs.{Building.spelled, Room.rooms_for};
-ghost use Rattle.hum_score.specs.{Spelling.IsToken, Row.tokens_of};
+ghost use Rattle.hum_score.specs.{Spelling.IsToken, Row.tokens_of, Row.Spined};
 ghost use Rattle.hum_score.specs.{Spines.width, Rules.fault_of};
 ghost use Rattle.hum_assemble.specs.{Head.first_of, Head.AreLawful, Source.untouched};
 ghost use Rattle.hum_assemble.specs.Round.{shown, place_at, takes};
@@ -11,7 +11,7 @@ ghost use Rattle.hum_assemble.specs.Merge.{moved, advanced, text_of_first, part_
 ghost use Rattle.hum_assemble.specs.{Sizes.tokens_len, Places.kind_at};
 
 use crate::places::{Place, null_at};
-use crate::placing::{place, stand_behind, width_after};
+use crate::placing::{stand, stand_behind};
 use hum_path::{MOST_SPINES, Paths};
 use hum_record::{Kind, MOST_BYTES, Record, RecordBuilder};
 use hum_stage::End;
@@ -71,6 +71,25 @@ fn push_tokens(builder: &mut RecordBuilder, row: &Record) -> Result<(), AllocErr
     Ok(())
 }
 
+/// Adds the tokens of a record, all at once where there is room for them.
+fn push_row(builder: &mut RecordBuilder, row: &Record) -> Result<(), AllocError>
+    requires spined { row.now ≡ Spined builder.old.kind (tokens_of row.now) }
+    requires tokens { AllByRecursion (IsToken builder.old.kind) (tokens_of row.now) }
+    requires fits { length (spelled (builder.old.tokens ++ tokens_of row.now)) ≤ MOST_BYTES }
+    ensures { OnOk result (builder.new ≡ record builder.old {
+      tokens = builder.old.tokens ++ tokens_of row.now;
+    }) }
+{
+    // one alone is put faster as a token
+    if row.width() == 1 {
+        return push_tokens(builder, row);
+    }
+    if builder.push_row(row) {
+        return Ok(());
+    }
+    push_tokens(builder, row)
+}
+
 impl SourceHead {
     /// Nothing was put, and no end came.
     pub fn new(alloc: Global) -> SourceHead
@@ -94,10 +113,7 @@ impl SourceHead {
         ensures put { self.new ≡ record self.old { coming = row ∷ [] } }
         ensures lawful { AreLawful self.old.path (row ∷ []) }
     {
-        // Its text is lawful.
-        let _kind = row.kind();
-        let place = place(self.opened, self.inside, &self.paths, &row);
-        let width = width_after(self.opened, &self.paths, &row);
+        let (place, width) = stand(self.opened, self.inside, &self.paths, &row);
         self.head = Some(Head { row, place, width });
     }
 
@@ -247,12 +263,13 @@ impl SourceHead {
         }
         match &self.head {
             None => Ok(()),
-            Some(head) => push_tokens(builder, &head.row),
+            Some(head) => push_row(builder, &head.row),
         }
     }
 
     /// Goes on by one record that is given; where it isn't this one's, it may be due in the round
     /// that begins.
+    #[inline(always)]
     pub fn go_on(
         &mut self,
         taken: bool,
@@ -274,9 +291,14 @@ impl SourceHead {
         };
         let Head {
             row,
-            place: _,
+            place,
             width: _,
         } = head;
+        if let Place::Note = place {
+            // data leaves the spines as they stand
+            self.due = false;
+            return Ok(Some(row));
+        }
         match self.paths.follow(&row) {
             Ok(_) => {}
             Err(AllocError) => {

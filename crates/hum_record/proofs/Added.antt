@@ -1,12 +1,14 @@
 -- A token behind those of a body.
-use Rattle.std.proofs.Common.{◌≡◌, ◌∙◌, ℕ, zero, suc, ◌+◌, ◌<◌, ◌≤◌, List, [], ◌∷◌, ◌++◌, length, take, drop, set, refl, sym, ap, arith}
+use Rattle.std.proofs.Common.{◌≡◌, ◌∙◌, ℕ, zero, suc, ◌+◌, ◌-◌, ◌<◌, ◌≤◌, List, [], ◌∷◌, ◌++◌, length, take, drop, set, map, refl, sym, ap, ap₂, arith}
 use Rattle.std.proofs.Common.{ne_eqb, length-append}
 use Rattle.std.proofs.lemmas.Bool.{cond-false}
 use Rattle.std.proofs.lemmas.List.{take_more_set}
 use Rattle.hum_record.specs.Building.{between, tab_between}
-use Rattle.hum_record.specs.Fields.{Written, written}
+use Rattle.hum_record.specs.Fields.{Written, written, ends_from}
+use Rattle.hum_score.specs.Spelling.{parts}
 use Rattle.hum_record.proofs.Held.{front_written}
 use Rattle.hum_record.proofs.Places.{take_count, front_of_front}
+use Rattle.hum_record.proofs.Rows.{shifted}
 
 tabs : (count : ℕ) (ends : List ℕ) → count ≤ length ends → between count ≡ tab_between (take count ends)
 tabs zero ends few = refl
@@ -69,3 +71,23 @@ module _ (len count end size : ℕ) (held places text ends new token : List ℕ)
       let ends_at : end ≡ length (take end new) = omega (arith, at, whole, parts, behind, front) in
       take_more_set places count end room ∙ ap (λ (es : List ℕ). es ++ end ∷ []) c.ends_are
       ∙ ap (λ (n : ℕ). ends ++ n ∷ []) (ends_at ∙ ap length (sym (front_written end size new held there)))
+
+-- All tokens of another body behind those of a body.
+module _ (len count end : ℕ) (held places text ends token : List ℕ) (c : Counts len count held places text ends)
+    (at : end ≡ len + (length (between count) + length token)) where
+  pub begins_behind : end - length token ≡ length text + length (tab_between ends)
+  begins_behind =
+      let front = take_count len held c.short in
+      let same = ap length c.text_is in
+      let tab = ap length (tabs count places c.few ∙ ap tab_between c.ends_are) in
+      omega (arith, at, front, same, tab)
+
+  pub rows_ends : (size : ℕ) (new row : List ℕ) → length new ≡ size → row ≡ ends_from 0 (parts token)
+      → take (count + length row) new ≡ take count places ++ map (λ e. (end - length token) + e) row
+      → take (count + length row) (take size (new ++ drop (length new) places))
+      ≡ ends ++ ends_from (length text + length (tab_between ends)) (parts token)
+  rows_ends size new row there cut put =
+      front_written (count + length row) size new places there ∙ put
+      ∙ ap₂ (λ (a b : List ℕ). a ++ b) c.ends_are
+      (ap (map (λ e. (end - length token) + e)) cut ∙ shifted (end - length token) 0 (parts token)
+      ∙ ap (λ n. ends_from n (parts token)) (omega (arith, begins_behind)))

@@ -20,3 +20,4 @@ mod Added
 mod Words
 mod Filled
 mod Bytes
+mod Rows

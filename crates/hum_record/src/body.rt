@@ -16,7 +16,7 @@ use crate::filling::{WHOLE, put_filled};
 use crate::holding::{fit, hold_behind, hold_copy, hold_far, hold_line};
 use crate::leaving::move_in_front;
 use crate::near::{FEW, NEAR, copy_near, copy_places, put_places};
-use crate::putting::put_behind;
+use crate::putting::{put_behind, put_ends};
 use crate::room::{
     SHORT_BYTES, SHORT_PLACES, fill_bytes, fill_places, give_bytes, give_places, is_within, shorten,
 };
@@ -507,6 +507,33 @@ impl Body {
         self.places[count] = end as u32;
         self.len = end;
         self.count = count + 1;
+        true
+    }
+
+    /// The same of all tokens of another one, which are cut as those of a record.
+    pub fn add_row(&mut self, other: &Body) -> bool
+        requires cut { other.now.ends ≡ ends_from 0 (parts other.now.text) }
+        ensures text { result ≡ true
+            → self.new.text ≡ self.old.text ++ (tab_between self.old.ends ++ other.now.text) }
+        ensures ends { result ≡ true → self.new.ends ≡ self.old.ends
+            ++ ends_from (length self.old.text + length (tab_between self.old.ends)) (parts other.now.text) }
+        ensures fits { result ≡ true → length self.old.text
+            + length (tab_between self.old.ends) + length other.now.text ≤ 1048576 }
+        ensures kept { result ≡ false → self.new ≡ self.old }
+    {
+        let text = other.text();
+        let ends = other.ends();
+        let count = self.count;
+        if self.held.len() > MOST_BYTES
+            || self.held.len() - self.len <= text.len() + 1
+            || self.places.len() - count < ends.len()
+        {
+            return false;
+        }
+        let end = put_behind(&mut self.held, self.len, count, text);
+        put_ends(&mut self.places, count, ends, (end - text.len()) as u32);
+        self.len = end;
+        self.count = count + ends.len();
         true
     }
 }

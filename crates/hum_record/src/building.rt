@@ -3,7 +3,9 @@ ghost use Rattle.std.specs.Prelude.{◌≡◌, ◌≢◌, ◌+◌, ◌<◌, ◌�
 ghost use Rattle.std.specs.Prelude.{length, IsTrue, Err, OnOk, OnErr, IfErr};
 ghost use Rattle.std.specs.Allocator.{alloc_error};
 ghost use Rattle.std.specs.Prelude.{is_some, true, IfOk, if◌then◌else◌};
-ghost use Rattle.hum_score.specs.Spelling.{IsToken};
+ghost use Rattle.hum_score.specs.Spelling.{IsToken, parts};
+ghost use Rattle.hum_score.specs.Row.{tokens_of};
+ghost use Rattle.hum_record.specs.Fields.{ends_from};
 ghost use Rattle.hum_record.specs.Building.{tab_between, text_in, ends_in};
 ghost use Rattle.hum_score.specs.declared.records.RecordFault.TheVariants.{L1, Memory};
 
@@ -120,6 +122,19 @@ impl RecordBuilder {
         ensures kept { result ≡ false → self.new ≡ self.old }
     {
         if add_near(&mut self.body, token) {
+            return true;
+        }
+        false
+    }
+
+    /// Adds the tokens of a record at the end where there is room for them, or else nothing; and tells which.
+    pub fn push_row(&mut self, row: &Record) -> bool
+        requires { row.now ≡ Spined self.old.kind (tokens_of row.now) }
+        ensures pushed { result ≡ true
+            → self.new ≡ record self.old { tokens = self.old.tokens ++ tokens_of row.now } }
+        ensures kept { result ≡ false → self.new ≡ self.old }
+    {
+        if add_row(&mut self.body, row.body()) {
             return true;
         }
         false
@@ -243,6 +258,26 @@ fn add_near(body: &mut Option<Box<Body>>, token: &[u8]) -> bool
 {
     match body {
         Some(body) => body.add_near(token),
+        None => false,
+    }
+}
+
+/// The same of all tokens of another body.
+fn add_row(body: &mut Option<Box<Body>>, row: &Body) -> bool
+    requires cut { row.now.ends ≡ ends_from 0 (parts row.now.text) }
+    ensures text { result ≡ true → text_in body.new
+        ≡ text_in body.old ++ (tab_between (ends_in body.old) ++ row.now.text) }
+    ensures ends { result ≡ true → ends_in body.new ≡ ends_in body.old
+        ++ ends_from (length (text_in body.old) + length (tab_between (ends_in body.old))) (parts row.now.text) }
+    ensures fits { result ≡ true → length (text_in body.old)
+        + length (tab_between (ends_in body.old)) + length row.now.text ≤ 1048576 }
+    ensures some { result ≡ true → is_some body.old ≡ true }
+    ensures there { is_some body.new ≡ is_some body.old }
+    ensures same_text { result ≡ false → text_in body.new ≡ text_in body.old }
+    ensures same_ends { result ≡ false → ends_in body.new ≡ ends_in body.old }
+{
+    match body {
+        Some(body) => body.add_row(row),
         None => false,
     }
 }

@@ -1,5 +1,6 @@
 //! Tokens that are put behind others.
-ghost use Rattle.std.specs.Prelude.{◌≡◌, ◌≤◌, ◌<◌, ◌+◌, ◌-◌, ◌*◌, ◌++◌, length, slice_index, take};
+ghost use Rattle.std.specs.Prelude.{◌≡◌, ◌≤◌, ◌<◌, ◌+◌, ◌-◌, ◌*◌, ◌^◌, ◌++◌, length, map, slice_index, take};
+ghost use Rattle.std.specs.List.{AllByRecursion};
 ghost use Rattle.hum_record.specs.Building.{between};
 ghost use lib.Seq.{paste};
 
@@ -55,6 +56,10 @@ pub fn put_token(text: &mut [u8], at: usize, token: &[u8]) -> usize
         put_by::<4>(text, at, token);
     } else if size <= 16 {
         put_by::<8>(text, at, token);
+    } else if size <= 32 {
+        put_by::<16>(text, at, token);
+    } else if size <= 64 {
+        put_by::<32>(text, at, token);
     } else {
         put_any(text, at, token);
     }
@@ -77,4 +82,17 @@ pub fn put_behind(text: &mut [u8], len: usize, count: usize, token: &[u8]) -> us
     let end = put_token(text, begin, token);
     text[end] = b'\n';
     end
+}
+
+/// Puts where some tokens end behind the first `count` of a list, so many bytes further on.
+#[inline(always)]
+pub fn put_ends(places: &mut [u32], count: usize, ends: &[u32], begin: u32)
+    requires room { count + length ends.now ≤ length places.old }
+    requires few { AllByRecursion (λ end. begin + end < 2 ^ 32) ends.now }
+    ensures { take (count + length ends.now) places.new
+        ≡ take count places.old ++ map (λ end. begin + end) ends.now }
+{
+    for k in 0..ends.len() {
+        places[count + k] = begin + ends[k];
+    }
 }

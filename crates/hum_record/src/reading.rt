@@ -243,6 +243,14 @@ impl Record {
         Record { body }
     }
 
+    /// Its text, and where its tokens end in it.
+    pub(crate) fn body(&self) -> &Body
+        ensures fields { AreFields result.now.text result.now.ends }
+        ensures text { self.now ≡ row_in result.now.text }
+    {
+        &self.body
+    }
+
     /// What is left of a record that is done with.
     pub(crate) fn into_body(self) -> Box<Body>
         ensures fields { AreFields result.value.text result.value.ends }

@@ -19,4 +19,4 @@ pub returns-in-None : goal.returns-in-None
 returns-in-None c =
     let first = first_behind c.args.going c.args.known c.args.sources.now c.first_missing.result c.requires.known
     (rw c.split_at.ensures.back at c.first_missing.ensures) in
-    rw (first, c.in-None.is) (rw (sym c.earliest.ensures) c.ahead_at.ensures)
+    rw (first, c.in-None.is) c.ahead_known.ensures

@@ -46,9 +46,9 @@ invariant_of-self c =
     record {
       at_most = c.self.invariant.at_most;
       alive = λ e. record {
-        due = c.any_due-self-inside.ensures ∙ ap any_due c.deref.ensures.value;
-        next = c.ahead-self-inside.ensures ∙ ap (λ (ss : List Source).
-            ahead (record { sources = ss; given = c.self.inside.given })) c.deref-2.ensures.value;
+        due = c.look_ahead-going.ensures.going ∙ ap any_due c.deref.ensures.value;
+        next = c.look_ahead-going.ensures.next ∙ ap (λ (ss : List Source).
+            ahead (record { sources = ss; given = c.self.inside.given })) c.deref.ensures.value;
         lawful = end_lawful c.self.inside.sources.items c.args.source c.index_mut.result.now c.end.new.self
             (Some c.args.end) a.lawful c.index_mut.ensures.value c.end.ensures;
       };

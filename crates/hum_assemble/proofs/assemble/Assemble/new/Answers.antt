@@ -16,9 +16,9 @@ pub invariant_of-result : goal.invariant_of-result
 invariant_of-result c = record {
   at_most = omega arith;
   alive = λ e. record {
-    due = c.any_due-going.ensures ∙ ap any_due c.deref.ensures.value;
-    next = c.ahead-next.ensures ∙ ap (λ (ss : List Source).
-        ahead (record { sources = ss; given = 0 })) c.deref-2.ensures.value;
+    due = c.look_ahead-going.ensures.going ∙ ap any_due c.deref.ensures.value;
+    next = c.look_ahead-going.ensures.next ∙ ap (λ (ss : List Source).
+        ahead (record { sources = ss; given = 0 })) c.deref.ensures.value;
     lawful = rw c.loop.invariant (lawful_new c.loop.counter);
   };
 }

@@ -30,9 +30,9 @@ invariant_of-self-2 c =
     let n = c.give.auto.sources in
     told_taken c.self.inside.sources.items c.give.new.sources _ c.self.inside.given _
     c.in-Gives.place _ _ (sym a.next ∙ c.in-Gives.is) c.in_ok-row.ensures.lawful
-    (c.any_due-self-inside.ensures ∙ ap any_due c.deref.ensures.value)
-    (c.ahead-self-inside.ensures ∙ ap (λ (ss : List Source).
-    ahead (record { sources = ss; given = c.self.inside.given + 1 })) c.deref-2.ensures.value)
+    (c.look_ahead-going.ensures.going ∙ ap any_due c.deref.ensures.value)
+    (c.look_ahead-going.ensures.next ∙ ap (λ (ss : List Source).
+    ahead (record { sources = ss; given = c.self.inside.given + 1 })) c.deref.ensures.value)
     (omega (arith, l, n))
 
 pub returns-clause-ok : goal.returns-clause-ok

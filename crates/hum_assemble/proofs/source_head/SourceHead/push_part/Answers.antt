@@ -7,11 +7,18 @@ use Rattle.hum_score.specs.Spines.{width}
 use Rattle.hum_assemble.specs.Places.{null_at}
 use Rattle.hum_assemble.specs.Merge.{nulls, part_given}
 use Rattle.hum_assemble.proofs.Pushing.{first_added}
-use Rattle.hum_assemble.proofs.Taking.{part_tokens}
+use Rattle.hum_assemble.proofs.Taking.{part_spined, part_tokens}
 use Rattle.hum_assemble.proofs.source_head.SourceHead.push_part.Goals as goal
 
-pub push_tokens-requires-clause-tokens : goal.push_tokens-requires-clause-tokens
-push_tokens-requires-clause-tokens c =
+pub push_row-requires-clause-spined : goal.push_row-requires-clause-spined
+push_row-requires-clause-spined c =
+    part_spined c.requires.taken.0 c.requires.taken.1 c.args.p c.args.self.now c.in-Some.head.row _
+    c.requires.kind c.requires.lawful
+    (ap (λ (s : Source). s.coming) (sym c.self.view_is) ∙ ap coming c.in-Some.is)
+    (sym c.requires.taken.2 ∙ c.if-not-taken.false)
+
+pub push_row-requires-clause-tokens : goal.push_row-requires-clause-tokens
+push_row-requires-clause-tokens c =
     part_tokens c.requires.taken.0 c.requires.taken.1 c.args.p c.args.self.now c.in-Some.head.row _
     c.requires.kind c.requires.lawful
     (ap (λ (s : Source). s.coming) (sym c.self.view_is) ∙ ap coming c.in-Some.is)
@@ -28,7 +35,7 @@ returns-in-Some c =
     let coming = sym (ap (λ (s : Source). s.coming) c.self.view_is) ∙ ap coming c.in-Some.is in
     let part : part_given c.args.taken c.args.p c.args.self.now ≡ tokens_of c.in-Some.head.row =
     rw (c.if-not-taken.false, coming) refl in
-    rw part c.push_tokens.ensures
+    rw part c.push_row.ensures
 
 pub push_nulls-requires : goal.push_nulls-requires
 push_nulls-requires c =
