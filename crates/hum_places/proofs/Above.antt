@@ -1,4 +1,5 @@
 -- The cell above each spine, and where one comes to by going up.
+use Rattle.std.proofs.lemmas.Grind.{common_steps}
 use Rattle.std.proofs.Common.{◌≡◌, ◌≢◌, ◌∙◌, refl, sym, ap, subst, ℕ, zero, suc, ◌+◌, ◌-◌, ◌<◌, ◌≤◌, ◌⊎◌, ◌↔◌, inl, inr, arith}
 use Rattle.std.proofs.Common.{Bool, true, false, not, List, [], ◌∷◌, map, length, drop, nat_lt}
 use Rattle.std.proofs.Common.{Option, None, slice_get}
@@ -8,11 +9,11 @@ use lib.Chars.{codes}
 use Rattle.hum_score.specs.declared.records.SpinedKind.TheVariants.{Local, Interpretation, Values}
 use Rattle.hum_score.specs.Row.{Row, Comment, Spined}
 use Rattle.hum_score.specs.declared.spines.Sign.{Sign}
-use Rattle.hum_score.specs.declared.spines.Sign.TheVariants.{Split, Join, Exchange, Add, End, Exclusive, Plain}
+use Rattle.hum_score.specs.declared.spines.Sign.TheVariants.{Exchange}
 use Rattle.hum_score.specs.declared.spines.Move.{Move}
 use Rattle.hum_score.specs.Sign.{sign_of}
 use Rattle.hum_path.specs.Places.{token_at, IsExchange, AreExchanged}
-use Rattle.hum_score.specs.Spines.{Path, Unopened, Spines, width, exchanges, heirs, moves_at, same_upto}
+use Rattle.hum_score.specs.Spines.{Path, Unopened, Spines, width, exchanges, heirs, moves_at}
 use Rattle.hum_score.specs.Rules.{fault_of, is_pair_or_none}
 use Rattle.hum_score.specs.Score.{IsOpen, path_after}
 use Rattle.hum_path.specs.Origins.{up, origin}
@@ -24,26 +25,12 @@ use Rattle.hum_path.proofs.Steady.{same_upto_length, get-same_upto_first}
 use Rattle.hum_path.proofs.Widths.{moves_width}
 use Rattle.hum_places.specs.Heirs.{place_below, width_below}
 use Rattle.hum_places.specs.Above.{IsUnder, IsExchangedWith, IsAbove, Ascends, CellsAreAbove, OriginsAreAbove}
-use Rattle.hum_places.proofs.Heirs.{after_at, own, pair, width_is, heirs_length, at_place, by_place, is_text, other_text, exchange_sign, present}
+use Rattle.hum_places.proofs.Heirs.{after_at, own, pair, width_is, heirs_length, at_place, by_place, is_text, other_text, exchange_sign}
 
 -- but under an exchange a spine comes from its own cell
 own_source : (ps : List ℕ) (j : ℕ) (after : Bool) (s : Sign) (ss : List Sign) (r i : ℕ) → (s ≡ Exchange → ⊥)
     → r < length (heirs ps j after s ss) → up (slice_get (heirs ps j after s ss) r) i ≡ j
-own_source ps j after Split ss zero i apart h = refl
-own_source ps j after Split ss (suc zero) i apart h = refl
-own_source ps j after Split ss (suc (suc r)) i apart h = absurd (omega (arith, h))
-own_source ps j true Join ss r i apart h = absurd (omega (arith, h))
-own_source ps j false Join ss zero i apart h = refl
-own_source ps j false Join ss (suc r) i apart h = absurd (omega (arith, h))
-own_source ps j after Exchange ss r i apart h = absurd (apart refl)
-own_source ps j after Add ss zero i apart h = refl
-own_source ps j after Add ss (suc zero) i apart h = refl
-own_source ps j after Add ss (suc (suc r)) i apart h = absurd (omega (arith, h))
-own_source ps j after End ss r i apart h = absurd (omega (arith, h))
-own_source ps j after Exclusive ss zero i apart h = refl
-own_source ps j after Exclusive ss (suc r) i apart h = absurd (omega (arith, h))
-own_source ps j after Plain ss zero i apart h = refl
-own_source ps j after Plain ss (suc r) i apart h = absurd (omega (arith, h))
+own_source = grind (arith, nat_tests)
 
 module _ (names tokens : List (List ℕ)) (sound : fault_of (Spines names) (Spined Interpretation tokens) ≡ None) where
   abbrev found : List Move
@@ -65,9 +52,7 @@ module _ (names tokens : List (List ℕ)) (sound : fault_of (Spines names) (Spin
       ∙ own_source (pair names tokens) j (after_at false tokens j) s rest r.0 i (λ e. h.still (exchange_sign (token_at tokens j) e)) within
 
   from_other : (j i : ℕ) → IsExchangedWith tokens j i → up (slice_get found i) i ≡ j
-  from_other j i h =
-      let e = (by_place names tokens sound).exchange h.other j h.cells.1 h.cells.0 (λ e. h.apart (sym e)) in
-      ap (λ (n : ℕ). up (slice_get found n) i) h.at ∙ ap (λ (o : Option Move). up o i) e
+  from_other = grind (arith, nat_tests, by_place, slice_get)
 
   from_above : (j i : ℕ) → IsAbove (Spines names) tokens j i → j ≡ up (slice_get found i) i
   from_above j i (inl h) = sym (from_own j i h)
@@ -96,10 +81,7 @@ module _ (names tokens : List (List ℕ)) (sound : fault_of (Spines names) (Spin
       by_pair : ((((i : ℕ) → ¬ IsExchange tokens i)) ⊎ ((a : ℕ) × (b : ℕ) × AreExchanged tokens a b))
           → (k : ℕ) × (IsExchange tokens k) × (k ≢ j)
       by_pair (inl none) = absurd (none j e)
-      by_pair (inr two) = elim (two.2.alone j e) [
-        | inl w ↦ (two.1, two.2.at.1, λ v. two.2.apart (sym w ∙ sym v))
-        | inr w ↦ (two.0, two.2.at.0, λ v. two.2.apart (v ∙ w))
-      ]
+      by_pair (inr two) = grind (arith, nat_tests)
 
   some_above : (i : ℕ) → i < length found → (j : ℕ) × IsAbove (Spines names) tokens j i
   some_above i h =
@@ -121,15 +103,11 @@ module _ (names tokens : List (List ℕ)) (sound : fault_of (Spines names) (Spin
 
   -- a cell above is one of the record
   pub cell_within : (j i : ℕ) → IsAbove (Spines names) tokens j i → j < length tokens
-  cell_within j i (inl h) = h.cell
-  cell_within j i (inr h) = present tokens j (codes "*x") (λ w. cc) h.cells.0
+  cell_within = grind (arith, common_steps)
 
 pub cells_above : (path : Path) (tokens : List (List ℕ)) → CellsAreAbove path tokens
 cells_above Unopened tokens sound j i h =
-    let within : i < length tokens = rw (same_upto_length 0 (length tokens)) at h in
-    let e : up (slice_get (same_upto 0 (length tokens)) i) i ≡ i =
-    ap (λ (o : Option Move). up o i) (get-same_upto_first (length tokens) i within) in
-    (λ w. w ∙ sym e, λ w. w ∙ e)
+    grind (arith, nat_tests, same_upto_length, slice_get, get-same_upto_first)
 cells_above (Spines names) tokens sound j i h = (from_above names tokens sound j i, above_from names tokens sound j i h)
 
 -- before the opening

@@ -1,6 +1,6 @@
 -- The cells whose next cell below is that of a spine behind an interpretation.
-use Rattle.std.proofs.Common.{◌≡◌, ◌≢◌, ◌∙◌, refl, sym, ap, subst, ℕ, ◌+◌, ◌<◌, ◌≤◌, ◌⊎◌, ◌↔◌, inl, inr, arith}
-use Rattle.std.proofs.Common.{true, false, List, length, nat_lt}
+use Rattle.std.proofs.Common.{◌≡◌, ◌≢◌, ◌∙◌, refl, sym, subst, ℕ, ◌+◌, ◌<◌, ◌≤◌, ◌⊎◌, ◌↔◌, inl, inr, arith}
+use Rattle.std.proofs.Common.{true, false, List, length}
 use Rattle.std.proofs.Common.{Option, Some, None, slice_get}
 use Rattle.std.proofs.lemmas.Bool.Decides.{nat_tests}
 use Rattle.std.specs.Str.{bytes_eq}
@@ -36,10 +36,7 @@ record IsOther (text : List ℕ) : Type 0 where
   end : text ≢ codes "*-"
 
 right_not : {X : Type 0} → false ≡ true → X
-right_not e = absurd (no e)
-  where
-    no : false ≡ true → ⊥
-    no e = cc
+right_not = grind (arith, nat_tests)
 
 told : (text other : List ℕ) → bytes_eq text other ≡ false → text ≢ other
 told text other apart e = right_not (sym apart ∙ (bytes_eq-Decides text other).1 e)
@@ -58,16 +55,10 @@ module _ (names tokens : List (List ℕ)) (sound : fault_of (Spines names) (Spin
   goes_by j i (goes_own cell no_join no_exchange no_end) = by_what (asks (token_at tokens j))
     where
       by_what : Asks (token_at tokens j) → GoesOn found j (place_below tokens j)
-      by_what (splits e) = (Left j, ((by_place names tokens sound).split j e).0, grind (arith, nat_tests))
-      by_what (joins e) = absurd (no_join e)
-      by_what (changes e) = absurd (no_exchange e)
-      by_what (adds e) = (Same j, ((by_place names tokens sound).add j e).0, grind (arith, nat_tests))
-      by_what (ends e) = absurd (no_end e)
-      by_what (nothing q) = (Same j, (by_place names tokens sound).quiet j cell q, grind (arith, nat_tests))
+      by_what = grind (arith, nat_tests, by_place)
   goes_by j i (goes_joined {first = first} {last = last} run from to) =
       (Joined first last, (by_place names tokens sound).join first last run, grind (arith, nat_tests, from, to))
-  goes_by j i (goes_exchanged {other = other} here there apart) =
-      (Same j, (by_place names tokens sound).exchange other j there here (λ e. apart (sym e)), grind (arith, nat_tests))
+  goes_by j i (goes_exchanged {other = other} here there apart) = grind (arith, nat_tests, by_place, here)
 
   -- the width of a cell by its text, and that no `*v` is left of the first
   wide : (j : ℕ) (text : List ℕ) → token_at tokens j ≡ text → width_below tokens j ≡ own (after_at false tokens j) (sign_of text)
@@ -76,23 +67,13 @@ module _ (names tokens : List (List ℕ)) (sound : fault_of (Spines names) (Spin
   -- the move at a place that is the only one below a cell
   one_move : (c i : ℕ) (m o : Move) → width_below tokens c ≡ 1 → place_below tokens c ≤ i → i < place_below tokens c + width_below tokens c
       → slice_get found (place_below tokens c) ≡ Some o → slice_get found i ≡ Some m → (i ≡ place_below tokens c) × (m ≡ o)
-  one_move c i m o one from to at is =
-      let e : i ≡ place_below tokens c = omega (arith, one, from, to) in
-      (e, some_same (sym is ∙ ap (slice_get found) e ∙ at))
+  one_move = grind (arith, nat_tests)
 
   -- the same of two
   two_moves : (c i : ℕ) (m o p : Move) → width_below tokens c ≡ 2 → place_below tokens c ≤ i → i < place_below tokens c + width_below tokens c
       → (slice_get found (place_below tokens c) ≡ Some o) × (slice_get found (place_below tokens c + 1) ≡ Some p)
       → slice_get found i ≡ Some m → ((i ≡ place_below tokens c) × (m ≡ o)) ⊎ (m ≡ p)
-  two_moves c i m o p two from to at is =
-      by_bool (nat_lt i (place_below tokens c + 1))
-      (λ w.
-      let e : i ≡ place_below tokens c = grind (arith, nat_tests, w, from) in
-      inl (e, some_same (sym is ∙ ap (slice_get found) e ∙ at.0)))
-      (λ w.
-      let over : place_below tokens c + 1 ≤ i = grind (arith, nat_tests, w) in
-      let e : i ≡ place_below tokens c + 1 = omega (arith, over, two, to) in
-      inr (some_same (sym is ∙ ap (slice_get found) e ∙ at.1)))
+  two_moves = grind (arith, nat_tests)
 
   here : {a b : ℕ} → goes_on a (Same b) ≡ true → b ≡ a
   here w = grind (arith, nat_tests, w)

@@ -1,6 +1,7 @@
 -- Cleaved columns, by places.
+use Rattle.std.proofs.lemmas.Grind.{common_steps}
 use Rattle.std.proofs.Common.{◌≡◌, ◌≢◌, ◌∙◌, refl, sym, ap, ℕ, zero, suc, ◌+◌, ◌<◌, ◌≤◌, ◌⊎◌, ◌↔◌, inl, inr, arith}
-use Rattle.std.proofs.Common.{Bool, true, false, not, ◌&&◌, ◌||◌, ◌==◌, List, [], ◌∷◌, map, length, get_or}
+use Rattle.std.proofs.Common.{Bool, true, false, not, ◌&&◌, ◌||◌, List, [], ◌∷◌, map, length, get_or}
 use Rattle.std.proofs.Common.{Some, slice_get, Result, Ok, Err}
 use Rattle.std.specs.Prelude.{if◌then◌else◌}
 use Rattle.std.specs.List.{list_any, list_all}
@@ -17,16 +18,16 @@ use Rattle.hum_score.proofs.Cases.{by_bool}
 use Rattle.hum_path.specs.Places.{token_at}
 use Rattle.hum_stage.specs.declared.faults.Rule.{Rule}
 use Rattle.hum_stage.specs.declared.faults.Rule.TheVariants.{C1, C2}
-use Rattle.hum_columns.specs.Spread.{piece, spread, filled}
-use Rattle.hum_columns.specs.Chosen.{is_torn, each_piece}
+use Rattle.hum_columns.specs.Spread.{spread, filled}
+use Rattle.hum_columns.specs.Chosen.{is_torn}
 use Rattle.hum_cleave.specs.Columns.{together}
-use Rattle.hum_cleave.specs.Tokens.{leftmost, is_null_comment, is_silent, interpretation_of}
+use Rattle.hum_cleave.specs.Tokens.{leftmost, is_silent, interpretation_of}
 use Rattle.hum_cleave.specs.Cleave.{is_moved, is_end, ends_apart, is_entangled, pieces, merged}
 use Rattle.hum_places.specs.Columns.{is_chosen, IsChosen, chosen_left}
-use Rattle.hum_places.specs.Cleaved.{is_kept, kept_left, TogetherByPlace, ArePieces, SomeNamed}
+use Rattle.hum_places.specs.Cleaved.{kept_left, TogetherByPlace, ArePieces, SomeNamed}
 use Rattle.hum_places.specs.Cleaved.{IsEntangled, exchanged, added, apart, torn, MergedByPlace, MergesByPlace}
 use Rattle.hum_places.specs.Cleaved.{IsLeftmost, IsFound, IsSilent, TokensByPlace}
-use Rattle.hum_places.proofs.Heirs.{Asks, splits, joins, changes, adds, ends, nothing, asks, quiet_sign, is_text, no_text}
+use Rattle.hum_places.proofs.Heirs.{Asks, asks, is_text, no_text}
 use Rattle.hum_places.proofs.Cutting.{no_false, both_of, off, not_chosen, torn_is, left_more, chosen_at, chosen_count, each_at, each_length, begins_is}
 
 -- ---- places that are kept
@@ -36,37 +37,15 @@ one_more n = omega arith
 
 kept_false : (fs : List Bool) (j : ℕ) → kept_left (false ∷ fs) (suc j) ≡ suc (kept_left fs j)
 kept_false fs zero = refl
-kept_false fs (suc j) =
-    let same : is_kept (false ∷ fs) (suc j) ≡ is_kept fs j = ap (λ (n : ℕ). not (is_chosen fs j) || n == 0) (left_more false fs j ∙ none (chosen_left fs j)) in
-    by_bool (is_kept fs j)
-    (λ w. rw (same, w) (ap (λ (n : ℕ). n + 1) (kept_false fs j) ∙ one_more (kept_left fs j)))
-    (λ w. rw (same, w) (kept_false fs j))
-  where
-    none : (n : ℕ) → 0 + n ≡ n
-    none n = omega arith
+kept_false fs (suc j) = grind (arith, nat_tests, kept_false fs j, not, left_more, one_more)
 
 not_at : (fs : List Bool) (j : ℕ) → j < length fs → is_chosen (map not fs) j ≡ not (is_chosen fs j)
-not_at [] j h = absurd (omega (arith, h))
-not_at (f ∷ fs) zero h = refl
-not_at (f ∷ fs) (suc j) h = not_at fs j (omega (arith, h))
+not_at = grind (arith, common_steps)
 
 kept_true : (fs : List Bool) (j : ℕ) → j ≤ length fs → kept_left (true ∷ fs) (suc j) ≡ suc (chosen_left (map not fs) j)
 kept_true fs zero h = refl
 kept_true fs (suc j) h =
-    let same : is_kept (true ∷ fs) (suc j) ≡ is_chosen (map not fs) j =
-    ap (λ (n : ℕ). not (is_chosen fs j) || n == 0) (left_more true fs j ∙ one (chosen_left fs j))
-    ∙ never (is_chosen fs j) (chosen_left fs j) ∙ sym (not_at fs j (omega (arith, h))) in
-    let more = kept_true fs j (omega (arith, h)) in
-    by_bool (is_chosen (map not fs) j)
-    (λ w. rw (same, w) (ap (λ (n : ℕ). n + 1) more ∙ one_more (chosen_left (map not fs) j)))
-    (λ w. rw (same, w) more)
-  where
-    one : (n : ℕ) → 1 + n ≡ suc n
-    one n = omega arith
-
-    never : (b : Bool) (n : ℕ) → (not b || suc n == 0) ≡ not b
-    never true n = grind (arith, nat_tests)
-    never false n = refl
+    grind (arith, nat_tests, kept_true fs j (omega (arith, h)), not, left_more, not_at, one_more)
 
 own_at : {X : Type 0} (one : X) (fs : List Bool) (xs : List X) (j : ℕ) → j < length xs → IsChosen fs j → chosen_left fs j ≡ 0
     → slice_get (together one fs xs) (kept_left fs j) ≡ Some one
@@ -86,8 +65,7 @@ other_at one [] (x ∷ xs) j e h other = absurd (omega (arith, e))
 other_at one (f ∷ fs) [] j e h other = absurd (omega (arith, h))
 other_at one (true ∷ fs) (x ∷ xs) zero e h other = no_false (sym other)
 other_at one (true ∷ fs) (x ∷ xs) (suc j) e h other =
-    let within : j < length fs = omega (arith, e, h) in
-    rw (kept_true fs j (omega (arith, within))) (chosen_at (map not fs) xs j (omega (arith, h)) (not_at fs j within ∙ ap not other))
+    grind (arith, nat_tests, kept_true, chosen_at, not, not_at)
 other_at one (false ∷ fs) (x ∷ xs) zero e h other = refl
 other_at one (false ∷ fs) (x ∷ xs) (suc j) e h other = rw (kept_false fs j) (other_at one fs xs j (omega (arith, e)) (omega (arith, h)) other)
 
@@ -95,9 +73,7 @@ together_count : {X : Type 0} (one : X) (fs : List Bool) (xs : List X) → lengt
 together_count one [] [] e = refl
 together_count one [] (x ∷ xs) e = absurd (omega (arith, e))
 together_count one (f ∷ fs) [] e = absurd (omega (arith, e))
-together_count one (true ∷ fs) (x ∷ xs) e =
-    let size = length-map fs not in
-    ap suc (chosen_count (map not fs) xs (omega (arith, size, e))) ∙ sym (kept_true fs (length xs) (omega (arith, e)))
+together_count one (true ∷ fs) (x ∷ xs) e = grind (arith, nat_tests, length-map, not, chosen_count, kept_true)
 together_count one (false ∷ fs) (x ∷ xs) e = ap suc (together_count one fs xs (omega (arith, e))) ∙ sym (kept_false fs (length xs))
 
 some_at : {X : Type 0} (xs : List X) (j : ℕ) (d : X) → j < length xs → slice_get xs j ≡ Some (get_or xs j d)
@@ -106,24 +82,11 @@ some_at (x ∷ xs) zero d h = refl
 some_at (x ∷ xs) (suc j) d h = some_at xs j d (omega (arith, h))
 
 pub are_together : (one : List ℕ) (flags : List Bool) (tokens : List (List ℕ)) → TogetherByPlace one flags tokens
-are_together one flags tokens wide = record {
-  own = λ j h own first. own_at one flags tokens j h own first;
-  others = λ j h other. other_at one flags tokens j wide h (off other) ∙ some_at tokens j [] h;
-  count = together_count one flags tokens wide;
-}
+are_together = grind (arith, nat_tests, own_at, other_at, off, some_at, together_count)
 
 are_pieces : (flags : List Bool) (tokens : List (List ℕ)) → length flags ≡ length tokens
     → ArePieces (interpretation_of (chosen flags tokens)) flags tokens (pieces flags tokens)
-are_pieces flags tokens wide =
-    let one = piece false (interpretation_of (chosen flags tokens)) in
-    let size = each_length false tokens in
-    record {
-      own = λ j h own first. own_at one flags (each_piece false tokens) j (omega (arith, size, h)) own first;
-      others = λ j h other.
-          other_at one flags (each_piece false tokens) j (omega (arith, size, wide)) (omega (arith, size, h)) (off other)
-          ∙ each_at false tokens j h ∙ ap (λ (b : Bool). Some (piece b (token_at tokens j))) (begins_is tokens j);
-      count = together_count one flags (each_piece false tokens) (omega (arith, size, wide)) ∙ ap (kept_left flags) size;
-    }
+are_pieces = grind (arith, nat_tests, each_length, own_at, other_at, off, each_at, begins_is, together_count)
 
 -- ---- what some chosen column has
 
@@ -156,25 +119,10 @@ moved_is : (t : List ℕ) → is_moved (sign_of t) ≡ true → (t ≡ codes "*x
 moved_is t w = by_what (asks t)
   where
     by_what : Asks t → (t ≡ codes "*x") ⊎ (t ≡ codes "*+")
-    by_what (splits e) = no_false (rw e at w)
-    by_what (joins e) = no_false (rw e at w)
-    by_what (changes e) = inl e
-    by_what (adds e) = inr e
-    by_what (ends e) = no_false (rw e at w)
-    by_what (nothing q) = elim (quiet_sign t q) [ inl e ↦ no_false (rw e at w) | inr e ↦ no_false (rw e at w) ]
+    by_what = grind (arith, common_steps)
 
 end_is : (t : List ℕ) → is_end (sign_of t) ≡ bytes_eq t (codes "*-")
-end_is t = by_what (asks t)
-  where
-    by_what : Asks t → is_end (sign_of t) ≡ bytes_eq t (codes "*-")
-    by_what (splits e) = rw e refl
-    by_what (joins e) = rw e refl
-    by_what (changes e) = rw e refl
-    by_what (adds e) = rw e refl
-    by_what (ends e) = rw e refl
-    by_what (nothing q) =
-        let b = no_text t (codes "*-") q.end in
-        elim (quiet_sign t q) [ inl e ↦ rw (e, b) refl | inr e ↦ rw (e, b) refl ]
+end_is = grind (arith, nat_tests)
 
 end_on : (t : List ℕ) → is_end (sign_of t) ≡ true → t ≡ codes "*-"
 end_on t w = is_text t (codes "*-") (sym (end_is t) ∙ w)
@@ -186,15 +134,13 @@ no_end : (t : List ℕ) → is_end (sign_of t) ≡ false → t ≢ codes "*-"
 no_end t w e = no_false (sym w ∙ ap (λ (t : List ℕ). is_end (sign_of t)) e)
 
 pub either : (a b : Bool) → (a || b) ≡ true → (a ≡ true) ⊎ (b ≡ true)
-either true b e = inl refl
-either false b e = inr e
+either = grind (arith, nat_tests)
 
 first_of : (a b : Bool) → a ≡ true → (a || b) ≡ true
 first_of a b e = rw e refl
 
 second_of : (a b : Bool) → b ≡ true → (a || b) ≡ true
-second_of true b e = refl
-second_of false b e = e
+second_of = grind (arith, nat_tests)
 
 module _ (fs : List Bool) (ts : List (List ℕ)) (wide : length fs ≡ length ts) where
   abbrev signs : List Sign
@@ -204,10 +150,7 @@ module _ (fs : List Bool) (ts : List (List ℕ)) (wide : length fs ≡ length ts
   moves = list_any is_moved (chosen fs signs)
 
   named_is : (list_any is_exclusive (chosen fs signs) ≡ true) ↔ SomeNamed fs ts
-  named_is = (
-    λ e. let at = any_at is_exclusive fs ts e in (at.0, record { chosen = at.1; exclusive = at.2 }),
-    λ w. any_from is_exclusive fs ts w.0 wide w.1.chosen w.1.exclusive,
-  )
+  named_is = grind (arith, nat_tests, any_at, any_from)
 
   apart_at : ends_apart (chosen fs signs) ≡ true → IsEntangled fs ts
   apart_at e =
@@ -240,13 +183,8 @@ module _ (fs : List Bool) (ts : List (List ℕ)) (wide : length fs ≡ length ts
   back (exchanged j own e) = moved j own (ap (λ (t : List ℕ). is_moved (sign_of t)) e)
   back (added j own e) = moved j own (ap (λ (t : List ℕ). is_moved (sign_of t)) e)
   back (apart j k own e other d) =
-      let one = any_from is_end fs ts j wide own (ap (λ (t : List ℕ). is_end (sign_of t)) e) in
-      let goes = not_all is_end (chosen fs signs)
-      ∙ any_from (λ s. not (is_end s)) fs ts k wide other (ap not (end_off (token_at ts k) d)) in
-      second_of moves (ends_apart (chosen fs signs) || is_torn fs signs)
-      (first_of (ends_apart (chosen fs signs)) (is_torn fs signs) (and_both {a = list_any is_end (chosen fs signs)} {b = not (list_all is_end (chosen fs signs))} one goes))
-  back (torn some) = second_of moves (ends_apart (chosen fs signs) || is_torn fs signs)
-      (second_of (ends_apart (chosen fs signs)) (is_torn fs signs) ((torn_is fs ts wide).1 some))
+      grind (arith, nat_tests, any_from, not_all, not, end_off, second_of, first_of, and_both)
+  back (torn some) = grind (arith, nat_tests, second_of, torn_is)
 
   abbrev named : Bool
   named = list_any is_exclusive (chosen fs signs)
@@ -308,24 +246,7 @@ module _ (test : List ℕ → Bool) (LeftOut : List ℕ → Type 0) (tells : (t 
   found_is ts = record { one = one_found ts; none = none_found ts }
 
 silent_is : (t : List ℕ) → (is_silent t ≡ true) ↔ IsSilent t
-silent_is t = (there, back)
-  where
-    there : is_silent t ≡ true → IsSilent t
-    there e = elim (either (bytes_eq t (codes "*")) (bytes_eq t (codes "*^") || bytes_eq t (codes "*v")) e) [
-      | inl w ↦ inl (is_text t (codes "*") w)
-      | inr w ↦ elim (either (bytes_eq t (codes "*^")) (bytes_eq t (codes "*v")) w) [
-        | inl v ↦ inr (inl (is_text t (codes "*^") v))
-        | inr v ↦ inr (inr (is_text t (codes "*v") v))
-      ]
-    ]
-
-    back : IsSilent t → is_silent t ≡ true
-    back (inl e) = rw e refl
-    back (inr (inl e)) = rw e refl
-    back (inr (inr e)) = rw e refl
+silent_is = grind (arith, nat_tests, either, is_text)
 
 pub tokens_by_place : (tokens : List (List ℕ)) → TokensByPlace tokens
-tokens_by_place tokens = record {
-  comment = found_is is_null_comment (λ token. token ≡ codes "!") (λ t. bytes_eq-Decides t (codes "!")) (codes "!") tokens;
-  interpretation = found_is is_silent IsSilent silent_is (codes "*") tokens;
-}
+tokens_by_place = grind (arith, nat_tests, found_is, bytes_eq-Decides, silent_is)

@@ -1,4 +1,6 @@
 -- What the clock has leading to each spine's next cell, by places.
+use Rattle.std.proofs.lemmas.Bool.Decides.{nat_tests}
+use Rattle.std.proofs.lemmas.Grind.{common_steps}
 use Rattle.std.proofs.Common.{◌≡◌, ◌∙◌, refl, sym, ap, ℕ, zero, suc, ◌+◌, ◌<◌, ◌⊎◌, ◌↔◌, inl, inr, arith}
 use Rattle.std.proofs.Common.{Bool, true, false, List, [], ◌∷◌, map, length, get_or}
 use Rattle.std.proofs.Common.{Option, None, Some, slice_get}
@@ -38,10 +40,7 @@ over_at f (x ∷ xs) (y ∷ ys) (suc i) a b p q = over_at f xs ys i a b (omega (
 
 paired_at : {A B C : Type 0} (f : A → B → C) (xs : List A) (ys : List B) (i : ℕ) (a : A) (b : B) (c : C) → i < length xs → i < length ys
     → get_or (paired f xs ys) i c ≡ f (get_or xs i a) (get_or ys i b)
-paired_at f [] ys i a b c p q = absurd (omega (arith, p))
-paired_at f (x ∷ xs) [] i a b c p q = absurd (omega (arith, q))
-paired_at f (x ∷ xs) (y ∷ ys) zero a b c p q = refl
-paired_at f (x ∷ xs) (y ∷ ys) (suc i) a b c p q = paired_at f xs ys i a b c (omega (arith, p)) (omega (arith, q))
+paired_at = grind (arith, common_steps)
 
 pub paired_length : {A B C : Type 0} (f : A → B → C) (xs : List A) (ys : List B) → length xs ≡ length ys → length (paired f xs ys) ≡ length ys
 paired_length f [] [] e = refl
@@ -50,9 +49,7 @@ paired_length f (x ∷ xs) [] e = absurd (omega (arith, e))
 paired_length f (x ∷ xs) (y ∷ ys) e = ap suc (paired_length f xs ys (omega (arith, e)))
 
 map_at : {A B : Type 0} (f : A → B) (xs : List A) (i : ℕ) (a : A) → get_or (map f xs) i (f a) ≡ f (get_or xs i a)
-map_at f [] i a = refl
-map_at f (x ∷ xs) zero a = refl
-map_at f (x ∷ xs) (suc i) a = map_at f xs i a
+map_at = grind (arith, common_steps)
 
 names_length : (names tokens : List (List ℕ)) → length (own_names names tokens) ≡ length tokens
 names_length names [] = refl
@@ -72,19 +69,8 @@ names_at (name ∷ names) (token ∷ tokens) (suc j) h = names_at names tokens j
 none_in : {X : Type 0} {note : Note} → Contains [] note → X
 none_in h = let w = h.1 in absurd (omega (arith, w))
 
-one_in : {own note : Note} → Contains (own ∷ []) note ↔ (own ≡ note)
-one_in {own} {note} = (λ h. by h.0 h.1 h.2, λ e. (zero, omega arith, e))
-  where
-    by : (k : ℕ) → k < length (own ∷ []) → get_or (own ∷ []) k note ≡ note → own ≡ note
-    by zero h e = e
-    by (suc k) h e = absurd (omega (arith, h))
-
 pub timed_in_is : (timed : Bool) (notes : List Note) (note : Note) → Contains (if_timed timed notes) note ↔ ((timed ≡ true) × Contains notes note)
-timed_in_is true notes note = (λ h. (refl, h), λ h. h.1)
-timed_in_is false notes note = (λ h. none_in h, λ h. absurd (no h.0))
-  where
-    no : false ≡ true → ⊥
-    no e = cc
+timed_in_is = grind (arith, nat_tests)
 
 -- what a cell has after a record that has a time or none
 abbrev after_cell : Option Ratio → Option Ratio → List Note → List Note
@@ -94,26 +80,7 @@ after_cell (Some time) own before = own_or time own before
 struck_is : (time own : Option Ratio) (before : List Note) (note : Note)
     → Contains (after_cell time own before) note
     ↔ (((own ≡ Some note.lasting) × (time ≡ Some note.onset)) ⊎ (((own ≡ None) ⊎ (time ≡ None)) × Contains before note))
-struck_is None own before note = (λ h. inr (inr refl, h), λ h. elim h [ inl w ↦ absurd (no w.1) | inr w ↦ w.1 ])
-  where
-    no : ◌≡◌ {A = Option Ratio} None (Some note.onset) → ⊥
-    no e = cc
-struck_is (Some time) None before note = (λ h. inr (inl refl, h), λ h. elim h [ inl w ↦ absurd (no w.0) | inr w ↦ w.1 ])
-  where
-    no : ◌≡◌ {A = Option Ratio} None (Some note.lasting) → ⊥
-    no e = cc
-struck_is (Some time) (Some lasting) before note = (
-  λ h. let e = one_in.0 h in inl (rw (← e) refl, rw (← e) refl),
-  λ h. elim h [ inl w ↦ one_in.1 (same w.0 w.1) | inr w ↦ absurd (neither w.0) ],
-)
-  where
-    same : ◌≡◌ {A = Option Ratio} (Some lasting) (Some note.lasting) → ◌≡◌ {A = Option Ratio} (Some time) (Some note.onset)
-        → ◌≡◌ {A = Note} (record { onset = time; lasting = lasting }) note
-    same a b = let p : lasting ≡ note.lasting = cc in let q : time ≡ note.onset = cc in rw (p, q) refl
-
-    neither : (◌≡◌ {A = Option Ratio} (Some lasting) None) ⊎ (◌≡◌ {A = Option Ratio} (Some time) None) → ⊥
-    neither (inl e) = cc
-    neither (inr e) = cc
+struck_is = grind (arith, nat_tests)
 
 -- what leads on by a move, from place j on
 record LeadsFrom (j : ℕ) (move : Move) (after : List (List Note)) (note : Note) : Type 0 where
@@ -156,22 +123,14 @@ in_led j move (notes ∷ after) note (suc k) h goes among =
 
 ticked_length : (clock : Clock) (time : Option Ratio) (notes : List (Option Ratio)) (before : List (List Note))
     → length (ticked clock time notes before).leading ≡ length before
-ticked_length clock None notes before = refl
-ticked_length clock (Some time) notes before = over_length (own_or time) notes before
+ticked_length = grind (arith, nat_tests, over_length)
 
 pub leading_width : (past : List Row) → IsOpen past → length (clock_after past).leading ≡ width (path_after past)
 leading_width [] h = refl
 leading_width (Comment text ∷ past) h = leading_width past h.0
-leading_width (Spined Local tokens ∷ past) h =
-    over_length if_timed (timed_in (path_after past)) (clock_after past).leading ∙ leading_width past h.0
-leading_width (Spined Values tokens ∷ past) h =
-    let clock = clock_after past in
-    let timed = timed_in (path_after past) in
-    ticked_length clock (time_at past tokens) (notes_of timed tokens) (living_before timed clock.leading)
-    ∙ over_length if_timed timed clock.leading ∙ leading_width past h.0
-leading_width (Spined Interpretation tokens ∷ past) h =
-    let before = living_before (timed_at (path_after past) tokens) (clock_after past).leading in
-    length-map (moves_at (path_after past) tokens) (λ move. led_by 0 move before) ∙ moves_width (path_after past) tokens
+leading_width (Spined Local tokens ∷ past) h = grind (arith, nat_tests, leading_width past h.0, over_length)
+leading_width (Spined Values tokens ∷ past) h = simp (leading_width past h.0, ticked_length, over_length)
+leading_width (Spined Interpretation tokens ∷ past) h = grind (arith, nat_tests, length-map, moves_width)
 
 abbrev pub leading_at : List Row → ℕ → List Note
 leading_at past i = get_or (clock_after past).leading i []
@@ -210,8 +169,7 @@ notes_at past tokens as_wide i below =
 ticked_at : (clock : Clock) (time : Option Ratio) (notes : List (Option Ratio)) (before : List (List Note)) (i : ℕ)
     → i < length notes → i < length before
     → get_or (ticked clock time notes before).leading i [] ≡ after_cell time (get_or notes i None) (get_or before i [])
-ticked_at clock None notes before i p q = refl
-ticked_at clock (Some time) notes before i p q = over_at (own_or time) notes before i None [] p q
+ticked_at = grind (arith, nat_tests, over_at)
 
 -- before the opening nothing leads anywhere
 unopened : (past : List Row) → IsOpen past → path_after past ≡ Unopened → (i : ℕ) (note : Note) → Leads past i note → ⊥
@@ -296,12 +254,7 @@ pub leads_by_place : (past : List Row) → IsOpen past → LeadsByPlace past
 leads_by_place [] h i note below = absurd (omega (arith, below))
 leads_by_place (Comment text ∷ past) h i note below = leads_by_place past h.0 i note below
 leads_by_place (Spined Local tokens ∷ past) h i note below =
-    let at = before_at past h.0 i below in
-    let further = leads_by_place past h.0 i note below in
-    let here = timed_in_is (is_timed (name_at past i)) (leading_at past i) note in (
-      λ w. let v = here.0 (rw at at w) in (v.0, further.0 v.1),
-      λ w. rw at (here.1 (w.0, further.1 w.1)),
-    )
+    grind (arith, nat_tests, leads_by_place past h.0 i note below, before_at, timed_in_is)
 leads_by_place (Spined Values tokens ∷ past) h i note below =
     let clock = clock_after past in
     let timed = timed_in (path_after past) in

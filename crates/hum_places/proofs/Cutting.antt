@@ -1,5 +1,6 @@
 -- Torn joins, exchanges that are crossed, and the tokens that are kept, by places.
-use Rattle.std.proofs.Common.{◌≡◌, ◌≢◌, ◌∙◌, refl, sym, ap, subst, ℕ, zero, suc, ◌+◌, ◌<◌, ◌≤◌, ◌⊎◌, ◌↔◌, inl, inr, arith}
+use Rattle.std.proofs.lemmas.Grind.{common_steps}
+use Rattle.std.proofs.Common.{◌≡◌, ◌≢◌, ◌∙◌, refl, sym, ap, ℕ, zero, suc, ◌+◌, ◌<◌, ◌≤◌, ◌⊎◌, ◌↔◌, inl, inr, arith}
 use Rattle.std.proofs.Common.{Bool, true, false, not, ◌&&◌, List, [], ◌∷◌, map, length, get_or, nat_lt}
 use Rattle.std.specs.Prelude.{if◌then◌else◌}
 use Rattle.std.proofs.Common.{Some, None, slice_get, Result, Ok, Err}
@@ -21,10 +22,9 @@ use Rattle.hum_stage.specs.declared.faults.Rule.TheVariants.{X1, X3}
 use Rattle.hum_columns.specs.Spread.{piece, spread, filled}
 use Rattle.hum_columns.specs.Chosen.{differ, is_torn, each_piece}
 use Rattle.hum_extract.specs.Extract.{exchanged_flags, is_lone, chosen_before, chosen_between, softened, pieces, cut}
-use Rattle.hum_places.specs.Heirs.{reads}
 use Rattle.hum_places.specs.Columns.{is_chosen, IsChosen, chosen_left, begins, IsLone}
 use Rattle.hum_places.specs.Columns.{SomeTorn, SomeLone, SomeCrossed, Writes, AreCut, CutByPlace, CutsByPlace}
-use Rattle.hum_places.proofs.Heirs.{Asks, splits, joins, changes, adds, ends, nothing, asks, quiet_sign, is_text, no_text, joins_is, after_at, present}
+use Rattle.hum_places.proofs.Heirs.{joins, is_text, no_text, joins_is, after_at, present}
 
 -- ---- signs and texts
 
@@ -35,17 +35,7 @@ pub on_join : (t : List ℕ) → t ≡ codes "*v" → is_join (sign_of t) ≡ tr
 on_join t e = rw e refl
 
 pub exchange_is : (t : List ℕ) → is_exchange (sign_of t) ≡ bytes_eq t (codes "*x")
-exchange_is t = by_what (asks t)
-  where
-    by_what : Asks t → is_exchange (sign_of t) ≡ bytes_eq t (codes "*x")
-    by_what (splits e) = rw e refl
-    by_what (joins e) = rw e refl
-    by_what (changes e) = rw e refl
-    by_what (adds e) = rw e refl
-    by_what (ends e) = rw e refl
-    by_what (nothing q) =
-        let b = no_text t (codes "*x") q.exchange in
-        elim (quiet_sign t q) [ inl e ↦ rw (e, b) refl | inr e ↦ rw (e, b) refl ]
+exchange_is = grind (arith, nat_tests)
 
 exchange_on : (t : List ℕ) → is_exchange (sign_of t) ≡ true → t ≡ codes "*x"
 exchange_on t w = is_text t (codes "*x") (sym (exchange_is t) ∙ w)
@@ -57,23 +47,16 @@ on_exchange : (t : List ℕ) → t ≡ codes "*x" → is_exchange (sign_of t) �
 on_exchange t e = rw e refl
 
 pub no_false : {X : Type 0} → false ≡ true → X
-no_false e = absurd (never e)
-  where
-    never : false ≡ true → ⊥
-    never e = cc
+no_false = grind (arith, nat_tests)
 
 pub both_of : (a b : Bool) → (a && b) ≡ true → (a ≡ true) × (b ≡ true)
-both_of true b e = (refl, e)
-both_of false b e = no_false e
+both_of = grind (arith, nat_tests)
 
 both : {a b : Bool} → (a && b) ≡ true → (a ≡ true) × (b ≡ true)
 both {a} {b} = both_of a b
 
 differ_is : (a b : Bool) → differ a b ≡ true → ((a ≡ true) × (b ≡ false)) ⊎ ((a ≡ false) × (b ≡ true))
-differ_is true true e = no_false e
-differ_is true false e = inl (refl, refl)
-differ_is false true e = inr (refl, refl)
-differ_is false false e = no_false e
+differ_is = grind (arith, nat_tests)
 
 -- ---- torn joins
 
@@ -106,8 +89,7 @@ pub not_chosen : {b : Bool} → b ≡ false → ¬ (b ≡ true)
 not_chosen e w = no_false (sym e ∙ w)
 
 off_of : (b : Bool) → ¬ (b ≡ true) → b ≡ false
-off_of true not_so = absurd (not_so refl)
-off_of false not_so = refl
+off_of = grind (arith, nat_tests)
 
 pub off : {b : Bool} → ¬ (b ≡ true) → b ≡ false
 off {b} = off_of b
@@ -116,12 +98,7 @@ pub torn_is : (fs : List Bool) (ts : List (List ℕ)) → length fs ≡ length t
 torn_is fs ts wide = (there, back)
   where
     there : is_torn fs (map sign_of ts) ≡ true → SomeTorn fs ts
-    there e =
-        let at = torn_at fs ts e in
-        elim (differ_is (is_chosen fs at.0) (is_chosen fs (suc at.0)) at.1.2) [
-          | inl w ↦ (at.0, suc at.0, record { beside = inl (omega arith); joins = (at.1.0, at.1.1); own = w.0; other = not_chosen w.1 })
-          | inr w ↦ (suc at.0, at.0, record { beside = inr (omega arith); joins = (at.1.1, at.1.0); own = w.1; other = not_chosen w.0 })
-        ]
+    there = grind (arith, nat_tests, torn_at, differ_is, joins, not_chosen)
 
     at_left : (j k : ℕ) → k ≡ j + 1 → IsJoin ts j → IsJoin ts k → differ (is_chosen fs j) (is_chosen fs k) ≡ true → is_torn fs (map sign_of ts) ≡ true
     at_left j k e a b d =
@@ -277,12 +254,7 @@ and_both : {a b : Bool} → a ≡ true → b ≡ true → (a && b) ≡ true
 and_both p q = rw (p, q) refl
 
 exchanging : (fs : List Bool) (ts : List (List ℕ)) → length fs ≡ length ts → TwoOrNone ts → Exchanging fs ts
-exchanging fs ts wide (inl none) =
-    let empty = none_flags fs ts none in
-    record {
-      lone = (λ e. no_false (rw empty at e), λ w. absurd (none w.0 w.2.exchanges.0));
-      crossed = (λ e. no_false (rw empty at e), λ w. absurd (none w.0 w.3.lone.exchanges.0));
-    }
+exchanging fs ts wide (inl none) = grind (arith, nat_tests, none_flags, no_false)
 exchanging fs ts wide (inr (a, b, less, first, second, only)) = record { lone = (some, is); crossed = (some_crossed, is_crossed) }
   where
     two : exchanged_flags fs (map sign_of ts) ≡ is_chosen fs a ∷ is_chosen fs b ∷ []
@@ -291,19 +263,13 @@ exchanging fs ts wide (inr (a, b, less, first, second, only)) = record { lone = 
     -- of two places one is chosen
     of_two : (j k : ℕ) → (j ≡ a) ⊎ (j ≡ b) → (k ≡ a) ⊎ (k ≡ b) → IsChosen fs j → ¬ IsChosen fs k
         → ((j ≡ a) × (k ≡ b)) ⊎ ((j ≡ b) × (k ≡ a))
-    of_two j k (inl p) (inl q) own other = absurd (other (ap (is_chosen fs) {x = k} {y = j} (q ∙ sym p) ∙ own))
-    of_two j k (inl p) (inr q) own other = inl (p, q)
-    of_two j k (inr p) (inl q) own other = inr (p, q)
-    of_two j k (inr p) (inr q) own other = absurd (other (ap (is_chosen fs) {x = k} {y = j} (q ∙ sym p) ∙ own))
+    of_two = grind (arith, nat_tests)
 
     placed : (j k : ℕ) → IsLone fs ts j k → ((j ≡ a) × (k ≡ b)) ⊎ ((j ≡ b) × (k ≡ a))
     placed j k w = of_two j k (only j w.exchanges.0) (only k w.exchanges.1) w.own w.other
 
     some : is_lone (exchanged_flags fs (map sign_of ts)) ≡ true → SomeLone fs ts
-    some e = elim (differ_is (is_chosen fs a) (is_chosen fs b) (rw two at e)) [
-      | inl w ↦ (a, b, record { exchanges = (first, second); own = w.0; other = not_chosen w.1 })
-      | inr w ↦ (b, a, record { exchanges = (second, first); own = w.1; other = not_chosen w.0 })
-    ]
+    some = grind (arith, nat_tests, differ_is, two, not_chosen)
 
     is : SomeLone fs ts → is_lone (exchanged_flags fs (map sign_of ts)) ≡ true
     is (j, k, w) = elim (placed j k w) [
@@ -342,28 +308,14 @@ exchanging fs ts wide (inr (a, b, less, first, second, only)) = record { lone = 
     is_crossed (j, k, i, w) = and_both (is (j, k, w.lone)) (from_between fs ts a b i wide first only range.0 range.1 w.chosen)
       where
         range : (a < i) × (i < b)
-        range = elim (placed j k w.lone) [
-          | inl p ↦ elim w.between [
-            | inl v ↦ (rw p.0 at v.0, rw p.1 at v.1)
-            | inr v ↦ let x = rw p.1 at v.0 in let y = rw p.0 at v.1 in absurd (omega (arith, x, y, less))
-          ]
-          | inr p ↦ elim w.between [
-            | inl v ↦ let x = rw p.0 at v.0 in let y = rw p.1 at v.1 in absurd (omega (arith, x, y, less))
-            | inr v ↦ (rw p.1 at v.0, rw p.0 at v.1)
-          ]
-        ]
+        range = grind (arith, nat_tests)
 
 -- ---- chosen tokens
 
 pub left_more : (f : Bool) (fs : List Bool) (j : ℕ) → chosen_left (f ∷ fs) (suc j) ≡ (if f then 1 else 0) + chosen_left fs j
 left_more true fs zero = refl
 left_more false fs zero = refl
-left_more f fs (suc j) = by_bool (is_chosen fs j)
-    (λ w. let more = left_more f fs j in rw w (ap (λ (n : ℕ). n + 1) more ∙ moved (if f then 1 else 0) (chosen_left fs j)))
-    (λ w. rw w (left_more f fs j))
-  where
-    moved : (a b : ℕ) → a + b + 1 ≡ a + (b + 1)
-    moved a b = omega arith
+left_more f fs (suc j) = grind (arith, nat_tests, left_more f fs j)
 
 pub chosen_at : {X : Type 0} (fs : List Bool) (xs : List X) (j : ℕ) → j < length xs → IsChosen fs j
     → slice_get (chosen fs xs) (chosen_left fs j) ≡ slice_get xs j
@@ -383,13 +335,9 @@ chosen_count [] [] e = refl
 chosen_count [] (x ∷ xs) e = absurd (omega (arith, e))
 chosen_count (f ∷ fs) [] e = absurd (omega (arith, e))
 chosen_count (true ∷ fs) (x ∷ xs) e =
-    let more = chosen_count fs xs (omega (arith, e)) in
-    let place = left_more true fs (length xs) in
-    omega (arith, more, place)
+    grind (arith, nat_tests, chosen_count fs xs (omega (arith, e)), left_more)
 chosen_count (false ∷ fs) (x ∷ xs) e =
-    let more = chosen_count fs xs (omega (arith, e)) in
-    let place = left_more false fs (length xs) in
-    omega (arith, more, place)
+    grind (arith, nat_tests, chosen_count fs xs (omega (arith, e)), left_more)
 
 pub each_at : (after : Bool) (ts : List (List ℕ)) (j : ℕ) → j < length ts
     → slice_get (each_piece after ts) j ≡ Some (piece (is_join (sign_of (token_at ts j)) && not (after_at after ts j)) (token_at ts j))
@@ -404,20 +352,12 @@ each_length after (t ∷ ts) = ap suc (each_length (is_join (sign_of t)) ts)
 
 -- whether a join begins, by texts
 pub begins_is : (ts : List (List ℕ)) (j : ℕ) → (is_join (sign_of (token_at ts j)) && not (after_at false ts j)) ≡ begins ts j
-begins_is ts zero = rw (joins_is (token_at ts zero)) refl
-begins_is ts (suc j) = rw (joins_is (token_at ts (suc j)), joins_is (token_at ts j)) (alike (reads ts (codes "*v") (suc j)) (reads ts (codes "*v") j))
-  where
-    alike : (a b : Bool) → (a && not b) ≡ (a && not (b && a))
-    alike true true = refl
-    alike true false = refl
-    alike false b = refl
+begins_is = grind (arith, nat_tests, joins_is, not)
 
 -- ---- what is written
 
 soft_joins : (lone : Bool) (t : List ℕ) → is_join (sign_of (softened lone t)) ≡ is_join (sign_of t)
-soft_joins lone t = by_bool (lone && is_exchange (sign_of t))
-    (λ w. let e = exchange_on t (both w).1 in rw (w, e) refl)
-    (λ w. rw w refl)
+soft_joins = grind (arith, nat_tests)
 
 soft_after : (lone : Bool) (ts : List (List ℕ)) (j : ℕ) → j < length ts
     → after_at false (map (softened lone) ts) j ≡ after_at false ts j
@@ -426,9 +366,7 @@ soft_after lone ts (suc j) h =
     ap (λ (t : List ℕ). is_join (sign_of t)) (soft_at lone ts j (omega (arith, h))) ∙ soft_joins lone (token_at ts j)
   where
     soft_at : (lone : Bool) (ts : List (List ℕ)) (j : ℕ) → j < length ts → token_at (map (softened lone) ts) j ≡ softened lone (token_at ts j)
-    soft_at lone [] j h = absurd (omega (arith, h))
-    soft_at lone (t ∷ ts) zero h = refl
-    soft_at lone (t ∷ ts) (suc j) h = soft_at lone ts j (omega (arith, h))
+    soft_at = grind (arith, common_steps)
 
 map_slice : {A B : Type 0} (f : A → B) (xs : List A) (j : ℕ) (d : A) → j < length xs → slice_get (map f xs) j ≡ Some (f (get_or xs j d))
 map_slice f [] j d h = absurd (omega (arith, h))
@@ -436,9 +374,7 @@ map_slice f (x ∷ xs) zero d h = refl
 map_slice f (x ∷ xs) (suc j) d h = map_slice f xs j d (omega (arith, h))
 
 map_get : {A B : Type 0} (f : A → B) (xs : List A) (j : ℕ) (d : A) (e : B) → j < length xs → get_or (map f xs) j e ≡ f (get_or xs j d)
-map_get f [] j d e h = absurd (omega (arith, h))
-map_get f (x ∷ xs) zero d e h = refl
-map_get f (x ∷ xs) (suc j) d e h = map_get f xs j d e (omega (arith, h))
+map_get = grind (arith, common_steps)
 
 module _ (fs : List Bool) (ts : List (List ℕ)) (wide : length fs ≡ length ts) (pair : TwoOrNone ts) where
   abbrev lone : Bool
@@ -449,40 +385,12 @@ module _ (fs : List Bool) (ts : List (List ℕ)) (wide : length fs ≡ length ts
 
   soft_piece : (j : ℕ) → j < length ts
       → slice_get (each_piece false soft) j ≡ Some (piece (begins ts j) (softened lone (token_at ts j)))
-  soft_piece j h =
-      let size = length-map ts (softened lone) in
-      let token : token_at soft j ≡ softened lone (token_at ts j) = map_get (softened lone) ts j [] [] h in
-      let after = soft_after lone ts j h in
-      let begun : (is_join (sign_of (token_at soft j)) && not (after_at false soft j)) ≡ begins ts j =
-      rw (token, soft_joins lone (token_at ts j), after) (begins_is ts j) in
-      each_at false soft j (omega (arith, size, h))
-      ∙ ap (λ (b : Bool). Some (piece b (token_at soft j))) begun
-      ∙ ap (λ (t : List ℕ). Some (piece (begins ts j) t)) token
+  soft_piece =
+      grind (arith, nat_tests, length-map, map_get, soft_after, not, after_at, soft_joins, begins_is, each_at)
 
   -- an exchanged column that is chosen is the one of the two
   own_lone : (j : ℕ) → IsChosen fs j → IsExchange ts j → SomeLone fs ts → (k : ℕ) × IsLone fs ts j k
-  own_lone j own here (a, b, w) = by_pair pair
-    where
-      by_pair : TwoOrNone ts → (k : ℕ) × IsLone fs ts j k
-      by_pair (inl none) = absurd (none j here)
-      by_pair (inr (c, d, less, first, second, only)) = by_place (only j here) (only a w.exchanges.0) (only b w.exchanges.1)
-        where
-          same_as : {c : ℕ} → j ≡ c → a ≡ c → (k : ℕ) × IsLone fs ts j k
-          same_as p q = (b, subst (λ (n : ℕ). IsLone fs ts n b) (q ∙ sym p) w)
-
-          other_than : {X : Type 0} {c : ℕ} → j ≡ c → b ≡ c → X
-          other_than p q = absurd (w.other (subst (IsChosen fs) (p ∙ sym q) own))
-
-          neither : {X : Type 0} {c : ℕ} → a ≡ c → b ≡ c → X
-          neither p q = absurd (w.other (subst (IsChosen fs) (p ∙ sym q) w.own))
-
-          by_place : (j ≡ c) ⊎ (j ≡ d) → (a ≡ c) ⊎ (a ≡ d) → (b ≡ c) ⊎ (b ≡ d) → (k : ℕ) × IsLone fs ts j k
-          by_place (inl p) (inl q) r = same_as p q
-          by_place (inr p) (inr q) r = same_as p q
-          by_place (inl p) (inr q) (inl r) = other_than p r
-          by_place (inr p) (inl q) (inr r) = other_than p r
-          by_place (inl p) (inr q) (inr r) = neither q r
-          by_place (inr p) (inl q) (inl r) = neither q r
+  own_lone = grind (arith, nat_tests)
 
   writes : (j : ℕ) → IsChosen fs j → Writes fs ts j (softened lone (token_at ts j))
   writes j own =

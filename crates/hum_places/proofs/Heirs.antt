@@ -1,8 +1,8 @@
 -- The spines behind an interpretation, place by place.
+use Rattle.std.proofs.lemmas.Grind.{common_steps}
 use Rattle.std.proofs.Common.{◌≡◌, ◌≢◌, ◌∙◌, refl, sym, ap, ℕ, zero, suc, ◌+◌, ◌-◌, ◌<◌, ◌⊎◌, inl, inr, arith}
 use Rattle.std.proofs.Common.{◌==◌, Bool, true, false, ◌&&◌, ◌||◌, List, [], ◌∷◌, ◌++◌, map, length, cond, drop, nat_eq}
 use Rattle.std.proofs.Common.{Option, Some, slice_get}
-use Rattle.std.specs.List.{starts_with}
 use Rattle.std.specs.Str.{bytes_eq}
 use lib.Chars.{codes}
 use Rattle.std.proofs.lemmas.Bool.Decides.{nat_tests}
@@ -12,7 +12,7 @@ use Rattle.hum_score.specs.declared.spines.Sign.{Sign}
 use Rattle.hum_score.specs.declared.spines.Sign.TheVariants.{Split, Join, Exchange, Add, End, Exclusive, Plain}
 use Rattle.hum_score.specs.declared.spines.Move.{Move}
 use Rattle.hum_score.specs.declared.spines.Move.TheVariants.{Same, Left, Right, Join as Joined, Added}
-use Rattle.hum_score.specs.Sign.{sign_of, is_join, is_exchange}
+use Rattle.hum_score.specs.Sign.{sign_of, is_join}
 use Rattle.hum_path.specs.Places.{token_at, IsJoin, IsExchange}
 use Rattle.hum_score.specs.Spines.{Spines, exchanges, partner, joins_at_front, heirs, heirs_from, moves_at}
 use Rattle.hum_score.specs.Rules.{is_pair_or_none}
@@ -54,24 +54,13 @@ asks t =
     }))))))
 
 pub quiet_sign : (t : List ℕ) → IsQuiet t → (sign_of t ≡ Exclusive) ⊎ (sign_of t ≡ Plain)
-quiet_sign t q =
-    let a = no_text t (codes "*^") q.split in
-    let b = no_text t (codes "*v") q.join in
-    let c = no_text t (codes "*x") q.exchange in
-    let d = no_text t (codes "*+") q.add in
-    let e = no_text t (codes "*-") q.end in
-    by_bool (starts_with nat_eq t (codes "**")) (λ w. inl (rw w refl)) (λ w. inr (rw (w, a, b, c, d, e) refl))
+quiet_sign = grind (arith, nat_tests, no_text, nat_eq)
 
 pub exchange_sign : (t : List ℕ) → sign_of t ≡ Exchange → t ≡ codes "*x"
 exchange_sign t h = by_what (asks t)
   where
     by_what : Asks t → t ≡ codes "*x"
-    by_what (splits e) = let w = rw e at h in cc
-    by_what (joins e) = let w = rw e at h in cc
-    by_what (changes e) = e
-    by_what (adds e) = let w = rw e at h in cc
-    by_what (ends e) = let w = rw e at h in cc
-    by_what (nothing q) = elim (quiet_sign t q) [ inl e ↦ cc | inr e ↦ cc ]
+    by_what = grind (arith, common_steps)
 
 -- how many spines come of a cell, by its sign and whether a join stands directly to its left
 abbrev pub own : Bool → Sign → ℕ
@@ -103,17 +92,7 @@ seat_more after (t ∷ ts) (suc zero) = let h = seat_more (is_join (sign_of t)) 
 seat_more after (t ∷ ts) (suc (suc q)) = let h = seat_more (is_join (sign_of t)) ts (suc q) in omega (arith, h)
 
 pub joins_is : (t : List ℕ) → is_join (sign_of t) ≡ bytes_eq t (codes "*v")
-joins_is t = by_what (asks t)
-  where
-    by_what : Asks t → is_join (sign_of t) ≡ bytes_eq t (codes "*v")
-    by_what (splits e) = rw e refl
-    by_what (joins e) = rw e refl
-    by_what (changes e) = rw e refl
-    by_what (adds e) = rw e refl
-    by_what (ends e) = rw e refl
-    by_what (nothing q) =
-        let b = no_text t (codes "*v") q.join in
-        elim (quiet_sign t q) [ inl e ↦ rw (e, b) refl | inr e ↦ rw (e, b) refl ]
+joins_is = grind (arith, nat_tests)
 
 -- the count by texts
 abbrev width_by : Bool → List ℕ → ℕ
@@ -122,45 +101,15 @@ width_by after t =
     (cond (bytes_eq t (codes "*-") || (after && bytes_eq t (codes "*v"))) 0 1)
 
 width_own : (after : Bool) (t : List ℕ) → width_by after t ≡ own after (sign_of t)
-width_own after t = by_what (asks t)
-  where
-    by_join : (after : Bool) → width_by after (codes "*v") ≡ own after Join
-    by_join true = refl
-    by_join false = refl
-
-    none : (after : Bool) → (after && false) ≡ false
-    none true = refl
-    none false = refl
-
-    by_what : Asks t → width_by after t ≡ own after (sign_of t)
-    by_what (splits e) = rw e refl
-    by_what (joins e) = rw e (by_join after)
-    by_what (changes e) = rw (e, none after) refl
-    by_what (adds e) = rw e refl
-    by_what (ends e) = rw e refl
-    by_what (nothing q) =
-        let a = no_text t (codes "*^") q.split in
-        let b = no_text t (codes "*v") q.join in
-        let d = no_text t (codes "*+") q.add in
-        let f = no_text t (codes "*-") q.end in
-        elim (quiet_sign t q) [
-          | inl e ↦ rw (e, a, b, d, f, none after) refl
-          | inr e ↦ rw (e, a, b, d, f, none after) refl
-        ]
+width_own = grind (arith, nat_tests, asks, no_text, quiet_sign)
 
 pub width_is : (ts : List (List ℕ)) (q : ℕ) → width_below ts q ≡ own (after_at false ts q) (sign_of (token_at ts q))
 width_is ts zero = width_own false (token_at ts zero)
-width_is ts (suc q) =
-    let h = joins_is (token_at ts q) in
-    rw h (width_own (bytes_eq (token_at ts q) (codes "*v")) (token_at ts (suc q)))
+width_is ts (suc q) = simp (joins_is, width_own)
 
 place_is : (ts : List (List ℕ)) (q : ℕ) → place_below ts q ≡ seat false ts q
 place_is ts zero = refl
-place_is ts (suc q) =
-    let h = place_is ts q in
-    let w = width_is ts q in
-    let s = seat_more false ts q in
-    omega (arith, h, w, s)
+place_is ts (suc q) = grind (arith, nat_tests, place_is ts q, width_is, seat_more)
 
 -- what comes of the cell at a place
 abbrev heirs_at : List ℕ → ℕ → Bool → List (List ℕ) → ℕ → List Move
@@ -171,25 +120,16 @@ heirs_at pair p after (t ∷ ts) (suc q) = heirs_at pair (p + 1) (is_join (sign_
 heirs_at_is : (pair : List ℕ) (p : ℕ) (after : Bool) (ts : List (List ℕ)) (q : ℕ) → q < length ts
     → heirs_at pair p after ts q ≡ heirs pair (p + q) (after_at after ts q) (sign_of (token_at ts q)) (map sign_of (drop (suc q) ts))
 heirs_at_is pair p after [] q h = absurd (omega (arith, h))
-heirs_at_is pair p after (t ∷ ts) zero h =
-    ap (λ (n : ℕ). heirs pair n after (sign_of t) (map sign_of ts)) (omega arith)
+heirs_at_is pair p after (t ∷ ts) zero h = grind (arith, nat_tests)
 heirs_at_is pair p after (t ∷ ts) (suc zero) h =
-    heirs_at_is pair (p + 1) (is_join (sign_of t)) ts zero (omega (arith, h))
-    ∙ ap (λ (n : ℕ). heirs pair n (is_join (sign_of t)) (sign_of (token_at ts zero)) (map sign_of (drop 1 ts))) (omega arith)
+    grind (arith, nat_tests, heirs_at_is pair (p + 1) (is_join (sign_of t)) ts zero (omega (arith, h)))
 heirs_at_is pair p after (t ∷ ts) (suc (suc q)) h =
     heirs_at_is pair (p + 1) (is_join (sign_of t)) ts (suc q) (omega (arith, h))
     ∙ ap (λ (n : ℕ). heirs pair n (is_join (sign_of (token_at ts q))) (sign_of (token_at ts (suc q))) (map sign_of (drop (suc (suc q)) ts)))
     (omega arith)
 
 pub heirs_length : (pair : List ℕ) (p : ℕ) (after : Bool) (s : Sign) (ss : List Sign) → length (heirs pair p after s ss) ≡ own after s
-heirs_length pair p after Split ss = refl
-heirs_length pair p true Join ss = refl
-heirs_length pair p false Join ss = refl
-heirs_length pair p after Exchange ss = refl
-heirs_length pair p after Add ss = refl
-heirs_length pair p after End ss = refl
-heirs_length pair p after Exclusive ss = refl
-heirs_length pair p after Plain ss = refl
+heirs_length = grind (arith, nat_tests)
 
 in_front : {X : Type 0} (xs ys : List X) (i : ℕ) → i < length xs → slice_get (xs ++ ys) i ≡ slice_get xs i
 in_front [] ys i h = absurd (omega (arith, h))
@@ -210,29 +150,19 @@ stands pair p after (t ∷ ts) zero i h =
     let rest = heirs_from pair (p + 1) (is_join (sign_of t)) (map sign_of ts) in
     ap (slice_get (own ++ rest)) (omega arith) ∙ in_front own rest i h
 stands pair p after (t ∷ ts) (suc q) i h =
-    let own = heirs pair p after (sign_of t) (map sign_of ts) in
-    let rest = heirs_from pair (p + 1) (is_join (sign_of t)) (map sign_of ts) in
-    let size = heirs_length pair p after (sign_of t) (map sign_of ts) in
-    behind own rest (seat (is_join (sign_of t)) ts q + i) (seat after (t ∷ ts) (suc q) + i) (omega (arith, size))
-    ∙ stands pair (p + 1) (is_join (sign_of t)) ts q i h
+    grind (arith, nat_tests, stands pair (p + 1) (is_join (sign_of t)) ts q i h, heirs_length, behind)
 
 counted : (pair : List ℕ) (p : ℕ) (after : Bool) (ts : List (List ℕ))
     → length (heirs_from pair p after (map sign_of ts)) ≡ seat after ts (length ts)
 counted pair p after [] = refl
 counted pair p after (t ∷ ts) =
-    let own = heirs pair p after (sign_of t) (map sign_of ts) in
-    let rest = heirs_from pair (p + 1) (is_join (sign_of t)) (map sign_of ts) in
-    let size = heirs_length pair p after (sign_of t) (map sign_of ts) in
-    let more = counted pair (p + 1) (is_join (sign_of t)) ts in
-    length-append own rest ∙ omega (arith, size, more)
+    grind (arith, nat_tests, counted pair (p + 1) (is_join (sign_of t)) ts, heirs_length, length-append)
 
 -- a run of joins
 joins_run : (ts : List (List ℕ)) (n : ℕ) → ((i : ℕ) → i < n → IsJoin ts i) → ¬ IsJoin ts n → joins_at_front (map sign_of ts) ≡ n
 joins_run [] zero all none = refl
 joins_run [] (suc n) all none = let e : [] ≡ codes "*v" = all 0 (omega arith) in cc
-joins_run (t ∷ ts) zero all none =
-    let w : is_join (sign_of t) ≡ false = joins_is t ∙ no_text t (codes "*v") none in
-    rw w refl
+joins_run (t ∷ ts) zero all none = grind (arith, nat_tests, joins_is, no_text)
 joins_run (t ∷ ts) (suc n) all none =
     let e : t ≡ codes "*v" = all 0 (omega arith) in
     let w : is_join (sign_of t) ≡ true = ap (λ (u : List ℕ). is_join (sign_of u)) e in
@@ -240,20 +170,10 @@ joins_run (t ∷ ts) (suc n) all none =
     rw w (omega (arith, more))
 
 dropped : (ts : List (List ℕ)) (j i : ℕ) → token_at (drop j ts) i ≡ token_at ts (j + i)
-dropped ts zero i = ap (token_at ts) (omega arith)
-dropped [] (suc j) i = none (suc j + i)
-  where
-    none : (n : ℕ) → [] ≡ token_at [] n
-    none zero = refl
-    none (suc n) = refl
-dropped (t ∷ ts) (suc j) i =
-    let e : suc j + i ≡ suc (j + i) = omega arith in rw e (dropped ts j i)
+dropped = grind (arith, common_steps)
 
 pub present : (ts : List (List ℕ)) (j : ℕ) (text : List ℕ) → text ≢ [] → token_at ts j ≡ text → j < length ts
-present [] zero text some e = absurd (some (sym e))
-present [] (suc j) text some e = absurd (some (sym e))
-present (t ∷ ts) zero text some e = omega arith
-present (t ∷ ts) (suc j) text some e = let h = present ts j text some e in omega (arith, h)
+present = grind (arith, common_steps)
 
 -- the other exchanged place
 abbrev Among : ℕ → List ℕ → Type 0
@@ -263,13 +183,8 @@ Among x (y ∷ ys) = (x ≡ y) ⊎ Among x ys
 among : (p : ℕ) (ts : List (List ℕ)) (j : ℕ) → IsExchange ts j → Among (p + j) (exchanges p (map sign_of ts))
 among p [] zero e = let w : [] ≡ codes "*x" = e in cc
 among p [] (suc j) e = let w : [] ≡ codes "*x" = e in cc
-among p (t ∷ ts) zero e =
-    let w : is_exchange (sign_of t) ≡ true = ap (λ (u : List ℕ). is_exchange (sign_of u)) e in
-    rw w (inl (omega arith))
-among p (t ∷ ts) (suc j) e =
-    let same : p + suc j ≡ p + 1 + j = omega arith in
-    let h = among (p + 1) ts j e in
-    rw same (by_bool (is_exchange (sign_of t)) (λ w. rw w (inr h)) (λ w. rw w h))
+among p (t ∷ ts) zero e = grind (arith, nat_tests)
+among p (t ∷ ts) (suc j) e = grind (arith, nat_tests, among (p + 1) ts j e)
 
 pair_or_none : (n : ℕ) → (n == 0 || n == 2) ≡ true → (n ≡ 0) ⊎ (n ≡ 2)
 pair_or_none n h = by_bool (n == 0) (λ w. inl (grind (arith, nat_tests, w))) (λ w. inr (grind (arith, nat_tests, w, h)))
@@ -277,26 +192,8 @@ pair_or_none n h = by_bool (n == 0) (λ w. inl (grind (arith, nat_tests, w))) (�
 partner_is : (pair : List ℕ) (j k : ℕ) → is_pair_or_none pair ≡ true → Among j pair → Among k pair → j ≢ k → partner pair j ≡ k
 partner_is pair j k h = by_length pair (pair_or_none (length pair) h)
   where
-    same : (a : ℕ) → j ≡ a → (j == a) ≡ true
-    same a e = grind (arith, nat_tests, e)
-
-    differs : (a : ℕ) → j ≢ a → (j == a) ≡ false
-    differs a h = by_bool (j == a) (λ w. absurd (h (grind (arith, nat_tests, w)))) (λ w. w)
-
     by_length : (pair : List ℕ) → (length pair ≡ 0) ⊎ (length pair ≡ 2) → Among j pair → Among k pair → j ≢ k → partner pair j ≡ k
-    by_length [] h x y apart = absurd x
-    by_length (a ∷ []) (inl h) x y apart = absurd (omega (arith, h))
-    by_length (a ∷ []) (inr h) x y apart = absurd (omega (arith, h))
-    by_length (a ∷ b ∷ []) h (inl x) (inl y) apart = absurd (apart (x ∙ sym y))
-    by_length (a ∷ b ∷ []) h (inl x) (inr (inl y)) apart = rw (same a x) (sym y)
-    by_length (a ∷ b ∷ []) h (inl x) (inr (inr y)) apart = absurd y
-    by_length (a ∷ b ∷ []) h (inr (inl x)) (inl y) apart =
-        rw (differs a (λ e. apart (e ∙ sym y))) (sym y)
-    by_length (a ∷ b ∷ []) h (inr (inl x)) (inr (inl y)) apart = absurd (apart (x ∙ sym y))
-    by_length (a ∷ b ∷ []) h (inr (inl x)) (inr (inr y)) apart = absurd y
-    by_length (a ∷ b ∷ []) h (inr (inr x)) y apart = absurd x
-    by_length (a ∷ b ∷ c ∷ more) (inl h) x y apart = absurd (omega (arith, h))
-    by_length (a ∷ b ∷ c ∷ more) (inr h) x y apart = absurd (omega (arith, h))
+    by_length = grind (arith, common_steps)
 
 module _ (names tokens : List (List ℕ)) where
   abbrev found : List Move
@@ -324,8 +221,7 @@ module _ (names tokens : List (List ℕ)) where
 
   -- no join stands directly to the left of a run
   free : (j : ℕ) → ((i : ℕ) → i + 1 ≡ j → ¬ IsJoin tokens i) → after_at false tokens j ≡ false
-  free zero left = refl
-  free (suc i) left = joins_is (token_at tokens i) ∙ no_text (token_at tokens i) (codes "*v") (left i (omega arith))
+  free = grind (arith, nat_tests, joins_is, no_text)
 
   run_is : (j k : ℕ) → IsRun tokens j k → j + joins_at_front (map sign_of (drop (suc j) tokens)) ≡ k
   run_is j k run =

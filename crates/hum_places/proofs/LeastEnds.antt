@@ -21,9 +21,6 @@ not_both a b late less = omega (arith, late, less)
 pub not_self : (a : Ratio) → IsBefore a a → ⊥
 not_self a less = omega (arith, less)
 
-pub not_back : (a b : Ratio) → IsBefore a b → IsBefore b a → ⊥
-not_back a b less more = omega (arith, less, more)
-
 some_same : {a b : Ratio} → ◌≡◌ {A = Option (Option Ratio)} (Some (Some a)) (Some (Some b)) → a ≡ b
 some_same e = cc
 
@@ -36,39 +33,23 @@ positive_at (other ∷ ends) h (suc i) end e = positive_at ends h.1 i end e
 -- one end more that isn't after the time
 passes : (time : Ratio) (end : Option Ratio) (ends : List (Option Ratio)) (found : Option Ratio)
     → ((other : Ratio) → end ≡ Some other → ¬ IsBefore time other) → IsLeastAfter time ends found → IsLeastAfter time (end ∷ ends) found
-passes time end ends None not_after h = by_place
-  where
-    head : {a b : Option Ratio} → Some a ≡ Some b → a ≡ b
-    head e = cc
-
-    by_place : (i : ℕ) (other : Ratio) → slice_get (end ∷ ends) i ≡ Some (Some other) → ¬ IsBefore time other
-    by_place zero other e = not_after other (head e)
-    by_place (suc i) other e = h i other e
+passes time end ends None not_after h = grind (arith, nat_tests)
 passes time end ends (Some least) not_after h = record { place = suc h.place; one = h.one; after = h.after; first = by_place }
   where
-    head : {a b : Option Ratio} → Some a ≡ Some b → a ≡ b
-    head e = cc
-
     by_place : (i : ℕ) (other : Ratio) → slice_get (end ∷ ends) i ≡ Some (Some other) → IsBefore time other → ¬ IsBefore other least
-    by_place zero other e after = absurd (not_after other (head e) after)
-    by_place (suc i) other e after = h.first i other e after
+    by_place = grind (arith, nat_tests)
 
 -- one end more that is after it
 meets : (time end : Ratio) (ends : List (Option Ratio)) (found : Option Ratio) → 0 < end.bottom → ArePositive ends → IsBefore time end
     → IsLeastAfter time ends found → IsLeastAfter time (Some end ∷ ends) (sooner (Some end) found)
-meets time end ends None p q after h = record { place = 0; one = refl; after = after; first = by_place }
-  where
-    by_place : (i : ℕ) (other : Ratio) → slice_get (Some end ∷ ends) i ≡ Some (Some other) → IsBefore time other → ¬ IsBefore other end
-    by_place zero other e later less = let same : end ≡ other = some_same e in not_self end (subst (λ (x : Ratio). IsBefore x end) (sym same) less)
-    by_place (suc i) other e later less = h i other e later
+meets time end ends None p q after h = grind (arith, nat_tests)
 meets time end ends (Some least) p q after h = by_bool (is_before least end)
     (λ w. rw w (record { place = suc h.place; one = h.one; after = h.after; first = earlier (is_so least end w) }))
     (λ w. rw w (record { place = 0; one = refl; after = after; first = later (is_not least end w) }))
   where
     earlier : IsBefore least end → (i : ℕ) (other : Ratio) → slice_get (Some end ∷ ends) i ≡ Some (Some other) → IsBefore time other
         → ¬ IsBefore other least
-    earlier w zero other e on less = let same : end ≡ other = some_same e in not_back least end w (rw same less)
-    earlier w (suc i) other e on less = h.first i other e on less
+    earlier = grind (arith, nat_tests)
 
     later : NotBefore least end → (i : ℕ) (other : Ratio) → slice_get (Some end ∷ ends) i ≡ Some (Some other) → IsBefore time other
         → ¬ IsBefore other end
@@ -77,13 +58,6 @@ meets time end ends (Some least) p q after h = by_bool (is_before least end)
 
 pub next_is_least : (time : Ratio) (ends : List (Option Ratio)) → ArePositive ends → IsLeastAfter time ends (next_end time ends)
 next_is_least time [] h = λ i end e less. cc
-next_is_least time (None ∷ ends) h = passes time None ends (next_end time ends) (λ other e. none e) (next_is_least time ends h.1)
-  where
-    none : {other : Ratio} {X : Type 0} → ◌≡◌ {A = Option Ratio} None (Some other) → X
-    none e = absurd (cc)
-next_is_least time (Some end ∷ ends) h = by_bool (is_before time end)
-    (λ w. rw w (meets time end ends (next_end time ends) h.0 h.1 (is_so time end w) (next_is_least time ends h.1)))
-    (λ w. rw w (passes time (Some end) ends (next_end time ends) (λ other e. not_after w other e) (next_is_least time ends h.1)))
-  where
-    not_after : is_before time end ≡ false → (other : Ratio) → ◌≡◌ {A = Option Ratio} (Some end) (Some other) → ¬ IsBefore time other
-    not_after w other e less = let same : end ≡ other = cc in not_both time end (is_not time end w) (rw same less)
+next_is_least time (None ∷ ends) h = grind (arith, nat_tests, next_is_least time ends h.1, passes)
+next_is_least time (Some end ∷ ends) h =
+    grind (arith, nat_tests, next_is_least time ends h.1, meets, is_so, passes)

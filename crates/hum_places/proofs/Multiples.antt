@@ -91,47 +91,12 @@ module _ (t : Ratio) (top : 0 < t.top) where
   -- from an end, it included, to a time
   pub from_so : (end time : Ratio) → 0 < end.bottom → 0 < time.bottom
       → AreMultiples t (IsFrom (Some end) time) (run (first_from end t) (first_from time t - first_from end t))
-  from_so end time p q = run_passes t (IsFrom (Some end) time) (first_from end t) (first_from time t - first_from end t) (λ k.
-      let low = before_from end t k p top in
-      let high = before_from time t k q top in (
-        λ h.
-            let x = h.0 in
-            let y = h.1 in
-            (λ b. let z = low.1 b in omega (arith, x, z), high.0 (omega (arith, x, y))),
-        λ h.
-            let y = high.1 h.1 in
-            let x : first_from end t ≤ k = by_bool (nat_lt k (first_from end t))
-            (λ w. absurd (h.0 (low.0 (grind (arith, nat_tests, w)))))
-            (λ w. grind (arith, nat_tests, w)) in
-            (x, omega (arith, x, y)),
-      ))
+  from_so = grind (arith, nat_tests, run_passes, before_from)
 
   module _ (bottom : 0 < t.bottom) where
-    -- multiples are as far apart as their numbers
-    further : (k l : ℕ) (b : Ratio) → 0 < b.bottom → k < l → k * t.top * b.bottom < l * t.top * b.bottom
-    further k l b p h = mul-lt-mul_of_pos_right (mul-lt-mul_of_pos_right h top) p
-
     -- a multiple is the first that isn't less, and the next is the first that is greater
     on_multiple : (b : Ratio) → 0 < b.bottom → (m : IsMultiple b t) → (first_from b t ≡ m.0) × (first_after b t ≡ m.0 + 1)
-    on_multiple b p m =
-        let k = m.0 in
-        let same = m.1 in
-        let up = further m.0 (m.0 + 1) b p (omega arith) in
-        let a : first_from b t ≤ m.0 = by_bool (nat_lt m.0 (first_from b t))
-        (λ w. let less = (before_from b t m.0 p top).0 (grind (arith, nat_tests, w)) in absurd (omega (arith, less, same)))
-        (λ w. grind (arith, nat_tests, w)) in
-        let c : m.0 < first_after b t = by_bool (nat_lt m.0 (first_after b t))
-        (λ w. grind (arith, nat_tests, w))
-        (λ w. let more = (after_first b t m.0 p top).0 (grind (arith, nat_tests, w)) in absurd (omega (arith, more, same))) in
-        let d : first_after b t ≤ m.0 + 1 = (after_first b t (m.0 + 1) p top).1 (omega (arith, up, same)) in
-        (least m.0 same a, omega (arith, c, d))
-      where
-        least : (k : ℕ) → IsSame (times k t) b → first_from b t ≤ k → first_from b t ≡ k
-        least zero same a = omega (arith, a)
-        least (suc k) same a =
-            let down = further k (suc k) b p (omega arith) in
-            let c = (before_from b t k p top).1 (omega (arith, down, same)) in
-            omega (arith, a, c)
+    on_multiple = grind (arith, nat_tests)
 
     off_multiple : (b : Ratio) → 0 < b.bottom → ¬ IsMultiple b t → first_from b t ≡ first_after b t
     off_multiple b p none =

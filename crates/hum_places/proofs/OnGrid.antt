@@ -1,5 +1,6 @@
 -- The records of timebase, by the multiples that they stand at.
-use Rattle.std.proofs.Common.{◌≡◌, ◌∙◌, refl, sym, ap, subst, ℕ, ◌-◌, ◌<◌, Bool, true, false, List, [], ◌∷◌, ◌++◌, length}
+use Rattle.std.proofs.lemmas.Bool.Decides.{nat_tests}
+use Rattle.std.proofs.Common.{◌≡◌, ◌∙◌, refl, sym, ap, subst, ℕ, ◌-◌, ◌<◌, Bool, true, false, List, [], ◌∷◌, length}
 use Rattle.std.proofs.Common.{map, replicate, Option, None, Some, Result, Ok, Err, arith}
 use Rattle.std.specs.Prelude.{is_some}
 use Rattle.std.specs.List.{list_any}
@@ -12,11 +13,11 @@ use Rattle.hum_frac.specs.Ratio.{Ratio}
 use Rattle.hum_frac.specs.Multiples.{is_multiple, first_after, first_from, multiples_between}
 use Rattle.hum_frac.proofs.Ratios.{multiple_test}
 use Rattle.hum_stage.specs.declared.faults.Rule.{Rule}
-use Rattle.hum_timebase.specs.Notes.{timed_in, notes_of, is_sounding, has_misread}
+use Rattle.hum_timebase.specs.Notes.{timed_in, notes_of, is_sounding}
 use Rattle.hum_timebase.specs.Ends.{Note, latest, next_end, living_before, living_after}
 use Rattle.hum_timebase.specs.Clock.{Clock, clock_after, time_after, time_of, ticked}
 use Rattle.hum_choices.specs.Timebase.{Pace}
-use Rattle.hum_timebase.specs.Timebase.{clashes, is_too_long, count_before, count_after}
+use Rattle.hum_timebase.specs.Timebase.{count_before, count_after}
 use Rattle.hum_timebase.specs.Timebase.{on_grid, timed_rows, living_at, data_rows}
 use Rattle.hum_timebase.proofs.Lasting.{IsPositive, AllSound, all_sound}
 use Rattle.hum_timebase.proofs.Reading.{sounds_some, no_notes}
@@ -32,14 +33,7 @@ record Listed (t : Ratio) (Passes : Ratio → Type 0) (tokens : List (List ℕ))
   nulls : replicate count (null_row (length tokens)) ≡ nulls_at tokens numbers
 
 none_pass : (t : Ratio) (Passes : Ratio → Type 0) (tokens : List (List ℕ)) → ((m : Ratio) → ¬ Passes m) → Listed t Passes tokens 0
-none_pass t Passes tokens none = record {
-  numbers = [];
-  are = record {
-    ascending = λ i h. absurd (omega (arith, h));
-    all = λ k. (λ h. let below = h.1 in absurd (omega (arith, below)), λ h. absurd (none _ h));
-  };
-  nulls = refl;
-}
+none_pass = grind (arith, nat_tests)
 
 module _ (t : Ratio) (top : 0 < t.top) (bottom : 0 < t.bottom) (tokens : List (List ℕ)) where
   listed_before : (last : Option Ratio) (time : Ratio) → IsPositive last → 0 < time.bottom
@@ -77,41 +71,10 @@ module _ (t : Ratio) (top : 0 < t.top) (bottom : 0 < t.bottom) (tokens : List (L
     where
       so : Listed t (IsFrom last time) tokens (count_before t last time) × Listed t (IsWithin time next) tokens (count_after t time next)
           → (stays : Bool) → is_multiple time t ≡ stays → StandAtMultiples t last time next tokens rows
-      so ab stays w = record {
-        before = ab.0.numbers;
-        own = own_rows stays;
-        after = ab.1.numbers;
-        earlier = ab.0.are;
-        stays = λ m. let z = (multiple_test time t).1 m in kept stays (sym w ∙ z);
-        goes = λ no. gone stays (λ e. no ((multiple_test time t).0 (w ∙ e)));
-        later = ab.1.are;
-        whole = sym e ∙ by_stays stays w ∙ ap (λ xs. xs ++ (own_rows stays ++ replicate (count_after t time next) (null_row (length tokens)))) ab.0.nulls
-            ∙ ap (λ xs. nulls_at tokens ab.0.numbers ++ (own_rows stays ++ xs)) ab.1.nulls;
-      }
-        where
-          kept : (stays : Bool) → stays ≡ true → own_rows stays ≡ Spined Values tokens ∷ []
-          kept true e = refl
-          kept false e = cc
-
-          gone : (stays : Bool) → ¬ (stays ≡ true) → own_rows stays ≡ []
-          gone true none = absurd (none refl)
-          gone false none = refl
-
-          by_stays : (stays : Bool) → is_multiple time t ≡ stays → on_grid t last time next tokens
-              ≡ replicate (count_before t last time) (null_row (length tokens))
-              ++ (own_rows stays ++ replicate (count_after t time next) (null_row (length tokens)))
-          by_stays true w = rw w refl
-          by_stays false w = rw w refl
-
--- what is refused gives no rows
-ok_is : {xs ys : List Row} → ◌≡◌ {A = Result (List Row) Rule} (Ok xs) (Ok ys) → xs ≡ ys
-ok_is e = cc
+      so = grind (arith, nat_tests, multiple_test, replicate)
 
 not_ok : {X : Type 0} {rule : Rule} {rows : List Row} → ◌≡◌ {A = Result (List Row) Rule} (Err rule) (Ok rows) → X
-not_ok e = absurd (none e)
-  where
-    none : {rule : Rule} {rows : List Row} → ◌≡◌ {A = Result (List Row) Rule} (Err rule) (Ok rows) → ⊥
-    none e = cc
+not_ok = grind (arith, nat_tests)
 
 module _ (step : Ratio) (clock : Clock) (timed : List Bool) (tokens : List (List ℕ)) (rows : List Row)
     (noted : list_any is_some (notes_of timed tokens) ≡ true) where
@@ -130,23 +93,12 @@ module _ (step : Ratio) (clock : Clock) (timed : List Bool) (tokens : List (List
   -- a record with notes is timed
   timed_so : data_rows step clock timed tokens ≡ Ok rows
       → timed_rows step clock.next at notes (map latest before) (map latest (living_at at notes before)) tokens ≡ Ok rows
-  timed_so e =
-      let sounding = some_sounds in
-      let filled = sounds_some tokens sounding in
-      by_bool (has_misread timed tokens)
-      (λ w. not_ok (rw (sounding, filled, w) at e))
-      (λ w. by_bool (list_any (λ flag. flag) timed)
-      (λ v. rw (sounding, filled, w, v, noted) at e)
-      (λ v. not_ok (rw (sounding, filled, w, v) at e)))
+  timed_so = grind (arith, nat_tests, some_sounds, sounds_some, not_ok)
 
   -- one at a time is on the grid
   rows_so : (time : Ratio) → timed_rows step clock.next (Some time) notes (map latest before) (map latest (living_after time notes before)) tokens ≡ Ok rows
       → on_grid step clock.next time (next_end time (map latest (living_after time notes before))) tokens ≡ rows
-  rows_so time e = by_bool (clashes time notes (map latest before))
-      (λ w. not_ok (rw w at e))
-      (λ w. by_bool (list_any (is_too_long time) notes)
-      (λ v. not_ok (rw (w, v) at e))
-      (λ v. ok_is (rw (w, v) at e)))
+  rows_so = grind (arith, nat_tests)
 
   ticked_so : 0 < step.top → 0 < step.bottom → (time : Ratio) (o : Option Ratio)
       → timed_rows step clock.next o notes (map latest before) (map latest (living_at o notes before)) tokens ≡ Ok rows

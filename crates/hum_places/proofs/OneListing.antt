@@ -1,4 +1,6 @@
 -- By multiples there is one list of records.
+use Rattle.std.proofs.lemmas.Bool.Decides.{nat_tests}
+use Rattle.std.proofs.lemmas.Grind.{common_steps}
 use Rattle.std.proofs.Common.{◌≡◌, ◌∙◌, refl, sym, ap, ℕ, zero, suc, ◌+◌, ◌<◌, ◌≤◌, ◌↔◌, Bool, true, false, List, [], ◌∷◌, ◌++◌}
 use Rattle.std.proofs.Common.{length, Option, arith}
 use Rattle.std.specs.Prelude.{slice_index_or}
@@ -29,9 +31,7 @@ first_least x (y ∷ ys) h (suc i) below =
 
 -- whatever stands where there is none
 there : (xs : List ℕ) (i d e : ℕ) → i < length xs → slice_index_or xs i d ≡ slice_index_or xs i e
-there [] i d e h = absurd (omega (arith, h))
-there (x ∷ xs) zero d e h = refl
-there (x ∷ xs) (suc i) d e h = there xs i d e (omega (arith, h))
+there = grind (arith, common_steps)
 
 least_of : (x : ℕ) (xs : List ℕ) → Ascends (x ∷ xs) → (k : ℕ) → Contains (x ∷ xs) k → x ≤ k
 least_of x xs h k c = by_index c.0 c.1 c.2
@@ -44,11 +44,7 @@ least_of x xs h k c = by_index c.0 c.1 c.2
         omega (arith, less, same, e)
 
 behind_first : (x : ℕ) (xs : List ℕ) (k : ℕ) → x < k → Contains (x ∷ xs) k → Contains xs k
-behind_first x xs k less c = by_index c.0 c.1 c.2
-  where
-    by_index : (i : ℕ) → i < length (x ∷ xs) → slice_index_or (x ∷ xs) i k ≡ k → Contains xs k
-    by_index zero below e = absurd (omega (arith, less, e))
-    by_index (suc i) below e = (i, omega (arith, below), e)
+behind_first = grind (arith, nat_tests)
 
 above_first : (x : ℕ) (xs : List ℕ) → Ascends (x ∷ xs) → (k : ℕ) → Contains xs k → x < k
 above_first x xs h k c =

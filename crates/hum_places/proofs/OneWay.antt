@@ -1,19 +1,19 @@
 -- By place there is one list of moves.
-use Rattle.std.proofs.Common.{◌≡◌, ◌∙◌, refl, sym, ap, ℕ, zero, suc, ◌+◌, ◌<◌, ◌≤◌, ◌⊎◌, inl, inr, arith}
-use Rattle.std.proofs.Common.{Bool, true, false, List, [], ◌∷◌, length, nat_lt}
+use Rattle.std.proofs.Common.{◌≡◌, ◌∙◌, refl, sym, ap, ℕ, zero, suc, ◌+◌, ◌<◌, ◌≤◌, ◌⊎◌, arith}
+use Rattle.std.proofs.Common.{Bool, false, List, [], ◌∷◌, length, nat_lt}
 use Rattle.std.proofs.Common.{Some, None, slice_get}
 use Rattle.std.proofs.lemmas.Bool.Decides.{nat_tests}
 use Rattle.std.specs.Str.{bytes_eq}
 use lib.Chars.{codes}
-use Rattle.hum_score.specs.declared.records.SpinedKind.TheVariants.{Local, Interpretation, Values}
-use Rattle.hum_score.specs.Row.{Row, Comment, Spined}
+use Rattle.hum_score.specs.declared.records.SpinedKind.TheVariants.{Interpretation}
+use Rattle.hum_score.specs.Row.{Row, Spined}
 use Rattle.hum_score.specs.declared.spines.Sign.{Sign}
 use Rattle.hum_score.specs.declared.spines.Sign.TheVariants.{Exclusive, Plain}
 use Rattle.hum_score.specs.declared.spines.Move.{Move}
 use Rattle.hum_score.specs.declared.spines.Move.TheVariants.{Same, Left, Right, Join as Joined, Added}
-use Rattle.hum_score.specs.Sign.{sign_of, is_join}
+use Rattle.hum_score.specs.Sign.{sign_of}
 use Rattle.hum_path.specs.Places.{token_at, IsJoin}
-use Rattle.hum_score.specs.Spines.{Path, Unopened, Spines, width, heirs, moves_at, same_upto}
+use Rattle.hum_score.specs.Spines.{Path, Spines, heirs, moves_at, same_upto}
 use Rattle.hum_score.specs.Rules.{fault_of}
 use Rattle.hum_score.proofs.Cases.{by_bool}
 use Rattle.hum_path.proofs.Steady.{same_upto_length, get-same_upto_first}
@@ -22,9 +22,7 @@ use Rattle.hum_places.proofs.Heirs.{Asks, splits, joins, changes, adds, ends, no
 use Rattle.hum_places.proofs.Above.{cell_of, other_of}
 
 further : (t : List ℕ) (ts : List (List ℕ)) (k : ℕ) → ¬ IsJoin ts (k + 1) → ¬ IsJoin (t ∷ ts) (suc k + 1)
-further t ts k none e =
-    let same : suc (k + 1) ≡ suc k + 1 = omega arith in
-    none (ap (token_at (t ∷ ts)) same ∙ e)
+further = grind (arith, nat_tests)
 
 pub run_from : (ts : List (List ℕ)) (j : ℕ) → IsJoin ts j → (k : ℕ) × (j ≤ k) × ((i : ℕ) → j ≤ i → i ≤ k → IsJoin ts i) × (¬ IsJoin ts (k + 1))
 run_from [] zero e = let w : [] ≡ codes "*v" = e in cc
@@ -35,13 +33,8 @@ run_from (t ∷ ts) (suc j) e =
     (suc r.0, omega (arith, order), shifted r.0 r.2, further t ts r.0 r.3)
   where
     shifted : (k : ℕ) → ((i : ℕ) → j ≤ i → i ≤ k → IsJoin ts i) → (i : ℕ) → suc j ≤ i → i ≤ suc k → IsJoin (t ∷ ts) i
-    shifted k all zero h l = absurd (omega (arith, h))
-    shifted k all (suc i) h l = all i (omega (arith, h)) (omega (arith, l))
-run_from (t ∷ []) zero e = (zero, omega arith, only, λ w. let v : [] ≡ codes "*v" = w in cc)
-  where
-    only : (i : ℕ) → 0 ≤ i → i ≤ 0 → IsJoin (t ∷ []) i
-    only zero h l = e
-    only (suc i) h l = absurd (omega (arith, l))
+    shifted = grind (arith, nat_tests)
+run_from (t ∷ []) zero e = grind (arith, nat_tests)
 run_from (t ∷ u ∷ us) zero e =
     by_bool (bytes_eq u (codes "*v"))
     (λ w.
@@ -50,12 +43,10 @@ run_from (t ∷ u ∷ us) zero e =
     (λ w. (zero, omega arith, only, other_text u (codes "*v") w))
   where
     only : (i : ℕ) → 0 ≤ i → i ≤ 0 → IsJoin (t ∷ u ∷ us) i
-    only zero h l = e
-    only (suc i) h l = absurd (omega (arith, l))
+    only = grind (arith, nat_tests)
 
     more : (k : ℕ) → ((i : ℕ) → 0 ≤ i → i ≤ k → IsJoin (u ∷ us) i) → (i : ℕ) → 0 ≤ i → i ≤ suc k → IsJoin (t ∷ u ∷ us) i
-    more k all zero h l = e
-    more k all (suc i) h l = all i (omega arith) (omega (arith, l))
+    more = grind (arith, nat_tests)
 
 pub equal_lists : {X : Type 0} (xs ys : List X) → length xs ≡ length ys → ((i : ℕ) → i < length xs → slice_get xs i ≡ slice_get ys i) → xs ≡ ys
 equal_lists [] [] h at = refl
@@ -99,17 +90,11 @@ module _ (names tokens : List (List ℕ)) (sound : fault_of (Spines names) (Spin
   sized j text e = width_is tokens j ∙ ap (λ (t : List ℕ). own (after_at false tokens j) (sign_of t)) e
 
   pub quiet_one : (after : Bool) (s : Sign) → (s ≡ Exclusive) ⊎ (s ≡ Plain) → own after s ≡ 1
-  quiet_one after s (inl e) = ap (own after) e
-  quiet_one after s (inr e) = ap (own after) e
+  quiet_one = grind (arith, nat_tests)
 
   -- no join stands to the left of the first
   pub alone : (j : ℕ) → after_at false tokens j ≡ false → (i : ℕ) → i + 1 ≡ j → ¬ IsJoin tokens i
-  alone zero w i e = absurd (omega (arith, e))
-  alone (suc j) w i e =
-      let same : i ≡ j = omega (arith, e) in
-      λ v.
-      let one : is_join (sign_of (token_at tokens j)) ≡ true = ap (λ (t : List ℕ). is_join (sign_of t)) (rw same at v) in
-      cc
+  alone = grind (arith, nat_tests)
 
   same_at : (i : ℕ) → i < length found → slice_get found i ≡ slice_get told i
   same_at i h =
@@ -146,10 +131,4 @@ still_by : (n : ℕ) → AreStill n (same_upto 0 n)
 still_by n = record { at = get-same_upto_first n; count = same_upto_length 0 n }
 
 pub stays : (path : Path) (row : Row) → StaysByPlace path row
-stays path (Comment text) = still_by (width path)
-stays Unopened (Spined Interpretation tokens) = still_by (length tokens)
-stays (Spines names) (Spined Interpretation tokens) = tt
-stays Unopened (Spined Local tokens) = still_by 0
-stays Unopened (Spined Values tokens) = still_by 0
-stays (Spines names) (Spined Local tokens) = still_by (length names)
-stays (Spines names) (Spined Values tokens) = still_by (length names)
+stays = grind (arith, nat_tests, still_by)

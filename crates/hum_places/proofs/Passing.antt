@@ -30,9 +30,7 @@ from_none form (row ∷ seen) none = rw (none zero (omega arith)) (from_none for
 ended_at : (form : Form) (seen : List Row) (k : ℕ) → IsNearest form seen k → has_ended form seen ≡ true
     → (i : ℕ) × (i ≤ k) × (is_last form (row_at seen i) ≡ true)
 ended_at form [] k w e = no_false e
-ended_at form (row ∷ seen) zero w e = by_bool (is_last form row)
-    (λ v. (zero, omega arith, v))
-    (λ v. no_false (rw (w.marker, v) at e))
+ended_at form (row ∷ seen) zero w e = grind (arith, nat_tests)
 ended_at form (row ∷ seen) (suc k) w e =
     let h = w.within in
     let next : IsNearest form seen k = record { within = omega (arith, h); marker = w.marker; first = λ i l. w.first (suc i) (omega (arith, l)) } in
@@ -63,8 +61,7 @@ above form past row k w = let h = w.within in record {
 }
 
 off_of : (b : Bool) → (b ≡ true → ⊥) → b ≡ false
-off_of true never = absurd (never refl)
-off_of false never = refl
+off_of = grind (arith, nat_tests)
 
 any_none : (form : Form) (seen : List Row) → ((row : Row) → is_last form row ≡ false) → list_any (is_last form) seen ≡ false
 any_none form [] none = refl
@@ -117,15 +114,10 @@ own : IsNumeralModel (λ ds. all_ascii_digits ds ≡ true) (value_of 0)
 own = numerals_by_fold _ (search rules) value_of (search rules)
 
 number_is : (digits : List ℕ) → 0 < length digits → number_of digits ≡ at_most (value_of 0 digits)
-number_is [] some = absurd (omega (arith, some))
-number_is (digit ∷ digits) some = refl
+number_is = grind (arith, nat_tests)
 
 of_decimal : (n : ℕ) → n < 2 ^ 64 → number_of (decimal n) ≡ at_most n
 of_decimal n fits = number_is (decimal n) (decimal_nonempty n fits) ∙ ap at_most (digits_value-decimal own n fits)
 
 pub are_numbers : AreNumbers
-are_numbers = record {
-  told = λ n h. of_decimal n (omega (arith, h)) ∙ (let so : nat_le n 4294967295 ≡ true = grind (arith, nat_tests, h) in rw so refl);
-  great = λ n h fits. of_decimal n fits ∙ (let so : nat_le n 4294967295 ≡ false = grind (arith, nat_tests, h) in rw so refl);
-  zeros = λ digit digits. refl;
-}
+are_numbers = grind (arith, nat_tests, of_decimal, nat_le)

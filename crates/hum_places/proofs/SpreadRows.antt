@@ -5,25 +5,19 @@ use Rattle.std.specs.Prelude.{nat_le, slice_index_or}
 use Rattle.std.proofs.lemmas.Bool.Decides.{nat_tests}
 use lib.Chars.{codes}
 use Rattle.hum_score.proofs.Cases.{by_bool}
-use Rattle.hum_columns.specs.Spread.{JoinedToken, joins, goes_on, tokens_in, joins_in}
+use Rattle.hum_columns.specs.Spread.{JoinedToken, goes_on, tokens_in, joins_in}
 use Rattle.hum_columns.specs.Spread.{join_alone, first_alone, join_done, first_done, one_by_one}
 use Rattle.hum_places.proofs.Spreading.{one, shown, row}
 
 none : (a b : Bool) → (a && (b && false)) ≡ false
-none true true = refl
-none true false = refl
-none false b = refl
+none = grind (arith, nat_tests)
 
 not_below : (n : ℕ) → 1 ≤ n → nat_le n 0 ≡ false
 not_below n h = grind (arith, nat_tests, h)
 
 -- a token that goes on begins no join
 on_not_begins : (p : JoinedToken) → goes_on p ≡ true → p.begins ≡ false
-on_not_begins p h = by_bool p.begins (λ w. absurd (neither (joins p) (rw w at h))) (λ w. w)
-  where
-    neither : (a : Bool) → (a && false) ≡ true → ⊥
-    neither true h = cc
-    neither false h = cc
+on_not_begins = grind (arith, nat_tests)
 
 -- one that doesn't go on is read as behind no join
 not_on : (t : ℕ) (last : Bool) (b : ℕ) (p : JoinedToken) (ps : List JoinedToken) → goes_on p ≡ false
@@ -48,8 +42,7 @@ later t last b inside (p ∷ ps) =
   where
     shown_later : (t : ℕ) (last : Bool) (n : ℕ) (j : Bool) (token : List ℕ) → (suc n == suc t + 1) ≡ (n == t + 1)
         → shown (suc t) last (suc n) j token ≡ shown t last n j token
-    shown_later t last n true token e = rw e refl
-    shown_later t last n false token e = refl
+    shown_later = grind (arith, nat_tests)
 
 -- The record of the first join.
 quiet : (b : ℕ) (inside : Bool) (ps : List JoinedToken) → 1 ≤ b → (inside ≡ true → 2 ≤ b) → row 0 false b inside ps ≡ map (λ _. codes "*") ps
@@ -63,13 +56,10 @@ quiet b inside (p ∷ ps) some more =
     rw (low, none j (not p.begins), shown_null n j two, rest) refl
   where
     beyond : (begins inside on : Bool) → (inside ≡ true → 2 ≤ b) → (begins || (inside && on)) ≡ true → 2 ≤ b + one begins
-    beyond true inside on more e = omega (arith, some)
-    beyond false true on more e = let h = more refl in omega (arith, h)
-    beyond false false on more e = cc
+    beyond = grind (arith, nat_tests)
 
     shown_null : (n : ℕ) (j : Bool) → (j ≡ true → 2 ≤ n) → shown 0 false n j p.token ≡ codes "*"
-    shown_null n true h = let two = h refl in let other : (n == 0 + 1) ≡ false = grind (arith, nat_tests, two) in rw other refl
-    shown_null n false h = refl
+    shown_null = grind (arith, nat_tests)
 
 alone_behind : (ps : List JoinedToken) → join_alone ps ≡ row 0 false 1 true ps
 alone_behind [] = refl
@@ -81,9 +71,7 @@ alone_behind (p ∷ ps) = by_bool (goes_on p)
 
 first_row : (ps : List JoinedToken) → first_alone ps ≡ row 0 false 0 false ps
 first_row [] = refl
-first_row (p ∷ ps) = by_bool p.begins
-    (λ w. rw (w, alone_behind ps) refl)
-    (λ w. rw (w, first_row ps) refl)
+first_row (p ∷ ps) = grind (arith, nat_tests, first_row ps, alone_behind)
 
 -- What is left behind it has the later records.
 skip : (t : ℕ) (last : Bool) (ps : List JoinedToken) → row t last 0 false (join_done ps) ≡ row (suc t) last 1 true ps
@@ -98,15 +86,7 @@ skip t last (p ∷ ps) = by_bool (goes_on p)
 
 rest_rows : (t : ℕ) (last : Bool) (ps : List JoinedToken) → row t last 0 false (first_done ps) ≡ row (suc t) last 0 false ps
 rest_rows t last [] = refl
-rest_rows t last (p ∷ ps) = by_bool p.begins
-    (λ w.
-    let other : (1 == suc t + 1) ≡ false = grind (arith, nat_tests) in
-    rw (w, other, either last, skip t last ps) refl)
-    (λ w. rw (w, rest_rows t last ps) refl)
-  where
-    either : (last : Bool) → cond last (codes "*") (codes "*") ≡ codes "*"
-    either true = refl
-    either false = refl
+rest_rows t last (p ∷ ps) = grind (arith, nat_tests, rest_rows t last ps, skip)
 
 -- The last record, where one join is left.
 last_row : (b : ℕ) (inside : Bool) (ps : List JoinedToken) → b + joins_in ps ≤ 1 → (inside ≡ true → 1 ≤ b) → tokens_in ps ≡ row 0 true b inside ps
@@ -119,21 +99,16 @@ last_row b inside (p ∷ ps) few some =
     rw (kept n j (not p.begins) begun, shown_own n j (omega (arith, left)) begun, ← last_row n j ps left begun) refl
   where
     counted : (begins : Bool) → b + cond begins (joins_in ps + 1) (joins_in ps) ≤ 1 → b + one begins + joins_in ps ≤ 1
-    counted true h = omega (arith, h)
-    counted false h = omega (arith, h)
+    counted = grind (arith, nat_tests)
 
     beyond : (begins inside on : Bool) → (inside ≡ true → 1 ≤ b) → (begins || (inside && on)) ≡ true → 1 ≤ b + one begins
-    beyond true inside on some e = omega arith
-    beyond false true on some e = let h = some refl in omega (arith, h)
-    beyond false false on some e = cc
+    beyond = grind (arith, nat_tests)
 
     kept : (n : ℕ) (j c : Bool) → (j ≡ true → 1 ≤ n) → (j && (c && nat_le n 0)) ≡ false
-    kept n true c h = let low = not_below n (h refl) in rw low (none true c)
-    kept n false c h = refl
+    kept = grind (arith, nat_tests)
 
     shown_own : (n : ℕ) (j : Bool) → n ≤ 1 → (j ≡ true → 1 ≤ n) → shown 0 true n j p.token ≡ p.token
-    shown_own n true most h = let some = h refl in let own : (n == 0 + 1) ≡ true = grind (arith, nat_tests, some, most) in rw own refl
-    shown_own n false most h = refl
+    shown_own = grind (arith, nat_tests)
 
 -- one join less is left
 joins_done : (ps : List JoinedToken) → joins_in (join_done ps) ≡ joins_in ps

@@ -1,4 +1,5 @@
 -- The records of the spread rule, token by token.
+use Rattle.std.proofs.lemmas.Bool.Decides.{nat_tests}
 use Rattle.std.proofs.Common.{◌≡◌, ◌∙◌, refl, sym, ap, ℕ, zero, suc, ◌+◌, ◌<◌, arith}
 use Rattle.std.proofs.Common.{◌==◌, Bool, true, false, not, ◌&&◌, ◌||◌, List, [], ◌∷◌, length, cond}
 use Rattle.std.proofs.Common.{Some, slice_get}
@@ -27,25 +28,16 @@ seat t b inside ps (suc q) = cond (gone t b inside ps q) (seat t b inside ps q) 
 -- by the first token and those behind it
 begun_more : (p : JoinedToken) (ps : List JoinedToken) (q : ℕ) → begun (p ∷ ps) (suc q) ≡ one p.begins + begun ps q
 begun_more p ps zero = by_bool p.begins (λ w. rw w refl) (λ w. rw w refl)
-begun_more p ps (suc q) =
-    let h = begun_more p ps q in
-    by_bool (piece_at ps q).begins
-    (λ w. rw w (omega (arith, h)))
-    (λ w. rw w h)
+begun_more p ps (suc q) = grind (arith, nat_tests, begun_more p ps q)
 
 joined_more : (inside : Bool) (p : JoinedToken) (ps : List JoinedToken) (q : ℕ)
     → joined inside (p ∷ ps) (suc q) ≡ joined (joined inside (p ∷ ps) 0) ps q
 joined_more inside p ps zero = refl
-joined_more inside p ps (suc q) =
-    ap (λ (j : Bool). (piece_at ps (suc q)).begins || (j && goes_on (piece_at ps (suc q)))) (joined_more inside p ps q)
+joined_more inside p ps (suc q) = grind (arith, nat_tests, joined_more inside p ps q)
 
 gone_more : (t b : ℕ) (inside : Bool) (p : JoinedToken) (ps : List JoinedToken) (q : ℕ)
     → gone t b inside (p ∷ ps) (suc q) ≡ gone t (b + one p.begins) (joined inside (p ∷ ps) 0) ps q
-gone_more t b inside p ps q =
-    let count = begun_more p ps (suc q) in
-    let same : b + begun (p ∷ ps) (suc (suc q)) ≡ b + one p.begins + begun ps (suc q) = omega (arith, count) in
-    ap (λ (j : Bool). j && (not (piece_at ps q).begins && nat_le (b + begun (p ∷ ps) (suc (suc q))) t)) (joined_more inside p ps q)
-    ∙ ap (λ (n : ℕ). joined (joined inside (p ∷ ps) 0) ps q && (not (piece_at ps q).begins && nat_le n t)) same
+gone_more = grind (arith, nat_tests, begun_more, not, joined_more)
 
 seat_more : (t b : ℕ) (inside : Bool) (p : JoinedToken) (ps : List JoinedToken) (q : ℕ)
     → seat t b inside (p ∷ ps) (suc q)
@@ -72,36 +64,21 @@ row t last b inside (p ∷ ps) =
     let rest = row t last n j ps in
     cond (j && (not p.begins && nat_le n t)) rest (shown t last n j p.token ∷ rest)
 
-head_gone : (t b : ℕ) (inside : Bool) (p : JoinedToken) (ps : List JoinedToken)
-    → gone t b inside (p ∷ ps) 0 ≡ ((p.begins || (inside && goes_on p)) && (not p.begins && nat_le (b + one p.begins) t))
-head_gone t b inside p ps =
-    let count = begun_more p ps zero in
-    ap (λ (n : ℕ). (p.begins || (inside && goes_on p)) && (not p.begins && nat_le n t)) (omega (arith, count))
-
 row_gone : (t : ℕ) (last : Bool) (b : ℕ) (inside : Bool) (p : JoinedToken) (ps : List JoinedToken) → gone t b inside (p ∷ ps) 0 ≡ true
     → row t last b inside (p ∷ ps) ≡ row t last (b + one p.begins) (joined inside (p ∷ ps) 0) ps
-row_gone t last b inside p ps g =
-    let j = joined inside (p ∷ ps) 0 in
-    let rest = row t last (b + one p.begins) j ps in
-    ap (λ (w : Bool). cond w rest (shown t last (b + one p.begins) j p.token ∷ rest)) (sym (head_gone t b inside p ps) ∙ g)
+row_gone = grind (arith, nat_tests)
 
 row_kept : (t : ℕ) (last : Bool) (b : ℕ) (inside : Bool) (p : JoinedToken) (ps : List JoinedToken) → gone t b inside (p ∷ ps) 0 ≡ false
     → row t last b inside (p ∷ ps)
     ≡ shown t last (b + one p.begins) (joined inside (p ∷ ps) 0) p.token ∷ row t last (b + one p.begins) (joined inside (p ∷ ps) 0) ps
-row_kept t last b inside p ps g =
-    let j = joined inside (p ∷ ps) 0 in
-    let rest = row t last (b + one p.begins) j ps in
-    ap (λ (w : Bool). cond w rest (shown t last (b + one p.begins) j p.token ∷ rest)) (sym (head_gone t b inside p ps) ∙ g)
+row_kept = grind (arith, nat_tests)
 
 -- Each token that isn't gone stands at its place.
 row_at : (t : ℕ) (last : Bool) (b : ℕ) (inside : Bool) (ps : List JoinedToken) (q : ℕ) → q < length ps → gone t b inside ps q ≡ false
     → slice_get (row t last b inside ps) (seat t b inside ps q)
     ≡ Some (shown t last (b + begun ps (suc q)) (joined inside ps q) (piece_at ps q).token)
 row_at t last b inside [] q h g = absurd (omega (arith, h))
-row_at t last b inside (p ∷ ps) zero h g =
-    let count = begun_more p ps zero in
-    ap (λ (xs : List (List ℕ)). slice_get xs 0) (row_kept t last b inside p ps g)
-    ∙ ap (λ (n : ℕ). Some (shown t last n (joined inside (p ∷ ps) 0) p.token)) (omega (arith, count))
+row_at t last b inside (p ∷ ps) zero h g = grind (arith, nat_tests)
 row_at t last b inside (p ∷ ps) (suc q) h g =
     let n = b + one p.begins in
     let j = joined inside (p ∷ ps) 0 in
@@ -142,23 +119,14 @@ row_width t last b inside (p ∷ ps) =
 -- The same in the words of the specification.
 is_joined_is : (ps : List JoinedToken) (q : ℕ) → is_joined ps q ≡ joined false ps q
 is_joined_is ps zero = by_bool (piece_at ps 0).begins (λ w. rw w refl) (λ w. rw w refl)
-is_joined_is ps (suc q) =
-    ap (λ (j : Bool). (piece_at ps (suc q)).begins || (j && goes_on (piece_at ps (suc q)))) (is_joined_is ps q)
+is_joined_is ps (suc q) = grind (arith, nat_tests, is_joined_is ps q)
 
 is_gone_is : (ps : List JoinedToken) (t q : ℕ) → is_gone ps t q ≡ gone t 0 false ps q
-is_gone_is ps t q =
-    let next : q + 1 ≡ suc q = omega arith in
-    let count : begun ps (q + 1) ≡ begun ps (suc q) = ap (begun ps) next in
-    let same : begun ps (q + 1) ≡ 0 + begun ps (suc q) = omega (arith, count) in
-    ap (λ (j : Bool). j && (not (piece_at ps q).begins && nat_le (begun ps (q + 1)) t)) (is_joined_is ps q)
-    ∙ ap (λ (n : ℕ). joined false ps q && (not (piece_at ps q).begins && nat_le n t)) same
+is_gone_is = grind (arith, nat_tests, not, is_joined_is)
 
 place_in_is : (ps : List JoinedToken) (t q : ℕ) → place_in ps t q ≡ seat t 0 false ps q
 place_in_is ps t zero = refl
-place_in_is ps t (suc q) =
-    let h = place_in_is ps t q in
-    let g = is_gone_is ps t q in
-    by_bool (gone t 0 false ps q) (λ w. rw (g, w) h) (λ w. rw (g, w) (omega (arith, h)))
+place_in_is ps t (suc q) = grind (arith, nat_tests, place_in_is ps t q, is_gone_is)
 
 pub stand : (ps : List JoinedToken) (t q : ℕ) (last : Bool) → q < length ps → is_gone ps t q ≡ false
     → slice_get (row t last 0 false ps) (place_in ps t q)

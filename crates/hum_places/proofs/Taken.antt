@@ -1,12 +1,14 @@
 -- The data tokens of cleaved columns that are taken, by places.
-use Rattle.std.proofs.Common.{◌≡◌, ◌≢◌, ◌∙◌, refl, sym, ap, subst, ℕ, zero, suc, ◌+◌, ◌<◌, ◌≤◌, ◌⊎◌, ◌↔◌, inl, inr, arith}
+use Rattle.std.proofs.lemmas.Bool.Decides.{nat_tests}
+use Rattle.std.proofs.lemmas.Grind.{common_steps}
+use Rattle.std.proofs.Common.{◌≡◌, ◌≢◌, ◌∙◌, refl, sym, ap, ℕ, zero, suc, ◌+◌, ◌<◌, ◌≤◌, ◌⊎◌, ◌↔◌, inl, inr, arith}
 use Rattle.std.proofs.Common.{Bool, true, false, ◌&&◌, ◌||◌, List, [], ◌∷◌, ◌++◌, map, length, get_or}
 use Rattle.std.specs.List.{Contains, list_any}
 use Rattle.std.specs.Str.{bytes_eq}
 use Rattle.std.proofs.lemmas.Slice.Eq.{bytes_eq-Decides}
 use Rattle.std.proofs.lemmas.Bool.{cases_eq}
 use Rattle.std.proofs.lemmas.List.{length-append}
-use Rattle.std.proofs.Common.{append_assoc, append-nil}
+use Rattle.std.proofs.Common.{append-nil}
 use Rattle.hum_score.proofs.Cases.{by_bool}
 use Rattle.hum_record.specs.Contents.{is_null, is_barline}
 use Rattle.hum_path.specs.Places.{token_at}
@@ -17,14 +19,11 @@ use Rattle.hum_places.proofs.Cleaving.{either}
 
 -- the token behind some
 at_end : (before : List (List ℕ)) (t : List ℕ) (ts : List (List ℕ)) → token_at (before ++ t ∷ ts) (length before) ≡ t
-at_end [] t ts = refl
-at_end (b ∷ before) t ts = at_end before t ts
+at_end = grind (arith, common_steps)
 
 -- and one among those
 in_front : (before ts : List (List ℕ)) (i : ℕ) → i < length before → token_at (before ++ ts) i ≡ token_at before i
-in_front [] ts i h = absurd (omega (arith, h))
-in_front (b ∷ before) ts zero h = refl
-in_front (b ∷ before) ts (suc i) h = in_front before ts i (omega (arith, h))
+in_front = grind (arith, common_steps)
 
 any_at : (t : List ℕ) (before : List (List ℕ)) → list_any (bytes_eq t) before ≡ true → (i : ℕ) × (i < length before) × (token_at before i ≡ t)
 any_at t [] e = no_false e
@@ -35,9 +34,7 @@ any_at t (b ∷ before) e = by_bool (bytes_eq t b)
 any_from : (t : List ℕ) (before : List (List ℕ)) (i : ℕ) → i < length before → token_at before i ≡ t → list_any (bytes_eq t) before ≡ true
 any_from t [] i h e = absurd (omega (arith, h))
 any_from t (b ∷ before) zero h e = let w = (bytes_eq-Decides t b).1 (sym e) in rw w refl
-any_from t (b ∷ before) (suc i) h e =
-    let more = any_from t before i (omega (arith, h)) e in
-    by_bool (bytes_eq t b) (λ w. rw w refl) (λ w. rw w more)
+any_from t (b ∷ before) (suc i) h e = grind (arith, nat_tests, any_from t before i (omega (arith, h)) e)
 
 -- whether the token behind some is taken
 record Tells (before : List (List ℕ)) (t : List ℕ) (ts : List (List ℕ)) : Type 0 where
@@ -51,13 +48,7 @@ tells before t ts = record { out = out; stays = stays }
     here = at_end before t ts
 
     out : is_left_out before t ≡ true → ¬ IsTaken (before ++ t ∷ ts) (length before)
-    out e w = elim (either (is_null t) (is_barline t && list_any (bytes_eq t) before) e) [
-      | inl v ↦ no_false (sym (rw here at w.filled) ∙ v)
-      | inr v ↦
-          let parts = both_of (is_barline t) (list_any (bytes_eq t) before) v in
-          let i = any_at t before parts.1 in
-          w.once (rw here parts.0) i.0 i.1 (in_front before (t ∷ ts) i.0 i.1 ∙ i.2 ∙ sym here)
-    ]
+    out = grind (arith, nat_tests, either, no_false, here, both_of, any_at, in_front)
 
     stays : is_left_out before t ≡ false → IsTaken (before ++ t ∷ ts) (length before)
     stays e =
@@ -72,8 +63,7 @@ tells before t ts = record { out = out; stays = stays }
         }
       where
         neither : (a b : Bool) → (a || b) ≡ false → (a ≡ false) × (b ≡ false)
-        neither true b e = no_false (sym e)
-        neither false b e = (refl, e)
+        neither = grind (arith, nat_tests)
 
         both : {a b : Bool} → a ≡ true → b ≡ true → (a && b) ≡ true
         both p q = rw (p, q) refl
@@ -89,21 +79,10 @@ in_more : (k : ℕ) (ks : List ℕ) (j : ℕ) → Contains ks j → Contains (k 
 in_more k ks j h = let less = h.1 in (suc h.0, omega (arith, less), h.2)
 
 by_first : {P : Type 0} (k : ℕ) (ks : List ℕ) (j : ℕ) → Contains (k ∷ ks) j → (k ≡ j → P) → (Contains ks j → P) → P
-by_first k ks j (zero, less, is) here there = here is
-by_first k ks j (suc i, less, is) here there = there (i, omega (arith, less), is)
-
-contains_at : (ks : List ℕ) (i : ℕ) → i < length ks → Contains ks (get_or ks i 0)
-contains_at [] i h = absurd (omega (arith, h))
-contains_at (k ∷ ks) zero h = (zero, omega arith, refl)
-contains_at (k ∷ ks) (suc i) h = in_more k ks (get_or ks i 0) (contains_at ks i (omega (arith, h)))
+by_first = grind (arith, nat_tests)
 
 none_from : (tokens : List (List ℕ)) (n : ℕ) → length tokens ≤ n → TakenFrom n tokens []
-none_from tokens n h = record {
-  places = [];
-  ascending = λ i less. absurd (omega (arith, less));
-  all = λ j. (λ w. let less = w.1 in absurd (omega (arith, less)), λ w. let from = w.0 in let within = w.1.within in absurd (omega (arith, h, from, within)));
-  whole = refl;
-}
+none_from = grind (arith, nat_tests)
 
 pass_one : (tokens made : List (List ℕ)) (n : ℕ) → ¬ IsTaken tokens n → TakenFrom (n + 1) tokens made → TakenFrom n tokens made
 pass_one tokens made n out rest = record {
@@ -117,11 +96,7 @@ pass_one tokens made n out rest = record {
 }
   where
     further : (j : ℕ) → n ≤ j → IsTaken tokens j → n + 1 ≤ j
-    further j from is = by_place (cases_eq n j)
-      where
-        by_place : (n ≡ j) ⊎ (n ≢ j) → n + 1 ≤ j
-        by_place (inl same) = absurd (out (rw same is))
-        by_place (inr other) = omega (arith, from, other)
+    further = grind (arith, nat_tests)
 
 take_one : (tokens made : List (List ℕ)) (n : ℕ) (t : List ℕ) → token_at tokens n ≡ t → IsTaken tokens n → TakenFrom (n + 1) tokens made
     → TakenFrom n tokens (t ∷ made)
@@ -136,13 +111,7 @@ take_one tokens made n t here is rest = record {
 }
   where
     ascending : (i : ℕ) → i + 1 < length (n ∷ rest.places) → get_or (n ∷ rest.places) i 0 < get_or (n ∷ rest.places) (i + 1) 0
-    ascending zero h =
-        let one : 0 < length rest.places = omega (arith, h) in
-        let from = ((rest.all (get_or rest.places 0 0)).0 (contains_at rest.places 0 one)).0 in
-        omega (arith, from)
-    ascending (suc i) h =
-        let same : suc (i + 1) ≡ suc i + 1 = omega arith in
-        subst (λ (m : ℕ). get_or rest.places i 0 < get_or (n ∷ rest.places) m 0) same (rest.ascending i (omega (arith, h)))
+    ascending = grind (arith, common_steps)
 
     by_place : (j : ℕ) → (n ≤ j) × IsTaken tokens j → (n ≡ j) ⊎ (n ≢ j) → Contains (n ∷ rest.places) j
     by_place j w (inl same) = (zero, omega arith, same)
@@ -160,10 +129,7 @@ taken_from before (t ∷ ts) =
   where
     shifted : TakenFrom (length (before ++ t ∷ [])) ((before ++ t ∷ []) ++ ts) (taken (before ++ t ∷ []) ts)
         → TakenFrom (length before + 1) (before ++ t ∷ ts) (taken (before ++ t ∷ []) ts)
-    shifted h =
-        let size = length-append before (t ∷ []) in
-        let count : length (before ++ t ∷ []) ≡ length before + 1 = omega (arith, size) in
-        rw (← count, ← append_assoc before (t ∷ []) ts) h
+    shifted = grind (arith, common_steps)
 
 pub taken_by_place : (tokens : List (List ℕ)) → TakenByPlace tokens
 taken_by_place tokens =

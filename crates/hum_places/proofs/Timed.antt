@@ -1,12 +1,14 @@
 -- The time of each record, by the notes that live before its cells.
+use Rattle.std.proofs.lemmas.Bool.Decides.{nat_tests}
+use Rattle.std.proofs.lemmas.Grind.{common_steps}
 use Rattle.std.proofs.Common.{◌≡◌, ◌∙◌, refl, sym, ap, subst, ℕ, zero, suc, ◌<◌, ◌↔◌, arith}
-use Rattle.std.proofs.Common.{Bool, true, false, List, [], ◌∷◌, map, length, get_or}
+use Rattle.std.proofs.Common.{Bool, true, List, [], ◌∷◌, map, length, get_or}
 use Rattle.std.proofs.Common.{Option, None, Some, slice_get}
 use Rattle.std.specs.Prelude.{is_some}
 use Rattle.std.specs.List.{Contains, list_any}
 use Rattle.std.proofs.lemmas.List.{length-map}
-use Rattle.hum_score.specs.declared.records.SpinedKind.TheVariants.{Local, Interpretation, Values}
-use Rattle.hum_score.specs.Row.{Row, Comment, Spined}
+use Rattle.hum_score.specs.declared.records.SpinedKind.TheVariants.{Values}
+use Rattle.hum_score.specs.Row.{Row, Spined}
 use Rattle.hum_score.specs.Spines.{width, exclusives}
 use Rattle.hum_score.specs.Score.{IsOpen, path_after}
 use Rattle.hum_score.proofs.Cases.{by_bool}
@@ -21,7 +23,7 @@ use Rattle.hum_places.specs.Grid.{IsLeastAfter}
 use Rattle.hum_places.specs.Clock.{name_at, HasNote, Lives, IsEnd, IsNext, TimeIsByPlace, LastIsKept}
 use Rattle.hum_places.proofs.Multiples.{before_later}
 use Rattle.hum_places.proofs.Times.{all_positive}
-use Rattle.hum_places.proofs.LeastEnds.{is_so, is_not, not_both, not_self, not_back, next_is_least}
+use Rattle.hum_places.proofs.LeastEnds.{is_so, is_not, not_both, not_self, next_is_least}
 use Rattle.hum_places.proofs.Clocked.{over_length, paired_length, timed_in_is, leading_at, leading_width, before_at, notes_at, leads_by_place}
 
 -- what isn't later is before what that is before
@@ -52,8 +54,7 @@ in_first : (x : Note) (xs : List Note) → Contains (x ∷ xs) x
 in_first x xs = (zero, omega arith, refl)
 
 by_first : {P : Type 0} (x : Note) (xs : List Note) (note : Note) → Contains (x ∷ xs) note → (x ≡ note → P) → (Contains xs note → P) → P
-by_first x xs note (zero, less, is) here there = here is
-by_first x xs note (suc k, less, is) here there = there (k, omega (arith, less), is)
+by_first = grind (arith, nat_tests)
 
 latest_is : (notes : List Note) → AreSound notes → LatestIs notes (latest notes)
 latest_is [] h = λ note w. let less = w.1 in omega (arith, less)
@@ -76,9 +77,7 @@ latest_is (note ∷ notes) h = more (latest notes) (latest_is notes h.1)
         (λ w. rw w (record { note = note; among = in_first note notes; ends = refl; last = nearer (is_not (end_of note) found w) }, positive))
       where
         further : IsBefore (end_of note) found → (other : Note) → Contains (note ∷ notes) other → ¬ IsBefore found (end_of other)
-        further sooner other w less = by_first note notes other w
-            (λ e. not_back (end_of note) found sooner (subst (λ (n : Note). IsBefore found (end_of n)) (sym e) less))
-            (λ v. is.last other v less)
+        further = grind (arith, nat_tests)
 
         nearer : NotBefore (end_of note) found → (other : Note) → Contains (note ∷ notes) other → ¬ IsBefore (end_of note) (end_of other)
         nearer late other w less = by_first note notes other w
@@ -98,9 +97,7 @@ get_within (y ∷ xs) zero x e = omega arith
 get_within (y ∷ xs) (suc i) x e = let h = get_within xs i x e in omega (arith, h)
 
 timed_within : (names : List (List ℕ)) (i : ℕ) → is_timed (get_or names i []) ≡ true → i < length names
-timed_within [] i e = let no : false ≡ true = e in cc
-timed_within (name ∷ names) zero e = omega arith
-timed_within (name ∷ names) (suc i) e = let h = timed_within names i e in omega (arith, h)
+timed_within = grind (arith, common_steps)
 
 all_at : (living : List (List Note)) → AllSound living → (i : ℕ) → AreSound (get_or living i [])
 all_at [] h i = tt
@@ -137,12 +134,7 @@ module _ (past : List Row) (h : IsOpen past) where
   sound_at i below = subst AreSound (before_at past h i below) (all_at before all_living i)
 
   lives_in : (i : ℕ) (note : Note) → i < width (path_after past) → Contains (living i) note ↔ Lives past i note
-  lives_in i note below =
-      let here = timed_in_is (is_timed (name_at past i)) (leading_at past i) note in
-      let leads = leads_by_place past h i note below in (
-        λ w. let v = here.0 w in (v.0, leads.0 v.1),
-        λ w. here.1 (w.0, leads.1 w.1),
-      )
+  lives_in = grind (arith, nat_tests, timed_in_is, leading_at, leads_by_place)
 
   some_end : {a b : Option Ratio} → ◌≡◌ {A = Option (Option Ratio)} (Some a) (Some b) → a ≡ b
   some_end e = cc
@@ -216,11 +208,7 @@ any_at (Some lasting ∷ notes) e = (zero, lasting, omega arith, refl)
 any_at (None ∷ notes) e = let h = any_at notes e in let less = h.2 in (suc h.0, h.1, omega (arith, less), h.3)
 
 some_any : (notes : List (Option Ratio)) (i : ℕ) (lasting : Ratio) → get_or notes i None ≡ Some lasting → list_any is_some notes ≡ true
-some_any [] i lasting e = cc
-some_any (None ∷ notes) zero lasting e = cc
-some_any (Some other ∷ notes) zero lasting e = refl
-some_any (None ∷ notes) (suc i) lasting e = some_any notes i lasting e
-some_any (Some other ∷ notes) (suc i) lasting e = refl
+some_any = grind (arith, common_steps)
 
 module _ (past : List Row) (tokens : List (List ℕ)) (h : IsOpen (Spined Values tokens ∷ past)) where
   abbrev notes : List (Option Ratio)
@@ -236,15 +224,10 @@ module _ (past : List Row) (tokens : List (List ℕ)) (h : IsOpen (Spined Values
       some_any notes i lasting (notes_at past tokens as_wide i (omega (arith, wide, below)) ∙ e)
     where
       timed_of : (timed : Bool) (token : List ℕ) (lasting : Ratio) → note_of timed token ≡ Some lasting → timed ≡ true
-      timed_of true token lasting e = refl
-      timed_of false token lasting e = cc
+      timed_of = grind (arith, nat_tests)
 
   from_any : list_any is_some notes ≡ true → HasNote past tokens
-  from_any e =
-      let some = any_at notes e in
-      let many = paired_length note_of (timed_in (path_after past)) tokens (length-map (exclusives (path_after past)) is_timed ∙ sym as_wide) in
-      let within = some.2 in
-      (some.0, some.1, sym (notes_at past tokens as_wide some.0 (omega (arith, many, within))) ∙ some.3)
+  from_any = grind (arith, nat_tests, any_at, paired_length, length-map, as_wide, notes_at)
 
   pub time_by_place : TimeIsByPlace past tokens
   time_by_place = record {
@@ -254,7 +237,4 @@ module _ (past : List Row) (tokens : List (List ℕ)) (h : IsOpen (Spined Values
   }
 
 pub last_kept : (past : List Row) (row : Row) → LastIsKept past row
-last_kept past (Comment text) = refl
-last_kept past (Spined Local tokens) = refl
-last_kept past (Spined Interpretation tokens) = refl
-last_kept past (Spined Values tokens) = (λ time e. rw e refl, λ e. rw e refl)
+last_kept = grind (arith, nat_tests)

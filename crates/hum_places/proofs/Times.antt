@@ -1,14 +1,15 @@
 -- Times and ends on the clock have bottoms above 0.
-use Rattle.std.proofs.Common.{List, [], ◌∷◌, map, Option, None, Some, arith}
+use Rattle.std.proofs.lemmas.Bool.Decides.{nat_tests}
+use Rattle.std.proofs.Common.{List, [], ◌∷◌, map, Option, arith}
 use Rattle.std.specs.Prelude.{is_some}
 use Rattle.std.specs.List.{list_any}
 use Rattle.hum_score.specs.declared.records.SpinedKind.TheVariants.{Local, Interpretation, Values}
 use Rattle.hum_score.specs.Row.{Row, Comment, Spined}
 use Rattle.hum_score.proofs.Cases.{by_bool}
 use Rattle.hum_score.specs.Score.{path_after}
-use Rattle.hum_frac.specs.Ratio.{Ratio, is_before}
+use Rattle.hum_frac.specs.Ratio.{Ratio}
 use Rattle.hum_timebase.specs.Notes.{timed_in, notes_of}
-use Rattle.hum_timebase.specs.Ends.{Note, latest, sooner, beyond, next_end, living_before, living_after}
+use Rattle.hum_timebase.specs.Ends.{Note, latest, next_end, living_before}
 use Rattle.hum_timebase.specs.Clock.{Clock, time_after, time_of, ticked, clock_after}
 use Rattle.hum_timebase.proofs.Lasting.{IsPositive, ArePositive, AllSound, latest_positive, before_sound, all_sound}
 
@@ -16,23 +17,12 @@ pub all_positive : (living : List (List Note)) → AllSound living → ArePositi
 all_positive [] h = tt
 all_positive (notes ∷ living) h = (latest_positive notes h.0, all_positive living h.1)
 
-beyond_positive : (time : Ratio) (end : Option Ratio) → IsPositive end → IsPositive (beyond time end)
-beyond_positive time None h = tt
-beyond_positive time (Some end) h = by_bool (is_before time end) (λ w. rw w h) (λ w. rw w tt)
-
-sooner_positive : (a b : Option Ratio) → IsPositive a → IsPositive b → IsPositive (sooner a b)
-sooner_positive None b p q = q
-sooner_positive (Some a) None p q = p
-sooner_positive (Some a) (Some b) p q = by_bool (is_before b a) (λ w. rw w q) (λ w. rw w p)
-
 next_positive : (time : Ratio) (ends : List (Option Ratio)) → ArePositive ends → IsPositive (next_end time ends)
 next_positive time [] h = tt
-next_positive time (end ∷ ends) h =
-    sooner_positive (beyond time end) (next_end time ends) (beyond_positive time end h.0) (next_positive time ends h.1)
+next_positive time (end ∷ ends) h = grind (arith, nat_tests, next_positive time ends h.1)
 
 time_positive : (last : Option Ratio) (ends : List (Option Ratio)) → ArePositive ends → IsPositive (time_after last ends)
-time_positive None ends h = omega arith
-time_positive (Some last) ends h = next_positive last ends h
+time_positive = grind (arith, nat_tests, next_positive)
 
 time_of_positive : (last : Option Ratio) (notes ends : List (Option Ratio)) → ArePositive ends → IsPositive (time_of last notes ends)
 time_of_positive last notes ends h = by_bool (list_any is_some notes) (λ w. rw w (time_positive last ends h)) (λ w. rw w tt)
@@ -42,14 +32,11 @@ before_of past = living_before (timed_in (path_after past)) (clock_after past).l
 
 last_ticked : (clock : Clock) (time : Option Ratio) (notes : List (Option Ratio)) (before : List (List Note))
     → IsPositive clock.last → IsPositive time → IsPositive (ticked clock time notes before).last
-last_ticked clock None notes before h p = h
-last_ticked clock (Some time) notes before h p = p
+last_ticked = grind (arith, nat_tests)
 
 next_ticked : (clock : Clock) (time : Option Ratio) (notes : List (Option Ratio)) (before : List (List Note))
     → IsPositive clock.next → AllSound (ticked clock time notes before).leading → IsPositive (ticked clock time notes before).next
-next_ticked clock None notes before h sound = h
-next_ticked clock (Some time) notes before h sound =
-    next_positive time (map latest (living_after time notes before)) (all_positive (living_after time notes before) sound)
+next_ticked = grind (arith, nat_tests, next_positive, all_positive)
 
 -- the time of the last record with notes, and the least end after it
 pub last_positive : (past : List Row) → IsPositive (clock_after past).last

@@ -1,7 +1,8 @@
 -- Scores stay scores.
+use Rattle.std.proofs.lemmas.Grind.{common_steps}
 use Rattle.std.proofs.Common.{◌≡◌, ◌≢◌, ◌∙◌, refl, sym, ap, ℕ, zero, suc, ◌+◌, ◌≤◌, Bool, true, false, List, []}
-use Rattle.std.proofs.Common.{◌∷◌, ◌++◌, length, map, replicate, arith, subst, Option, None, Some}
-use Rattle.std.specs.Prelude.{◌&&◌, ◌==◌, not, is_some, Result, Ok, Err, if◌then◌else◌}
+use Rattle.std.proofs.Common.{◌∷◌, ◌++◌, length, map, replicate, arith, subst, Option, None}
+use Rattle.std.specs.Prelude.{◌&&◌, not, Result, Ok, if◌then◌else◌}
 use Rattle.std.specs.List.{list_any, list_all, find, AllByRecursion}
 use Rattle.std.proofs.lemmas.Bool.{and_parts, or_parts}
 use Rattle.std.proofs.lemmas.Bool.Decides.{nat_tests}
@@ -24,18 +25,15 @@ use Rattle.hum_path.proofs.Plain.{any_exclusive, plain_stays}
 use Rattle.hum_path.proofs.Staying.{plain_breaks}
 use Rattle.hum_frac.specs.Ratio.{Ratio}
 use Rattle.hum_stage.specs.declared.faults.Rule.{Rule}
-use Rattle.hum_stage.specs.declared.faults.Rule.TheVariants.{K3, B1, B2, F1}
 use Rattle.hum_score.specs.InOrder.{through, Follow}
 use Rattle.hum_stage.specs.Meaning.{KeepsScore}
 use Rattle.hum_stage.specs.Decided.{decisions, limit}
 use Rattle.hum_stage.proofs.Keeping.{at_once_keeps}
-use Rattle.hum_record.specs.Contents.{is_null}
-use Rattle.hum_timebase.specs.Notes.{timed_in, is_barline_record, notes_of, has_misread}
-use Rattle.hum_timebase.specs.Ends.{latest, next_end, living_before}
-use Rattle.hum_timebase.specs.Clock.{Clock, clock_after, time_after}
+use Rattle.hum_timebase.specs.Notes.{timed_in}
+use Rattle.hum_timebase.specs.Clock.{Clock, clock_after}
 use Rattle.hum_choices.specs.Timebase.{Pace}
-use Rattle.hum_timebase.specs.Timebase.{timebase, data_rows, timed_rows, on_grid, around}
-use Rattle.hum_timebase.specs.Timebase.{clashes, is_too_long, living_at, names_some, tb_token, tb_row}
+use Rattle.hum_timebase.specs.Timebase.{timebase, data_rows, timed_rows, around}
+use Rattle.hum_timebase.specs.Timebase.{names_some, tb_token, tb_row}
 use Rattle.hum_timebase.specs.Timebase.{interpretation_rows}
 use Rattle.hum_timebase.proofs.Writing.{some_named}
 
@@ -47,75 +45,34 @@ record IsAlike (n : ℕ) (row : Row) : Type 0 where
   is : row ≡ Spined Values tokens
   size : length tokens ≡ n
 
--- the rules ask only how many tokens there are
-same_fault : (path : Path) (old new : List (List ℕ)) → length new ≡ length old
-    → fault_of path (Spined Values new) ≡ fault_of path (Spined Values old)
-same_fault Unopened old new h = refl
-same_fault (Spines names) old new h = rw h refl
-
 alike_follow : (path : Path) (tokens : List (List ℕ)) (rows : List Row) → fault_of path (Spined Values tokens) ≡ None
     → AllByRecursion (IsAlike (length tokens)) rows → Follow path rows × (through path rows ≡ path)
 alike_follow path tokens [] sound h = (tt, refl)
 alike_follow path tokens (row ∷ rows) sound h =
-    let rest = alike_follow path tokens rows sound h.1 in
-    rw h.0.is ((same_fault path tokens h.0.tokens h.0.size ∙ sound, rest.0), rest.1)
+    grind (arith, nat_tests, alike_follow path tokens rows sound h.1)
 
 alike-append : (n : ℕ) (xs ys : List Row) → AllByRecursion (IsAlike n) xs → AllByRecursion (IsAlike n) ys → AllByRecursion (IsAlike n) (xs ++ ys)
-alike-append n [] ys p q = q
-alike-append n (x ∷ xs) ys p q = (p.0, alike-append n xs ys p.1 q)
+alike-append = grind (arith, common_steps)
 
 nulls_alike : (tokens : List (List ℕ)) (count : ℕ) → AllByRecursion (IsAlike (length tokens)) (replicate count (null_row (length tokens)))
 nulls_alike tokens zero = tt
 nulls_alike tokens (suc count) = (record { tokens = _; is = refl; size = length-replicate (length tokens) (codes ".") }, nulls_alike tokens count)
 
 around_alike : (before after : ℕ) (stays : Bool) (tokens : List (List ℕ)) → AllByRecursion (IsAlike (length tokens)) (around before stays after tokens)
-around_alike before after true tokens =
-    alike-append (length tokens) (replicate before (null_row (length tokens))) _ (nulls_alike tokens before)
-    (record { tokens = tokens; is = refl; size = refl }, nulls_alike tokens after)
-around_alike before after false tokens =
-    alike-append (length tokens) (replicate before (null_row (length tokens))) _ (nulls_alike tokens before) (nulls_alike tokens after)
+around_alike = grind (arith, nat_tests, alike-append, replicate, nulls_alike)
 
 timed_alike : (step : Ratio) (end time : Option Ratio) (notes before ends : List (Option Ratio)) (tokens : List (List ℕ)) (rows : List Row)
     → timed_rows step end time notes before ends tokens ≡ Ok rows → AllByRecursion (IsAlike (length tokens)) rows
-timed_alike step end None notes before ends tokens rows e = cc
-timed_alike step end (Some time) notes before ends tokens rows e = go (clashes time notes before) (list_any (is_too_long time) notes) e
-  where
-    go : (a b : Bool) → ◌≡◌ {A = Result (List Row) Rule}
-        (if a then Err B2 else if b then Err F1 else Ok (on_grid step end time (next_end time ends) tokens))
-        (Ok rows) → AllByRecursion (IsAlike (length tokens)) rows
-    go true b e = cc
-    go false true e = cc
-    go false false e =
-        let same : on_grid step end time (next_end time ends) tokens ≡ rows = cc in rw (← same) (around_alike _ _ _ tokens)
+timed_alike = grind (arith, nat_tests, around_alike)
 
 data_alike : (step : Ratio) (clock : Clock) (timed : List Bool) (tokens : List (List ℕ)) (rows : List Row)
     → data_rows step clock timed tokens ≡ Ok rows → AllByRecursion (IsAlike (length tokens)) rows
-data_alike step clock timed tokens rows e =
-    let notes = notes_of timed tokens in
-    let before = living_before timed clock.leading in
-    let time = time_after clock.last (map latest before) in
-    go (is_barline_record tokens) (list_all is_null tokens) (has_misread timed tokens) (not (list_any (λ flag. flag) timed)) (not (list_any is_some notes))
-    (timed_rows step clock.next time notes (map latest before) (map latest (living_at time notes before)) tokens)
-    (λ h. timed_alike step clock.next time notes (map latest before) (map latest (living_at time notes before)) tokens rows h) e
-  where
-    go : (a b c d f : Bool) (timed : Result (List Row) Rule) → (timed ≡ Ok rows → AllByRecursion (IsAlike (length tokens)) rows)
-        → (if a then Ok (Spined Values tokens ∷ []) else if b then Ok [] else if c then Err K3 else if d then Err B1 else if f then Ok [] else timed) ≡ Ok rows
-        → AllByRecursion (IsAlike (length tokens)) rows
-    go true b c d f timed more e = let same : Spined Values tokens ∷ [] ≡ rows = cc in rw (← same) (record { tokens = tokens; is = refl; size = refl }, tt)
-    go false true c d f timed more e = let same : [] ≡ rows = cc in rw (← same) tt
-    go false false true d f timed more e = cc
-    go false false false true f timed more e = cc
-    go false false false false true timed more e = let same : [] ≡ rows = cc in rw (← same) tt
-    go false false false false false timed more e = more e
+data_alike = grind (arith, nat_tests, timed_alike)
 
 -- ---- the record that tells the step
 
 tb_plain : (text : List ℕ) (token : List ℕ) → is_plain (sign_of (tb_token text token)) ≡ true
-tb_plain text token = go (is_exclusive (sign_of token))
-  where
-    go : (b : Bool) → is_plain (sign_of (if b then 42 ∷ 116 ∷ 98 ∷ text else 42 ∷ [])) ≡ true
-    go true = refl
-    go false = refl
+tb_plain = grind (arith, nat_tests)
 
 tbs_plain : (text : List ℕ) (tokens : List (List ℕ)) → all_plain (map (tb_token text) tokens) ≡ true
 tbs_plain text [] = refl
@@ -150,19 +107,13 @@ quiet_onward added b (Add ∷ signs) (x ∷ xs) h e = cc
 quiet_onward added b (End ∷ signs) (x ∷ xs) h e = cc
 
 filled_name : (token : List ℕ) → is_exclusive (sign_of token) ≡ true → is_empty token ≡ false
-filled_name [] h = cc
-filled_name (b ∷ bytes) h = grind (arith, nat_tests)
+filled_name = grind (arith, nat_tests)
 
 own_filled : (name token : List ℕ) → stays_unnamed name (sign_of token) ≡ false → is_empty (if is_exclusive (sign_of token) then token else name) ≡ false
 own_filled name token h = go (is_exclusive (sign_of token)) refl h
   where
-    and_true : (b : Bool) → (b && true) ≡ false → b ≡ false
-    and_true true e = cc
-    and_true false e = refl
-
     go : (b : Bool) → is_exclusive (sign_of token) ≡ b → (is_empty name && not b) ≡ false → is_empty (if b then token else name) ≡ false
-    go true e h = filled_name token e
-    go false e h = and_true (is_empty name) h
+    go = grind (arith, nat_tests)
 
 -- each spine has a name
 named_each : (names tokens : List (List ℕ)) → has_unnamed names (map sign_of tokens) ≡ false → list_any is_empty (renamed_each names tokens) ≡ false
@@ -186,8 +137,7 @@ record IsNamed (path : Path) (tokens : List (List ℕ)) : Type 0 where
   filled : list_any is_empty names ≡ false
 
 named_after : (path : Path) (tokens : List (List ℕ)) → names_some tokens ≡ true → fault_of path (Spined Interpretation tokens) ≡ None → IsNamed path tokens
-named_after Unopened tokens some sound =
-    let o = opens tokens sound in record { names = tokens; is = refl; wide = refl; filled = all_named tokens o.exclusive }
+named_after Unopened tokens some sound = grind (arith, nat_tests, opens, all_named)
 named_after (Spines names) tokens some sound =
     let o = obeys names tokens sound in
     let signs = map sign_of tokens in
@@ -202,11 +152,7 @@ named_after (Spines names) tokens some sound =
 
 text_sound : (names tokens : List (List ℕ)) → tokens ≢ [] → length names ≡ length tokens → list_any is_empty names ≡ false
     → find (breaks_as_text (Spines names) tokens) in_order ≡ None
-text_sound names [] some wide filled = absurd (some refl)
-text_sound names (token ∷ tokens) some wide filled =
-    let open_spines : (length names == 0) ≡ false = grind (arith, nat_tests, wide) in
-    let same : (suc (length tokens) == length names) ≡ true = grind (arith, nat_tests, wide) in
-    rw (open_spines, same, filled) refl
+text_sound = grind (arith, common_steps)
 
 mapped_some : (f : List ℕ → List ℕ) (tokens : List (List ℕ)) → tokens ≢ [] → map f tokens ≢ []
 mapped_some f [] some e = some refl
@@ -249,10 +195,8 @@ interpretation_step pace past tokens rows sound e = go (names_some tokens) refl 
 next_step : (pace : Pace) (past : List Row) (row : Row) (given : Path) (rows : List Row) → IsOpen (row ∷ past)
     → given ≡ path_after past → timebase pace past row ≡ Ok rows
     → Follow given rows × (through given rows ≡ path_after (row ∷ past))
-next_step pace past (Comment text) given rows sound leads e =
-    let one : Comment text ∷ [] ≡ rows = cc in rw (← one, leads) ((sound.1, tt), refl)
-next_step pace past (Spined Local tokens) given rows sound leads e =
-    let one : Spined Local tokens ∷ [] ≡ rows = cc in rw (← one, leads) ((sound.1, tt), refl)
+next_step pace past (Comment text) given rows sound leads e = grind (arith, nat_tests)
+next_step pace past (Spined Local tokens) given rows sound leads e = grind (arith, nat_tests)
 next_step pace past (Spined Interpretation tokens) given rows sound leads e =
     rw leads (interpretation_step pace past tokens rows sound e)
 next_step pace past (Spined Values tokens) given rows sound leads e =

@@ -1,8 +1,8 @@
 -- The kept ends are the ends of what leads to the columns' next cells.
+use Rattle.std.proofs.lemmas.Bool.Decides.{nat_tests}
 use Rattle.std.proofs.Common.{◌≡◌, ℕ, suc, ◌+◌, ◌*◌, ◌<◌, List, [], ◌∷◌, ◌++◌, map, Option, None, Some, Bool, true, false, refl, sym, ap, ◌∙◌, arith}
-use Rattle.std.specs.Prelude.{if◌then◌else◌, ◌&&◌}
-use Rattle.std.specs.Prelude.{is_some}
-use Rattle.std.specs.List.{list_any, list_all}
+use Rattle.std.specs.Prelude.{if◌then◌else◌}
+use Rattle.std.specs.List.{list_all}
 use mathlib.Core.Logic.{◌⊎◌, inl, inr}
 use Rattle.std.proofs.lemmas.Bool.Decides.{leb_tells}
 use native.Mathlib.Nat.{mul-pos}
@@ -12,12 +12,11 @@ use Rattle.hum_frac.proofs.Order.{before_trans, not_before_trans, NotBefore}
 use Rattle.hum_score.specs.declared.records.SpinedKind.TheVariants.{Local, Interpretation, Values}
 use Rattle.hum_score.specs.Row.{Row, Comment, Spined}
 use Rattle.hum_score.specs.declared.spines.Move.{Move}
-use Rattle.hum_score.specs.Spines.{moves_at}
 use Rattle.hum_score.specs.Score.{path_after}
 use Rattle.hum_path.specs.Chains.{goes_on}
 use Rattle.hum_kern.specs.Duration.{duration, value_in}
 use Rattle.hum_kern.proofs.Laws.{duration_greater, IsPositive as IsGreaterIf}
-use Rattle.hum_timebase.specs.Notes.{note_of, notes_of, timed_in, timed_at, first_duration, subtokens, is_sounding, or_else}
+use Rattle.hum_timebase.specs.Notes.{note_of, notes_of, timed_in, first_duration, or_else}
 use Rattle.hum_timebase.specs.Ends.{Note, end_of, later, sooner, latest, beyond, next_end, living_before, living_after, led_by}
 use Rattle.hum_timebase.specs.Timebase.{living_at}
 use Rattle.hum_timebase.specs.Clock.{Clock, time_after, time_of, led_on, moved_on, ticked, tick, clock_after}
@@ -79,19 +78,10 @@ later_assoc_of a b c p q r = elim (before_cases a b) [
     right e = ap (later (Some a)) e
 
 later_assoc : (a b c : Option Ratio) → IsPositive a → IsPositive b → IsPositive c → later (later a b) c ≡ later a (later b c)
-later_assoc None b c p q r = refl
-later_assoc (Some a) None c p q r = refl
-later_assoc (Some a) (Some b) None p q r = none (later (Some a) (Some b))
-  where
-    none : (x : Option Ratio) → later x None ≡ x
-    none None = refl
-    none (Some x) = refl
-later_assoc (Some a) (Some b) (Some c) p q r = later_assoc_of a b c p q r
+later_assoc = grind (arith, nat_tests, later_assoc_of)
 
 later_positive : (a b : Option Ratio) → IsPositive a → IsPositive b → IsPositive (later a b)
-later_positive None b p q = q
-later_positive (Some a) None p q = p
-later_positive (Some a) (Some b) p q = elim (before_cases a b) [ inl t ↦ rw t.0 q | inr t ↦ rw t.0 p ]
+later_positive = grind (arith, nat_tests)
 
 pub latest_positive : (notes : List Note) → AreSound notes → IsPositive (latest notes)
 latest_positive [] h = tt
@@ -119,13 +109,8 @@ led_sound j move (notes ∷ after) h = elim (goes_on j move) as
 
 latest-led_by : (j : ℕ) (move : Move) (after : List (List Note)) → AllSound after → latest (led_by j move after) ≡ end_by j move (map latest after)
 latest-led_by j move [] h = refl
-latest-led_by j move (notes ∷ after) h = elim (goes_on j move) as
-    (λ (b : Bool). latest (if b then notes ++ led_by (j + 1) move after else led_by (j + 1) move after) ≡ (if b
-    then later (latest notes) (end_by (j + 1) move (map latest after)) else end_by (j + 1) move
-    (map latest after))) [
-      | true ↦ latest-append notes _ h.0 (led_sound (j + 1) move after h.1) ∙ ap (later (latest notes)) (latest-led_by (j + 1) move after h.1)
-      | false ↦ latest-led_by (j + 1) move after h.1
-    ]
+latest-led_by j move (notes ∷ after) h =
+    grind (arith, nat_tests, latest-led_by (j + 1) move after h.1, latest-append, led_sound)
 
 latest-led : (moves : List Move) (after : List (List Note)) → AllSound after →
     map latest (map (λ move. led_by 0 move after) moves) ≡ map (λ move. end_by 0 move (map latest after)) moves
@@ -176,26 +161,20 @@ all_positive [] h = tt
 all_positive (notes ∷ living) h = (latest_positive notes h.0, all_positive living h.1)
 
 beyond_positive : (time : Ratio) (end : Option Ratio) → IsPositive end → IsPositive (beyond time end)
-beyond_positive time None h = tt
-beyond_positive time (Some end) h = elim (is_before time end) as (λ (b : Bool). IsPositive (if b then Some end else None)) [ true ↦ h | false ↦ tt ]
+beyond_positive = grind (arith, nat_tests)
 
 sooner_positive : (a b : Option Ratio) → IsPositive a → IsPositive b → IsPositive (sooner a b)
-sooner_positive None b p q = q
-sooner_positive (Some a) None p q = p
-sooner_positive (Some a) (Some b) p q = elim (is_before b a) as (λ (t : Bool). IsPositive (if t then Some b else Some a)) [ true ↦ q | false ↦ p ]
+sooner_positive = grind (arith, nat_tests)
 
 next_positive : (time : Ratio) (ends : List (Option Ratio)) → ArePositive ends → IsPositive (next_end time ends)
 next_positive time [] h = tt
 next_positive time (end ∷ ends) h = sooner_positive (beyond time end) (next_end time ends) (beyond_positive time end h.0) (next_positive time ends h.1)
 
 time_positive : (last : Option Ratio) (ends : List (Option Ratio)) → ArePositive ends → IsPositive (time_after last ends)
-time_positive None ends h = omega arith
-time_positive (Some last) ends h = next_positive last ends h
+time_positive = grind (arith, nat_tests, next_positive)
 
 time_of_positive : (last : Option Ratio) (notes ends : List (Option Ratio)) → ArePositive ends → IsPositive (time_of last notes ends)
-time_of_positive last notes ends h = elim (list_any is_some notes) as
-    (λ (b : Bool). IsPositive (if b then time_after last ends else None))
-    [ true ↦ time_positive last ends h | false ↦ tt ]
+time_of_positive = grind (arith, nat_tests, time_positive)
 
 -- ---- one record
 
@@ -207,21 +186,16 @@ kept-rested clock timed = ap (make clock.last clock.next) (latest-before timed c
 
 pub kept-moved : (clock : Clock) (own : List Bool) (moves : List Move) → AllSound clock.leading
     → kept_of (moved_on clock (living_before own clock.leading) moves) ≡ led moves (rested own (kept_of clock))
-kept-moved clock own moves h =
-    ap (make clock.last clock.next) (latest-led moves (living_before own clock.leading) (before_sound own clock.leading h))
-    ∙ ap (λ (ends : List (Option Ratio)). led moves (make clock.last clock.next ends)) (latest-before own clock.leading)
+kept-moved = grind (arith, nat_tests, latest-led, before_sound, latest-before)
 
 kept-ticked : (clock : Clock) (time : Option Ratio) (notes : List (Option Ratio)) (before : List (List Note))
     → kept_of (ticked clock time notes before) ≡ kept_at time notes (make clock.last clock.next (map latest before))
 kept-ticked clock None notes before = refl
-kept-ticked clock (Some time) notes before =
-    ap (λ (after : List (Option Ratio)). make (Some time) (next_end time after) after) (latest-after time notes before)
+kept-ticked clock (Some time) notes before = simp (latest-after)
 
 pub kept-tick : (clock : Clock) (timed : List Bool) (notes : List (Option Ratio))
     → kept_of (tick clock notes (living_before timed clock.leading)) ≡ struck notes (rested timed (kept_of clock))
-kept-tick clock timed notes =
-    kept-ticked clock (time_of clock.last notes (map latest (living_before timed clock.leading))) notes (living_before timed clock.leading)
-    ∙ ap (λ (ends : List (Option Ratio)). struck notes (make clock.last clock.next ends)) (latest-before timed clock.leading)
+kept-tick = grind (arith, nat_tests, kept-ticked, latest-before)
 
 ticked_sound : (clock : Clock) (time : Option Ratio) (notes : List (Option Ratio)) (before : List (List Note)) →
     IsPositive time → ArePositive notes → AllSound before → AllSound (ticked clock time notes before).leading
@@ -231,12 +205,10 @@ ticked_sound clock (Some time) notes before t n h = after_sound time notes befor
 -- ---- notes
 
 positive : (o : Option Ratio) → IsGreaterIf o → IsPositive o
-positive None h = tt
-positive (Some value) h = h.bottom
+positive = grind (arith, nat_tests)
 
 chosen_positive : (o rest : Option Ratio) → IsPositive o → IsPositive rest → IsPositive (or_else o rest)
-chosen_positive None rest h more = more
-chosen_positive (Some value) rest h more = h
+chosen_positive = grind (arith, nat_tests)
 
 first_positive : (parts : List (List ℕ)) → IsPositive (first_duration parts)
 first_positive [] = tt
@@ -244,9 +216,7 @@ first_positive (part ∷ parts) = chosen_positive (value_in (duration part)) (fi
     (positive (value_in (duration part)) (duration_greater part)) (first_positive parts)
 
 note_positive : (timed : Bool) (token : List ℕ) → IsPositive (note_of timed token)
-note_positive timed token = elim (timed && is_sounding token) as
-    (λ (b : Bool). IsPositive (if b then first_duration (subtokens token) else None))
-    [ true ↦ first_positive (subtokens token) | false ↦ tt ]
+note_positive = grind (arith, nat_tests, first_positive)
 
 notes_positive : (timed : List Bool) (tokens : List (List ℕ)) → ArePositive (notes_of timed tokens)
 notes_positive [] tokens = tt
@@ -258,11 +228,9 @@ notes_positive (timed ∷ more) (token ∷ tokens) = (note_positive timed token,
 pub all_sound : (past : List Row) → AllSound (clock_after past).leading
 all_sound [] = tt
 all_sound (Comment text ∷ past) = all_sound past
-all_sound (Spined Local tokens ∷ past) =
-    before_sound (timed_in (path_after past)) (clock_after past).leading (all_sound past)
+all_sound (Spined Local tokens ∷ past) = grind (arith, nat_tests, all_sound past, before_sound)
 all_sound (Spined Interpretation tokens ∷ past) =
-    all_led (moves_at (path_after past) tokens) (living_before (timed_at (path_after past) tokens) (clock_after past).leading)
-    (before_sound (timed_at (path_after past) tokens) (clock_after past).leading (all_sound past))
+    grind (arith, nat_tests, all_sound past, all_led, before_sound)
 all_sound (Spined Values tokens ∷ past) =
     let clock = clock_after past in
     let timed = timed_in (path_after past) in
@@ -283,5 +251,4 @@ all_before (false ∷ timed) ends h = cc
 
 -- where all columns are timed no end is dropped
 pub all_rested : (timed : List Bool) (kept : Kept) → list_all (λ flag. flag) timed ≡ true → rested timed kept ≡ kept
-all_rested timed kept h =
-    ap (λ (ends : List (Option Ratio)). record { last = kept.last; next = kept.next; ends = ends }) (all_before timed kept.ends h)
+all_rested = grind (arith, nat_tests, all_before)

@@ -1,7 +1,8 @@
 -- Lists that are gone through, from the front or from the back.
-use Rattle.std.proofs.Common.{◌≡◌, ◌≢◌, ◌∙◌, ℕ, zero, suc, ◌+◌, ◌-◌, ◌<◌, ◌≤◌, List, [], ◌∷◌, ◌++◌, map, length, take, drop, get_or}
-use Rattle.std.proofs.Common.{refl, sym, ap, arith, append_assoc, append-nil, drop-cons, add-one, Option, None, Some}
-use Rattle.std.proofs.lemmas.Bool.{eq-eqb, ne_eqb}
+use Rattle.std.proofs.lemmas.Grind.{common_steps}
+use Rattle.std.proofs.Common.{◌≡◌, ◌≢◌, ◌∙◌, ℕ, ◌+◌, ◌-◌, ◌<◌, ◌≤◌, List, [], ◌∷◌, ◌++◌, map, length, take, drop, get_or}
+use Rattle.std.proofs.Common.{refl, sym, ap, arith, drop-cons, Option, None, Some}
+use Rattle.std.proofs.lemmas.Bool.{eq-eqb}
 use Rattle.std.proofs.lemmas.List.{drop_all}
 use Rattle.hum_frac.specs.Ratio.{Ratio}
 use Rattle.hum_kern.specs.Runs.{run}
@@ -11,35 +12,20 @@ use Rattle.hum_timebase.specs.Reading.{is_part}
 -- all were gone through
 pub map_done : {A B : Type 0} (f : A → B) (done all : List B) (xs : List A) (j : ℕ) → length xs ≤ j
     → done ++ map f (drop j xs) ≡ all → done ≡ all
-map_done f done all xs j over h =
-    sym (append-nil done) ∙ ap (λ ys. done ++ map f ys) (sym (drop_all j xs over)) ∙ h
+map_done = grind (arith, common_steps)
 
 -- one more, at place j
 pub map_next : {A B : Type 0} (f : A → B) (done all : List B) (xs : List A) (j : ℕ) (x d : A) (b : B) → j < length xs
     → x ≡ get_or xs j d → b ≡ f x → done ++ map f (drop j xs) ≡ all → (done ++ b ∷ []) ++ map f (drop (j + 1) xs) ≡ all
-map_next f done all xs j x d b below at is h =
-    let next : drop j xs ≡ x ∷ drop (j + 1) xs = rw add-one (drop-cons xs j d below ∙ ap (λ y. y ∷ drop (suc j) xs) (sym at)) in
-    rw (is, append_assoc) (ap (λ ys. done ++ map f ys) (sym next) ∙ h)
-
--- the last element stands behind the others
-last_at : {A : Type 0} (xs : List A) (x : A) (k : ℕ) → suc k ≡ length xs → x ≡ get_or xs k x → take k xs ++ x ∷ [] ≡ xs
-last_at [] x k size at = absurd (omega arith)
-last_at (y ∷ []) x zero size at = ap (λ z. z ∷ []) at
-last_at (y ∷ []) x (suc k) size at = absurd (omega arith)
-last_at (y ∷ z ∷ zs) x zero size at = absurd (omega arith)
-last_at (y ∷ z ∷ zs) x (suc k) size at = ap (λ ys. y ∷ ys) (last_at (z ∷ zs) x k (omega arith) at)
+map_next = grind (arith, common_steps)
 
 -- from the back, one more has passed
 pub passed_more : {A : Type 0} (left passed all : List A) (x : A) → 1 ≤ length left → x ≡ get_or left (length left - 1) x
     → left ++ passed ≡ all → take (length left - 1) left ++ x ∷ passed ≡ all
-passed_more left passed all x some at h =
-    let size : suc (length left - 1) ≡ length left = omega (arith, some) in
-    sym (append_assoc (take (length left - 1) left) (x ∷ []) passed)
-    ∙ ap (λ xs. xs ++ passed) (last_at left x (length left - 1) size at) ∙ h
+passed_more = grind (arith, common_steps)
 
 pub all_passed : {A : Type 0} (left passed all : List A) → length left < 1 → left ++ passed ≡ all → passed ≡ all
-all_passed [] passed all none h = h
-all_passed (x ∷ left) passed all none h = absurd (omega (arith, none))
+all_passed = grind (arith, common_steps)
 
 -- where no end behind it is after a time, it tells whether one is
 pub none_beyond : (time : Ratio) (end : Option Ratio) (passed : List (Option Ratio)) → beyond time end ≡ None
@@ -58,9 +44,7 @@ least_more time least found end passed behind is = ap (λ next. sooner (beyond t
 -- a run of bytes that aren't spaces
 pub run_more : (text : List ℕ) (n : ℕ) → n < length text → get_or text n 0 ≢ 32
     → run is_part (drop n text) ≡ run is_part (drop (n + 1) text) + 1
-run_more text n below part =
-    rw (drop-cons text n 0 below, ne_eqb (get_or text n 0) 32 part)
-    (ap (λ k. run is_part (drop k text) + 1) (sym (add-one n)))
+run_more = grind (arith, common_steps)
 
 pub run_ends : (text : List ℕ) (n : ℕ) → n < length text → get_or text n 0 ≡ 32 → run is_part (drop n text) ≡ 0
 run_ends text n below space = rw (drop-cons text n 0 below, eq-eqb (get_or text n 0) 32 space) refl

@@ -1,7 +1,8 @@
 -- Two lists, side by side.
+use Rattle.std.proofs.lemmas.Bool.Decides.{nat_tests}
+use Rattle.std.proofs.lemmas.Grind.{common_steps}
 use Rattle.std.proofs.Common.{◌≡◌, ◌∙◌, ℕ, zero, suc, ◌+◌, ◌<◌, ◌≤◌, List, [], ◌∷◌, ◌++◌, length, take, drop, get_or, refl, sym, ap, arith, add-one}
 use Rattle.std.specs.Prelude.{slice_set}
-use Rattle.std.proofs.lemmas.List.{drop_all}
 use Rattle.hum_timebase.specs.Pairs.{over}
 
 pub over_none : {A B : Type 0} (f : A → B → B) (xs : List A) → over f xs [] ≡ []
@@ -23,17 +24,12 @@ pub over_next : {A B : Type 0} (f : A → B → B) (xs : List A) (ys zs all : Li
     → x ≡ get_or xs j d → made ≡ f x (get_or ys j none) → zs ≡ slice_set ys j made
     → take j ys ++ over f (drop j xs) (drop j ys) ≡ all
     → take (j + 1) zs ++ over f (drop (j + 1) xs) (drop (j + 1) zs) ≡ all
-over_next f xs ys zs all j x d made none p ex m e h =
-    let same : f (get_or xs j d) (get_or ys j none) ≡ made = ap (λ a. f a (get_or ys j none)) (sym ex) ∙ sym m in
-    rw (add-one, e, ← same) (over_more f xs ys j d none p ∙ h)
+over_next = grind (arith, nat_tests, get_or, add-one, over_more)
 
 pub whole : {B : Type 0} (k : ℕ) (zs : List B) → take k zs ++ drop k zs ≡ zs
-whole zero zs = refl
-whole (suc k) [] = refl
-whole (suc k) (z ∷ zs) = ap (λ xs. z ∷ xs) (whole k zs)
+whole = grind (arith, common_steps)
 
 -- all places were seen
 pub over_all : {A B : Type 0} (f : A → B → B) (xs : List A) (ys all : List B) (j : ℕ) → length xs ≤ j
     → take j ys ++ over f (drop j xs) (drop j ys) ≡ all → ys ≡ all
-over_all f xs ys all j p h =
-    let none = drop_all j xs p in sym (ap (λ zs. take j ys ++ over f zs (drop j ys)) none ∙ whole j ys) ∙ h
+over_all = grind (arith, common_steps)

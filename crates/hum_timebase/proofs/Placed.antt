@@ -1,7 +1,8 @@
 -- The notes of a record alone, and the columns that they stand for.
-use Rattle.std.proofs.Common.{◌≡◌, ◌∙◌, ℕ, zero, suc, ◌+◌, List, [], ◌∷◌, ◌++◌, length, take, drop, drop-cons, get_or, refl, sym, ap, arith}
+use Rattle.std.proofs.lemmas.Grind.{common_steps}
+use Rattle.std.proofs.Common.{◌≡◌, ◌∙◌, ℕ, zero, suc, ◌+◌, List, [], ◌∷◌, ◌++◌, length, take, drop, get_or, refl, sym, ap, arith}
 use Rattle.std.proofs.Common.{Bool, true, false, Option, None, Some}
-use Rattle.std.specs.Prelude.{◌||◌, ◌==◌, ◌<◌, ◌≤◌, not, is_some, slice_set, Result, Ok, Err, OnErr}
+use Rattle.std.specs.Prelude.{◌||◌, ◌==◌, ◌<◌, ◌≤◌, not, is_some, slice_set, Result, OnErr}
 use Rattle.std.proofs.lemmas.Bool.Decides.{nat_tests}
 use Rattle.std.proofs.lemmas.List.{drop_all}
 use Rattle.std.specs.List.{list_any}
@@ -20,10 +21,7 @@ next column = omega arith
 pub some_placed : (columns : List (Option Ratio)) (column : ℕ) → not (length (placed column columns) == 0) ≡ list_any is_some columns
 some_placed [] column = refl
 some_placed (None ∷ columns) column = some_placed columns (column + 1)
-some_placed (Some lasting ∷ columns) column = filled (length (placed (column + 1) columns))
-  where
-    filled : (n : ℕ) → not (suc n == 0) ≡ true
-    filled n = grind (arith, nat_tests)
+some_placed (Some lasting ∷ columns) column = grind (arith, nat_tests)
 
 -- a note whose end doesn't fit
 abbrev pub long_of : Ratio → NoteAt → Bool
@@ -42,8 +40,7 @@ abbrev pub clash_of : Ratio → List (Option Ratio) → NoteAt → Bool
 clash_of time ends note = clash time (Some note.lasting) (get_or ends note.column None)
 
 clash_none : (time : Ratio) (own : Option Ratio) → clash time own None ≡ false
-clash_none time None = refl
-clash_none time (Some lasting) = refl
+clash_none = grind (arith, nat_tests)
 
 clashes_none : (time : Ratio) (columns : List (Option Ratio)) → clashes time columns [] ≡ false
 clashes_none time [] = refl
@@ -110,28 +107,17 @@ sounded_placed time (Some lasting ∷ columns) ends column =
 pub sounded_more : (time : Ratio) (notes : List NoteAt) (j : ℕ) (note other : NoteAt) (ends own all : List (Option Ratio)) → j < length notes
     → note ≡ get_or notes j other → own ≡ slice_set ends note.column (Some (plus time note.lasting))
     → sounded time (drop j notes) ends ≡ all → sounded time (drop (j + 1) notes) own ≡ all
-sounded_more time notes j note other ends own all below at made h =
-    ap (λ k. sounded time (drop k notes) own) (next j)
-    ∙ ap (sounded time (drop (suc j) notes)) made
-    ∙ ap (λ (n : NoteAt). sounded time (n ∷ drop (suc j) notes) ends) at
-    ∙ ap (λ ns. sounded time ns ends) (sym (drop-cons notes j other below))
-    ∙ h
+sounded_more = grind (arith, common_steps)
 
 pub short_more : (time : Ratio) (notes : List NoteAt) (j : ℕ) (note other : NoteAt) (all : Bool) → j < length notes
     → note ≡ get_or notes j other → is_too_long time (Some note.lasting) ≡ false
     → list_any (long_of time) (drop j notes) ≡ all → list_any (long_of time) (drop (j + 1) notes) ≡ all
-short_more time notes j note other all below at fits h =
-    let short : long_of time (get_or notes j other) ≡ false = ap (long_of time) (sym at) ∙ fits in
-    ap (λ k. list_any (long_of time) (drop k notes)) (next j)
-    ∙ sym (ap (λ b. b || list_any (long_of time) (drop (suc j) notes)) short)
-    ∙ ap (list_any (long_of time)) (sym (drop-cons notes j other below))
-    ∙ h
+short_more = grind (arith, common_steps)
 
 -- a note that answers a test, and the end of the notes
 pub some_here : (f : NoteAt → Bool) (notes : List NoteAt) (j : ℕ) (note other : NoteAt) (all : Bool) → j < length notes → note ≡ get_or notes j other
     → f note ≡ true → list_any f (drop j notes) ≡ all → all ≡ true
-some_here f notes j note other all below at hit h =
-    sym h ∙ ap (list_any f) (drop-cons notes j other below) ∙ ap (λ b. b || list_any f (drop (suc j) notes)) (ap f (sym at) ∙ hit)
+some_here = grind (arith, common_steps)
 
 pub none_left : (f : NoteAt → Bool) (notes : List NoteAt) (j : ℕ) (all : Bool) → length notes ≤ j → list_any f (drop j notes) ≡ all → all ≡ false
 none_left f notes j all past h = sym h ∙ ap (list_any f) (drop_all j notes past)
@@ -141,5 +127,4 @@ pub all_sounded : (time : Ratio) (notes : List NoteAt) (j : ℕ) (ends all : Lis
 all_sounded time notes j ends all past h = sym (ap (λ left. sounded time left ends) (drop_all j notes past)) ∙ h
 
 pub on_err : {A E Q : Type 0} (r : Result A E) → Q → OnErr r Q
-on_err (Ok value) q = tt
-on_err (Err fault) q = q
+on_err = grind (arith, nat_tests)

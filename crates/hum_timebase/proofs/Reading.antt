@@ -1,10 +1,11 @@
 -- What is read of a record, token by token.
+use Rattle.std.proofs.lemmas.Bool.Decides.{nat_tests}
+use Rattle.std.proofs.lemmas.Grind.{common_steps}
 use Rattle.std.proofs.Common.{◌≡◌, ◌∙◌, ℕ, zero, suc, ◌+◌, ◌<◌, ◌≤◌, List, [], ◌∷◌, ◌++◌, map, length, drop, get_or}
-use Rattle.std.proofs.Common.{refl, sym, ap, arith, add-one, append_assoc, append-nil, Bool, true, false, Option, None, Some}
-use Rattle.std.specs.Prelude.{◌&&◌, ◌||◌, not, is_some, if◌then◌else◌}
+use Rattle.std.proofs.Common.{refl, sym, ap, arith, add-one, append_assoc, Bool, true, false, Option, None}
+use Rattle.std.specs.Prelude.{◌||◌, is_some}
 use Rattle.std.specs.List.{list_any, list_all}
 use Rattle.std.proofs.lemmas.Bool.{or_parts}
-use Rattle.std.proofs.lemmas.List.{drop_all}
 use Rattle.hum_record.specs.Contents.{is_null, is_barline}
 use Rattle.hum_kern.specs.declared.KernFault.{KernFault}
 use Rattle.hum_timebase.specs.Notes.{is_timed, own_name, own_names, is_sounding, note_of, notes_of, is_misread, has_misread}
@@ -38,18 +39,12 @@ timed_more names tokens done all j b name token below is own at h =
 
 pub names_done : (names tokens : List (List ℕ)) (done all : List Bool) (j : ℕ) → length tokens ≤ j
     → done ++ map is_timed (own_names (drop j names) (drop j tokens)) ≡ all → done ≡ all
-names_done names tokens done all j over h =
-    sym (append-nil done) ∙ ap (λ left. done ++ map is_timed (own_names (drop j names) left)) (sym (drop_all j tokens over)) ∙ h
+names_done = grind (arith, common_steps)
 
 -- ---- what a data record holds
 
 none_sounding : (token : List ℕ) → is_sounding token ≡ false → is_barline token ≡ false → is_null token ≡ true
-none_sounding token s b = go (is_null token) (is_barline token) s b
-  where
-    go : (n b : Bool) → not (n || b) ≡ false → b ≡ false → n ≡ true
-    go true b s e = refl
-    go false true s e = cc
-    go false false s e = cc
+none_sounding = grind (arith, nat_tests)
 
 pub nulls_alone : (tokens : List (List ℕ)) → list_any is_sounding tokens ≡ false → list_any is_barline tokens ≡ false
     → list_all is_null tokens ≡ true
@@ -59,29 +54,16 @@ nulls_alone (token ∷ tokens) s b =
     let q = or_parts (is_barline token) (list_any is_barline tokens) b in
     rw (none_sounding token p.0 q.0) (nulls_alone tokens p.1 q.1)
 
-null_silent : (token : List ℕ) → is_sounding token ≡ true → is_null token ≡ false
-null_silent token s = go (is_null token) (is_barline token) s
-  where
-    go : (n b : Bool) → not (n || b) ≡ true → n ≡ false
-    go true b s = cc
-    go false b s = refl
-
 pub sounds_some : (tokens : List (List ℕ)) → list_any is_sounding tokens ≡ true → list_all is_null tokens ≡ false
 sounds_some [] s = cc
 sounds_some (token ∷ tokens) s = go (is_sounding token) refl s (λ more. sounds_some tokens more)
   where
-    either : (n all : Bool) → all ≡ false → (n && all) ≡ false
-    either true all e = e
-    either false all e = refl
-
     go : (b : Bool) → is_sounding token ≡ b → (b || list_any is_sounding tokens) ≡ true
         → (list_any is_sounding tokens ≡ true → list_all is_null tokens ≡ false) → list_all is_null (token ∷ tokens) ≡ false
-    go true e s more = rw (null_silent token e) refl
-    go false e s more = either (is_null token) (list_all is_null tokens) (more s)
+    go = grind (arith, nat_tests)
 
 silent_note : (timed : Bool) (token : List ℕ) → is_sounding token ≡ false → note_of timed token ≡ None
-silent_note true token e = rw e refl
-silent_note false token e = refl
+silent_note = grind (arith, nat_tests)
 
 -- without a token that sounds there are no notes
 pub no_notes : (timed : List Bool) (tokens : List (List ℕ)) → list_any is_sounding tokens ≡ false → list_any is_some (notes_of timed tokens) ≡ false
@@ -92,28 +74,13 @@ no_notes (timed ∷ more) (token ∷ tokens) s =
     rw (silent_note timed token p.0) (no_notes more tokens p.1)
 
 pub content_sounds : (tokens : List (List ℕ)) → content_of tokens ≡ Sounds → list_any is_sounding tokens ≡ true
-content_sounds tokens e = go (list_any is_sounding tokens) (list_any is_barline tokens) e
-  where
-    go : (s b : Bool) → (if s then Sounds else if b then Barlines else Nulls) ≡ Sounds → s ≡ true
-    go true b e = refl
-    go false true e = cc
-    go false false e = cc
+content_sounds = grind (arith, nat_tests)
 
 pub content_barlines : (tokens : List (List ℕ)) → content_of tokens ≡ Barlines → (list_any is_sounding tokens ≡ false) × (list_any is_barline tokens ≡ true)
-content_barlines tokens e = go (list_any is_sounding tokens) (list_any is_barline tokens) e
-  where
-    go : (s b : Bool) → (if s then Sounds else if b then Barlines else Nulls) ≡ Barlines → (s ≡ false) × (b ≡ true)
-    go true b e = cc
-    go false true e = (refl, refl)
-    go false false e = cc
+content_barlines = grind (arith, nat_tests)
 
 pub content_nulls : (tokens : List (List ℕ)) → content_of tokens ≡ Nulls → (list_any is_sounding tokens ≡ false) × (list_any is_barline tokens ≡ false)
-content_nulls tokens e = go (list_any is_sounding tokens) (list_any is_barline tokens) e
-  where
-    go : (s b : Bool) → (if s then Sounds else if b then Barlines else Nulls) ≡ Nulls → (s ≡ false) × (b ≡ false)
-    go true b e = cc
-    go false true e = cc
-    go false false e = (refl, refl)
+content_nulls = grind (arith, nat_tests)
 
 -- without a token that sounds nothing is refused
 no_misread : (timed : List Bool) (tokens : List (List ℕ)) → list_any is_sounding tokens ≡ false → has_misread timed tokens ≡ false
@@ -124,15 +91,10 @@ no_misread (timed ∷ more) (token ∷ tokens) s =
     rw (silent_read timed token p.0) (no_misread more tokens p.1)
   where
     silent_read : (timed : Bool) (token : List ℕ) → is_sounding token ≡ false → is_misread timed token ≡ false
-    silent_read true token e = rw e refl
-    silent_read false token e = refl
+    silent_read = grind (arith, nat_tests)
 
 sounds_by : (tokens : List (List ℕ)) → (list_any is_sounding tokens ≡ false → ⊥) → content_of tokens ≡ Sounds
-sounds_by tokens never = go (list_any is_sounding tokens) refl
-  where
-    go : (s : Bool) → list_any is_sounding tokens ≡ s → content_of tokens ≡ Sounds
-    go true e = rw e refl
-    go false e = absurd (never e)
+sounds_by = grind (arith, nat_tests)
 
 -- no tokens have no notes
 pub none_noted : (timed : List Bool) → notes_of timed [] ≡ []
@@ -146,15 +108,9 @@ none_misread (timed ∷ more) = refl
 -- what was read tells that a token sounds
 pub sounds_misread : (timed : List Bool) (tokens : List (List ℕ)) (notes : List NoteAt) (misread : Option KernFault) →
     Read timed tokens notes misread → is_some misread ≡ true → content_of tokens ≡ Sounds
-sounds_misread timed tokens notes (Some fault) read some = sounds_by tokens (λ none. let free = no_misread timed tokens none in cc)
-sounds_misread timed tokens notes None read some = cc
+sounds_misread = grind (arith, nat_tests, sounds_by, no_misread)
 
 pub sounds_noted : (timed : List Bool) (tokens : List (List ℕ)) (notes : List NoteAt) (misread : Option KernFault) (has : Bool) →
     Read timed tokens notes misread → is_some misread ≡ false → OfColumns notes (λ columns. has ≡ list_any is_some columns) → has ≡ true
     → content_of tokens ≡ Sounds
-sounds_noted timed tokens notes (Some fault) has read none is some = cc
-sounds_noted timed tokens notes None has read none is some =
-    sounds_by tokens (λ silent.
-    let free = no_notes timed tokens silent in
-    let noted = is (notes_of timed tokens) read.1 in
-    cc)
+sounds_noted = grind (arith, nat_tests, sounds_by, no_notes)

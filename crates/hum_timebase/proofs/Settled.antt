@@ -1,10 +1,9 @@
 -- A timed record that comes at the least end after the last one.
-use Rattle.std.proofs.Common.{◌≡◌, ◌∙◌, ℕ, zero, suc, ◌+◌, ◌-◌, ◌*◌, ◌/◌, ◌<◌, ◌≤◌, refl, sym, ap, arith, false}
+use Rattle.std.proofs.Common.{◌≡◌, ◌∙◌, ℕ, zero, suc, ◌+◌, ◌-◌, ◌*◌, ◌/◌, ◌<◌, ◌≤◌, sym, ap, arith}
 use Rattle.std.specs.Prelude.{Option, Some}
 use Rattle.std.proofs.lemmas.Bool.Decides.{nat_tests}
 use native.Mathlib.Nat.{div-lt_iff_lt-mul, add-mul, one-mul, div-zero}
-use Rattle.hum_frac.specs.Ratio.{Ratio, is_before}
-use Rattle.hum_frac.specs.Multiples.{multiples_between}
+use Rattle.hum_frac.specs.Ratio.{Ratio}
 use Rattle.hum_timebase.specs.Timebase.{multiples_from, count_before}
 
 -- what is rounded up is at most one more than what is rounded down
@@ -20,11 +19,7 @@ rounded x (suc y) =
 
 -- no multiples stand from a time to the same time
 pub none_from : (time step : Ratio) → multiples_from time time step ≡ 0
-none_from time step =
-    let same : is_before time time ≡ false = grind (arith, nat_tests) in
-    let most = rounded (time.top * step.bottom) (time.bottom * step.top) in
-    let none : multiples_between time time step ≡ 0 = omega (arith, most) in
-    rw (same, none) refl
+none_from = grind (arith, nat_tests, rounded)
 
 pub none_before : (step : Ratio) (next : Option Ratio) (time : Ratio) → next ≡ Some time → 0 ≡ count_before step next time
 none_before step next time at = sym (ap (λ end. count_before step end time) at ∙ none_from time step)

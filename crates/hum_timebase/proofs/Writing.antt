@@ -1,15 +1,15 @@
 -- The records that are made.
+use Rattle.std.proofs.lemmas.Grind.{common_steps}
 use Rattle.std.proofs.Common.{◌≡◌, ◌≢◌, ◌∙◌, ℕ, ◌+◌, ◌*◌, ◌<◌, ◌≤◌, List, [], ◌∷◌, ◌++◌, map, length, drop}
-use Rattle.std.proofs.Common.{drop-cons, get_or, refl, sym, ap, arith, add-one, append_assoc, length-append}
+use Rattle.std.proofs.Common.{get_or, refl, sym, ap, arith, length-append}
 use Rattle.std.proofs.Common.{Bool, true, false, Option, None, Some, Ok, subst}
-use Rattle.std.specs.Prelude.{◌&&◌, ◌==◌, nat_le, if◌then◌else◌}
+use Rattle.std.specs.Prelude.{◌==◌, if◌then◌else◌}
 use Rattle.std.specs.List.{list_any, AllByRecursion}
-use Rattle.std.proofs.lemmas.Bool.{false≢true}
 use Rattle.std.proofs.lemmas.Bool.Decides.{nat_tests}
-use Rattle.std.proofs.lemmas.List.{nil_from_length, drop_all}
+use Rattle.std.proofs.lemmas.List.{nil_from_length}
 use Rattle.std.proofs.lemmas.List.Folds.{list_any-append}
 use lib.Chars.{codes}
-use Rattle.hum_score.specs.declared.records.Kind.TheVariants.{Global, Interpretation as AnyInterpretation, Values as AnyValues}
+use Rattle.hum_score.specs.declared.records.Kind.TheVariants.{Interpretation as AnyInterpretation, Values as AnyValues}
 use Rattle.hum_score.specs.declared.records.SpinedKind.{SpinedKind}
 use Rattle.hum_score.specs.declared.records.SpinedKind.TheVariants.{Local, Interpretation, Values}
 use Rattle.hum_score.specs.Row.{Row, Comment, Spined, kind_of, tokens_of, text_of}
@@ -17,18 +17,17 @@ use Rattle.hum_score.specs.Spelling.{IsToken, IsTextOf, has_byte}
 use Rattle.hum_record.specs.Building.{spelled}
 use Rattle.hum_record.specs.Nulls.{nulls, null_row}
 use Rattle.hum_record.proofs.Drafts.{spelled_front}
-use Rattle.hum_frac.specs.Ratio.{Ratio, reduced}
-use Rattle.hum_kern.specs.declared.Length.{Length}
+use Rattle.hum_frac.specs.Ratio.{Ratio}
 use Rattle.hum_kern.specs.Classes.{is_digit, is_dot, is_grace_sign}
-use Rattle.hum_kern.specs.Value.{value_of, dotted}
-use Rattle.hum_kern.specs.Duration.{Spelling, spelling_of, is_empty, is_torn, second_length, with_dots, said, recip_in, recip_of, recip}
+use Rattle.hum_kern.specs.Value.{value_of}
+use Rattle.hum_kern.specs.Duration.{Spelling, spelling_of, is_empty, is_torn, second_length, with_dots, said, recip_of, recip}
 use Rattle.hum_kern.specs.Parts.{AreParts, quotient_text, IsSecond}
 use Rattle.hum_kern.proofs.Parts.{are_parts}
 use Rattle.hum_kern.proofs.Laws.{recip_greater}
 use Rattle.hum_kern.proofs.Short.{recip_short}
 use Rattle.hum_timebase.specs.Timebase.{names_some, tb_token}
 use Rattle.hum_score.specs.Sign.{sign_of, is_exclusive}
-use Rattle.hum_score.specs.Spines.{Path, Unopened, Spines}
+use Rattle.hum_score.specs.Spines.{Path}
 use Rattle.hum_score.specs.Rules.{fault_of}
 use Rattle.hum_score.specs.Score.{IsOpen, path_after}
 use Rattle.hum_path.proofs.Obeyed.{opens, obeys, narrow}
@@ -36,16 +35,9 @@ use Rattle.hum_timebase.specs.Writing.{IsPace}
 
 -- ---- what a duration is written with
 
-same_byte : (x b : ℕ) → (x == b) ≡ true → x ≡ b
-same_byte x b h = grind (arith, nat_tests, h)
-
 free_run : (p : ℕ → Bool) (b : ℕ) (run : List ℕ) → p b ≡ false → AllByRecursion (λ x. p x ≡ true) run → has_byte b run ≡ false
 free_run p b [] other all = refl
-free_run p b (x ∷ run) other all = go (x == b) refl (free_run p b run other all.1)
-  where
-    go : (same : Bool) → (x == b) ≡ same → has_byte b run ≡ false → has_byte b (x ∷ run) ≡ false
-    go true e more = absurd (false≢true (sym other ∙ rw (same_byte x b e) at all.0))
-    go false e more = rw e more
+free_run p b (x ∷ run) other all = grind (arith, nat_tests, free_run p b run other all.1)
 
 free-append : (b : ℕ) (xs ys : List ℕ) → has_byte b xs ≡ false → has_byte b ys ≡ false → has_byte b (xs ++ ys) ≡ false
 free-append b xs ys p q = rw (list_any-append (λ x. x == b) xs ys, p) q
@@ -57,8 +49,7 @@ record IsForeign (b : ℕ) : Type 0 where
   percent : (37 == b) ≡ false
 
 quotient_length : (second : Option (List ℕ)) → length (quotient_text second) ≡ second_length second
-quotient_length None = refl
-quotient_length (Some second) = omega arith
+quotient_length = grind (arith, nat_tests)
 
 free_quotient : (b : ℕ) (bytes : List ℕ) (parts : Spelling) → AreParts bytes parts → IsForeign b → has_byte b (quotient_text parts.second) ≡ false
 free_quotient b bytes parts h foreign = of parts.second h.second
@@ -91,27 +82,9 @@ free_whole b bytes parts h whole foreign =
     )
     )
 
-whole_found : (bytes : List ℕ) (found : Length) (step : Ratio) → recip_of bytes (Ok found) ≡ Ok step
-    → (found.value ≢ None) × (found.start ≡ 0) × (found.end ≡ length bytes)
-whole_found bytes found step h = go found.value (found.start == 0) (found.end == length bytes) refl refl h
-  where
-    go : (v : Option Ratio) (a b : Bool) → (found.start == 0) ≡ a → (found.end == length bytes) ≡ b → recip_in v (a && b) ≡ Ok step
-        → (v ≢ None) × (found.start ≡ 0) × (found.end ≡ length bytes)
-    go None a b e f h = cc
-    go (Some v) true true e f h = (λ n. cc, grind (arith, nat_tests, e), grind (arith, nat_tests, f))
-    go (Some v) true false e f h = cc
-    go (Some v) false b e f h = cc
-
 whole_dots : (bytes : List ℕ) (start end dots : ℕ) (value : Option Ratio) (step : Ratio) → recip_of bytes (with_dots start end value dots) ≡ Ok step
     → (start ≡ 0) × (end + dots ≡ length bytes)
-whole_dots bytes start end dots None step h = cc
-whole_dots bytes start end dots (Some value) step h = go (nat_le dots 6) refl h
-  where
-    go : (b : Bool) → nat_le dots 6 ≡ b → recip_of bytes (with_dots start end (Some value) dots) ≡ Ok step → (start ≡ 0) × (end + dots ≡ length bytes)
-    go true e h = let w = whole_found bytes
-        (record { value = Some (reduced (dotted value dots)); start = start; end = end + dots }) step
-        (rw e at h) in (w.1, w.2)
-    go false e h = let w = rw e at h in cc
+whole_dots = grind (arith, nat_tests)
 
 whole_said : (bytes : List ℕ) (parts : Spelling) (step : Ratio) → recip_of bytes (said parts) ≡ Ok step → IsWhole bytes parts
 whole_said bytes parts step h = go (is_torn parts) refl h
@@ -155,8 +128,7 @@ is_pace step text h =
 
 pub one_more : (f : List ℕ → List ℕ) (tokens done all : List (List ℕ)) (j : ℕ) (made : List ℕ) → j < length tokens → made ≡ f (get_or tokens j [])
     → done ++ map f (drop j tokens) ≡ all → (done ++ made ∷ []) ++ map f (drop (j + 1) tokens) ≡ all
-one_more f tokens done all j made below is h =
-    rw (is, append_assoc, add-one) (ap (λ xs. done ++ map f xs) (sym (drop-cons tokens j [] below)) ∙ h)
+one_more = grind (arith, common_steps)
 
 -- the front of what is made is no longer than all
 pub front_fits : (f : List ℕ → List ℕ) (tokens done all : List (List ℕ)) (j : ℕ) (made : List ℕ) → j < length tokens → made ≡ f (get_or tokens j [])
@@ -168,61 +140,36 @@ front_fits f tokens done all j made below is h =
 -- a record with tokens becomes one with tokens
 pub has_made : (f : List ℕ → List ℕ) (tokens done : List (List ℕ)) (j : ℕ) → tokens ≢ [] → length tokens ≤ j
     → done ++ map f (drop j tokens) ≡ map f tokens → done ≢ []
-has_made f [] done j some past h = absurd (some refl)
-has_made f (token ∷ tokens) [] j some past h = λ _. let none = drop_all j (token ∷ tokens) past in let w = rw none at h in cc
-has_made f (token ∷ tokens) (x ∷ done) j some past h = λ e. cc
+has_made = grind (arith, common_steps)
 
 pub some_named : (tokens : List (List ℕ)) → names_some tokens ≡ true → tokens ≢ []
-some_named [] h = cc
-some_named (token ∷ tokens) h = λ e. cc
+some_named = grind (arith, nat_tests)
 
 -- a null record is no longer than the one at its place
 dots_short : (kind : SpinedKind) (token : List ℕ) (tokens : List (List ℕ)) → AllByRecursion (IsToken kind) (token ∷ tokens)
     → length (spelled (nulls Values (length (token ∷ tokens)))) ≤ length (spelled (token ∷ tokens))
 dots_short kind [] tokens h = absurd (h.0.filled refl)
 dots_short kind (b ∷ bytes) [] h = omega arith
-dots_short kind (b ∷ bytes) (next ∷ tokens) h =
-    let ih = dots_short kind next tokens h.1 in
-    let sum = length-append (b ∷ bytes) (9 ∷ spelled (next ∷ tokens)) in
-    omega (arith, ih, sum)
+dots_short kind (b ∷ bytes) (next ∷ tokens) h = grind (arith, common_steps, dots_short kind next tokens h.1)
 
 pub null_fits : (row : Row) → IsTextOf row (text_of row) → kind_of row ≡ AnyValues → length (text_of (null_row (length (tokens_of row)))) ≤ 1048576
-null_fits (Comment text) h k = absurd (no k)
-  where
-    no : Global ≡ AnyValues → ⊥
-    no e = cc
+null_fits (Comment text) h k = grind (arith, nat_tests)
 null_fits (Spined kind []) h k = absurd (h.1 refl)
-null_fits (Spined kind (token ∷ tokens)) h k =
-    let short = dots_short kind token tokens h.2 in
-    let most = h.3 in
-    omega (arith, short, most)
+null_fits (Spined kind (token ∷ tokens)) h k = grind (arith, nat_tests, dots_short)
 
 pub named_token : (text named token seen made : List ℕ) → named ≡ codes "*tb" ++ text → seen ≡ token
     → made ≡ (if is_exclusive (sign_of seen) then named else codes "*") → made ≡ tb_token text token
 named_token text named token seen made is at h = h ∙ rw (is, at) refl
 
-pub not_global : (row : Row) → kind_of row ≡ AnyValues → kind_of row ≡ Global → ⊥
-not_global row k e = no (sym e ∙ k)
-  where
-    no : Global ≡ AnyValues → ⊥
-    no e = cc
-
 -- the record that follows one with exclusive interpretations is short
 tb_token_short : (text token : List ℕ) → length text ≤ 15 → length (tb_token text token) ≤ 18
-tb_token_short text token short = go (is_exclusive (sign_of token))
-  where
-    go : (b : Bool) → length (if b then codes "*tb" ++ text else codes "*") ≤ 18
-    go true = let sum = length-append (codes "*tb") text in omega (arith, sum, short)
-    go false = omega arith
+tb_token_short = grind (arith, nat_tests)
 
 pub tb_short : (text : List ℕ) (tokens : List (List ℕ)) → length text ≤ 15 → length (spelled (map (tb_token text) tokens)) ≤ 19 * length tokens
 tb_short text [] short = omega arith
 tb_short text (token ∷ []) short = let one = tb_token_short text token short in omega (arith, one)
 tb_short text (token ∷ next ∷ tokens) short =
-    let one = tb_token_short text token short in
-    let rest = tb_short text (next ∷ tokens) short in
-    let sum = length-append (tb_token text token) (9 ∷ spelled (map (tb_token text) (next ∷ tokens))) in
-    omega (arith, one, rest, sum)
+    grind (arith, nat_tests, tb_short text (next ∷ tokens) short, tb_token_short, length-append)
 
 -- no record of a score has more tokens
 pub few_tokens : (past : List Row) (row : Row) → IsOpen (row ∷ past) → kind_of row ≡ AnyInterpretation → length (tokens_of row) ≤ 4096
@@ -232,8 +179,4 @@ few_tokens past (Spined Values tokens) score k = absurd cc
 few_tokens past (Spined Interpretation tokens) score k = by_path (path_after past) refl score.1
   where
     by_path : (path : Path) → path_after past ≡ path → fault_of path (Spined Interpretation tokens) ≡ None → length tokens ≤ 4096
-    by_path Unopened e h = (opens tokens h).few
-    by_path (Spines names) e h =
-        let wide = (obeys names tokens h).wide in
-        let most = rw e at (narrow past score.0) in
-        omega (arith, wide, most)
+    by_path = grind (arith, nat_tests, opens, obeys, narrow)
