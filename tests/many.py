@@ -4,7 +4,8 @@
 The bundle of each row is asked as a case, three times in one process, with a case between them that is refused and one without scores:
 it must be answered each time as the row says. Each plan of the files NAME.plans must be refused or accepted as they say. A stream of
 four lists is cut at each of its bytes, and at each place where a packet may begin stands what is none; it is sent byte by byte, and to
-an output that takes nothing; and each call for memory, read and write fails in turn. One line for each that fails; the last line is `N passed, M failed`."""
+an output that takes nothing; and each call for memory, read and write fails in turn. What 20,000 cases take of memory must be what 1,000 do. One line for each
+that fails; the last line is `N passed, M failed`."""
 import glob
 import os
 import re
@@ -26,6 +27,9 @@ FINE = (0, b'**x\n1\n*-\n', b'')
 WRONG = (1, b'**x\n1\n', b'humpipe: stage 1 (read), line 3: P2')
 ANSWERS = [(0, b'', b''), FINE, WRONG, FINE]
 MISSING = (3, b'', b'humpipe: stage 1 (read): cannot open')
+# plans with patterns, and how many kB more they may hold of many cases
+PATTERNS = [b'ditto -s ab+', b'ditto -s ^=', b'context -b a -e b+ -o c', b'yank -n a -r 1-2', b'yank -o a -e b+ -r 1', b'mint -b a+']
+MORE_KB = 1024
 # what is no size
 JUNK = [b'000g', b'0001', b'0002', b'0003', b'fff1', b'ffff', b'-001', b' 005', b'0x05', b'+00c', b'\0\0\0\0']
 
@@ -135,6 +139,29 @@ def try_ends(judge, program):
     judge.want('a folder as input', (ended.returncode, ended.stdout, ended.stderr), (3, b'', b'humpipe-many: read failed\n'))
 
 
+def most_held(program, plan, count):
+    """The most kB that a process has held when it has answered so many cases of a small score, and whether it said of each the same."""
+    block = case([(b'a', b'**kern\t**x\n4c\ta\n.\tabb\n4d\t.\n*-\t*-\n')]) * 100
+    said = set()
+    with subprocess.Popen([program], stdin=subprocess.PIPE, stdout=subprocess.PIPE) as asked:
+        asked.stdin.write(packets(plan))
+        asked.stdin.flush()
+        answer(asked.stdout)
+        for _ in range(count // 100):
+            asked.stdin.write(block)
+            asked.stdin.flush()
+            said |= {answer(asked.stdout) for _ in range(100)}
+        with open(f'/proc/{asked.pid}/status') as status:
+            return int(re.search(r'VmHWM:\s+(\d+)', status.read())[1]), len(said) == 1
+
+
+def try_memory(judge, program):
+    for command in PATTERNS:
+        plan = b'out: read a | ' + command + b'\n'
+        (few, same), (many, same_too) = (most_held(program, plan, count) for count in (1_000, 20_000))
+        judge.want(f'{command.decode()}: {few} and {many} kB', (same, same_too, many <= few + MORE_KB), (True, True, True))
+
+
 LACKS = (3, b'humpipe: out of memory')
 
 
@@ -181,6 +208,10 @@ def main():
     try_cuts(judge, program)
     try_forms(judge, program)
     try_ends(judge, program)
+    if os.path.exists('/proc/self/status'):
+        try_memory(judge, program)
+    else:
+        print('left out: what is told of memory, which needs Linux')
     with tempfile.TemporaryDirectory(prefix='humpipe-many-') as folder:
         if shutil.which('cc'):
             try_faults(judge, program, folder)

@@ -1,5 +1,5 @@
 -- One case behind another.
-use Rattle.std.proofs.Common.{◌≡◌, ℕ, ◌+◌, ◌-◌, ◌^◌, ◌<◌, min, List, [], ◌∷◌, ◌++◌, length, refl, sym, ap, subst, ◌∙◌, arith, Bool, true, false, nat_lt, Err, Some, None, Option, inl, inr, ◌⊎◌, append_assoc, append-nil, length-append}
+use Rattle.std.proofs.Common.{◌≡◌, ℕ, ◌+◌, ◌-◌, ◌^◌, ◌<◌, min, List, [], ◌∷◌, ◌++◌, length, refl, sym, ap, subst, ◌∙◌, arith, Bool, true, false, Err, Some, None, Option, inl, inr, ◌⊎◌, append_assoc, append-nil, length-append}
 use Rattle.std.specs.List.{concat}
 use Rattle.std.specs.Io.KnownBytes.{Appends, Keeps, append_known, prepend_known}
 use Rattle.std.proofs.lemmas.List.{append_cancel_left}
@@ -23,11 +23,10 @@ use Rattle.hum_packets.proofs.Feeding.{grows-trans}
 use Rattle.hum_packets.proofs.Stepping.{took-chain, took-then, took-as, chain-more, concat-one, consumes-is, consumes-front}
 use Rattle.hum_many.specs.declared.end.ManyEnd.{ManyEnd}
 use Rattle.hum_many.specs.declared.end.ManyEnd.TheVariants as end
-use Rattle.hum_net.specs.Outcomes.{status_of}
 use Rattle.hum_many.specs.Ends.{end_of, is_read_end, is_write_end}
 use Rattle.hum_many.specs.Cases.{Named, IsCase, IsPlan, TookCase, EndsHere, LostCase}
 use Rattle.hum_many.specs.Answers.{told, CaseComes, AnswersCase, AnswerEach}
-use Rattle.hum_many.specs.Many.{PlanComes, AnsweredCases, RefusedPlan, StoppedInPlan, StoppedInCase, WroteFront, Written, ManyCome}
+use Rattle.hum_many.specs.Many.{AnsweredCases, RefusedPlan, StoppedInPlan, StoppedInCase, WroteFront, Written, ManyCome}
 use Rattle.hum_many.specs.Talks.{Talked, TalkedToEnd, TalkedTo, ReadFails, HasClosed}
 
 each-more : (plan : List ℕ) (cases : List (List Named)) (answers : List (List ℕ)) (case : List Named) (answer : List ℕ)
@@ -275,69 +274,54 @@ module _ {R W : Type 0} (source : Source R) (sink : Sink W) (start : Reading R) 
         cases-stop stop.Write lost = record { all = first ++ (second ++ []); written = whole_text; wrote = wrote; comes = failed }
         cases-stop stop.Memory lost = record { all = first ++ (second ++ []); written = whole_text; wrote = wrote; comes = failed }
 
--- a plan is accepted or refused by its outcome's status
-pub plan-legal : (plan : List ℕ) (is : Outcome) → PlanComes plan is → false ≡ nat_lt 0 (status_of is)
-    → (is ≡ outcome.Run ends.Finished) × ((stages : List Stage) × IsPlanOf plan stages)
-plan-legal plan is (inl legal) none = legal
-plan-legal plan (outcome.Run ends.Finished) (inr refused) none = absurd (cc)
-plan-legal plan (outcome.Run (ends.Fault fault)) (inr refused) none = absurd (cc)
-plan-legal plan (outcome.Run (ends.Read number)) (inr refused) none = absurd (cc)
-plan-legal plan (outcome.Run ends.Write) (inr refused) none = absurd (cc)
-plan-legal plan (outcome.Run ends.Memory) (inr refused) none = absurd (cc)
-plan-legal plan (outcome.Plan fault) (inr refused) none = absurd (cc)
-plan-legal plan (outcome.NoScore number) (inr refused) none = absurd refused
-plan-legal plan outcome.TooLarge (inr refused) none = absurd refused
-
-pub plan-illegal : (plan : List ℕ) (is : Outcome) → PlanComes plan is → true ≡ nat_lt 0 (status_of is) → IsRefusal plan is
-plan-illegal plan is (inr refused) some = refused
-plan-illegal plan is (inl legal) some =
-    let none : true ≡ false = some ∙ ap (λ o. nat_lt 0 (status_of o)) legal.0 in absurd (cc)
-
 module _ {R W : Type 0} (source : Source R) (sink : Sink W) (start : Reading R) (fresh : start.passed ≡ 0) (plan : List ℕ) (is_whole : Bool)
     (behind : Reading R) (held : IsHeld source (LONGEST_PLAN + 1) start behind plan is_whole) where
-  -- the plan was read, and its answer failed
-  pub told-stops : (before middle after : Writing W) (is : Outcome) (stop : Stop) → PlanComes plan is → Keeps (going sink before) (going sink middle)
+  -- the plan was read, and for want of memory not answered
+  told-none : (before middle after : Writing W) → Keeps (going sink before) (going sink middle) → Keeps (going sink middle) (going sink after)
+      → ManyCome (coming source start) (going sink before) (going sink after) end.Memory
+  told-none before middle after kept more =
+      let all = Keeps-trans _ _ _ kept more in
+      record { all = []; written = []; wrote = keeps-appends _ _ all; comes = none-written source sink start fresh before after all [] }
+
+  -- it was refused, and that is answered
+  pub refused-told : (before middle after : Writing W) (is : Outcome) → IsRefusal plan is → Keeps (going sink before) (going sink middle)
+      → Answers sink [] (told is) middle after → ManyCome (coming source start) (going sink before) (going sink after) (end.Plan is)
+  refused-told before middle after is refused kept h =
+      plan-refused source sink start fresh plan is_whole behind held before after is h.answer refused h.is (keeps-first _ _ _ h.answer kept h.wrote)
+
+  pub refused-stops : (before middle after : Writing W) (is : Outcome) (stop : Stop) → IsRefusal plan is → Keeps (going sink before) (going sink middle)
       → HasAnswered sink [] (told is) middle after (Err stop)
       → ManyCome (coming source start) (going sink before) (going sink after) (end_of stop)
-  told-stops before middle after is (stop.Broken at) comes kept h = absurd h
-  told-stops before middle after is stop.Read comes kept h = absurd h
-  told-stops before middle after is stop.Memory comes kept h =
-      let all = Keeps-trans _ _ _ kept h in
-      record { all = []; written = []; wrote = keeps-appends _ _ all; comes = none-written source sink start fresh before after all [] }
-  told-stops before middle after is stop.Write (inr refused) kept h =
+  refused-stops before middle after is (stop.Broken at) refused kept h = absurd h
+  refused-stops before middle after is stop.Read refused kept h = absurd h
+  refused-stops before middle after is stop.Memory refused kept h = told-none before middle after kept h
+  refused-stops before middle after is stop.Write refused kept h =
       plan-unwritten source sink start fresh plan is_whole behind held before after is h.answer refused h.is
       (keeps-first _ _ _ h.answer kept h.wrote)
-  told-stops before middle after is stop.Write (inl legal) kept h =
-      cases-stop source sink start fresh plan is_whole behind held legal.1.0 legal.1.1 h.answer
-      (subst (λ o. IsAnswer [] (told o) h.answer) legal.0 h.is) before after after (keeps-first _ _ _ h.answer kept h.wrote)
-      behind (talked-none source sink plan behind after) stop.Write tt
 
-  pub told-refused : (before middle after : Writing W) (is : Outcome) → PlanComes plan is → true ≡ nat_lt 0 (status_of is)
-      → Keeps (going sink before) (going sink middle) → Answers sink [] (told is) middle after
-      → ManyCome (coming source start) (going sink before) (going sink after) (end.Plan is)
-  told-refused before middle after is comes some kept h =
-      plan-refused source sink start fresh plan is_whole behind held before after is h.answer (plan-illegal plan is comes some) h.is
-      (keeps-first _ _ _ h.answer kept h.wrote)
-
-  module _ (before middle opened after : Writing W) (is : Outcome) (comes : PlanComes plan is) (none : false ≡ nat_lt 0 (status_of is))
-      (kept : Keeps (going sink before) (going sink middle)) (said : Answers sink [] (told is) middle opened) where
-    legal-plan : (is ≡ outcome.Run ends.Finished) × ((stages : List Stage) × IsPlanOf plan stages)
-    legal-plan = plan-legal plan is comes none
-
-    opening-is : IsAnswer [] (told (outcome.Run ends.Finished)) said.answer
-    opening-is = subst (λ o. IsAnswer [] (told o) said.answer) legal-plan.0 said.is
-
-    pub told-all : TalkedToEnd source sink plan behind opened after
-        → ManyCome (coming source start) (going sink before) (going sink after) end.Finished
-    told-all t =
-        cases-end source sink start fresh plan is_whole behind held legal-plan.1.0 legal-plan.1.1 said.answer opening-is
-        before opened after (keeps-first _ _ _ said.answer kept said.wrote) t.last t.talked t.ends
-
-    pub told-to : (stop : Stop) → TalkedTo source sink plan behind opened after stop
+  -- it was accepted, and that is answered
+  module _ {stages : List Stage} (legal : IsPlanOf plan stages) (before middle : Writing W) (kept : Keeps (going sink before) (going sink middle)) where
+    pub accepted-stops : (after : Writing W) (stop : Stop) → HasAnswered sink [] (told (outcome.Run ends.Finished)) middle after (Err stop)
         → ManyCome (coming source start) (going sink before) (going sink after) (end_of stop)
-    told-to stop t =
-        cases-stop source sink start fresh plan is_whole behind held legal-plan.1.0 legal-plan.1.1 said.answer opening-is
-        before opened after (keeps-first _ _ _ said.answer kept said.wrote) t.last t.talked stop t.lost
+    accepted-stops after (stop.Broken at) h = absurd h
+    accepted-stops after stop.Read h = absurd h
+    accepted-stops after stop.Memory h = told-none before middle after kept h
+    accepted-stops after stop.Write h =
+        cases-stop source sink start fresh plan is_whole behind held stages legal h.answer h.is before after after
+        (keeps-first _ _ _ h.answer kept h.wrote) behind (talked-none source sink plan behind after) stop.Write tt
+
+    module _ (opened after : Writing W) (said : Answers sink [] (told (outcome.Run ends.Finished)) middle opened) where
+      pub told-all : TalkedToEnd source sink plan behind opened after
+          → ManyCome (coming source start) (going sink before) (going sink after) end.Finished
+      told-all t =
+          cases-end source sink start fresh plan is_whole behind held stages legal said.answer said.is
+          before opened after (keeps-first _ _ _ said.answer kept said.wrote) t.last t.talked t.ends
+
+      pub told-to : (stop : Stop) → TalkedTo source sink plan behind opened after stop
+          → ManyCome (coming source start) (going sink before) (going sink after) (end_of stop)
+      told-to stop t =
+          cases-stop source sink start fresh plan is_whole behind held stages legal said.answer said.is
+          before opened after (keeps-first _ _ _ said.answer kept said.wrote) t.last t.talked stop t.lost
 
 -- a sink of which nothing waits
 fresh-appends : (a b : Option (List ℕ)) (bs : List ℕ) → Appends (append_known a []) b bs → Appends a b bs

@@ -16,10 +16,6 @@ use Rattle.hum_many.specs.Answers.{told, AnswerEach}
 use Rattle.hum_many.specs.declared.end.ManyEnd.{ManyEnd}
 use Rattle.hum_many.specs.declared.end.ManyEnd.TheVariants.{Finished, Plan, Broken, Read, Write, Memory}
 
--- What comes of a plan: it is one, or it is refused.
-abbrev pub PlanComes : List ℕ → Outcome → Type 0
-PlanComes plan is = ((is ≡ outcome.Run ends.Finished) × ((stages : List Stage) × IsPlanOf plan stages)) ⊎ IsRefusal plan is
-
 -- The plan is one, and is answered by an empty text and status 0.
 pub record Accepts (plan answer : List ℕ) : Type 0 where
   pub stages : List Stage

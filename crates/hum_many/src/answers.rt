@@ -1,5 +1,8 @@
 //! Answers to cases.
-ghost use Rattle.std.specs.Prelude.{◌≡◌, List, Some, nat_lt, false};
+ghost use Rattle.std.specs.Prelude.{◌≡◌, ℕ, List, Some, nat_lt, false};
+ghost use Rattle.hum_plan.specs.Stages.{IsTree};
+ghost use Rattle.hum_plan.specs.Seen.{stages_of};
+ghost use Rattle.hum_plan.specs.Grammar.{IsPlanOf};
 ghost use Rattle.hum_words.specs.Bundle.{largest};
 ghost use Rattle.hum_packets.specs.Streams.{HasAnswered, Hands, is_write};
 ghost use Rattle.hum_many.specs.Answers.{told, CaseComes, held_outcome};
@@ -7,8 +10,9 @@ ghost use Rattle.hum_many.specs.Cases.{Named, size};
 
 use crate::cases::Case;
 use crate::held::HeldText;
-use hum_net::{Outcome, Rightmost, RunResult, run_scores};
+use hum_net::{Outcome, Rightmost, RunResult, run_named};
 use hum_packets::{Answers, Stop};
+use hum_plan::{PlanStage, copied_stages};
 use hum_text::calls::Sink;
 use std::alloc::{AllocError, Global};
 use std::fmt;
@@ -63,17 +67,22 @@ fn held_outcome(outcome: Outcome) -> Outcome
     }
 }
 
-/// Runs the plan over a case.
-pub(crate) fn run_case(alloc: Global, plan: &[u8], case: &Case) -> (Outcome, Vec<u8>)
-    ensures { (scores : List Named) → case.now.is_too_large ≡ nat_lt largest (size scores)
+/// Runs the stages of a plan over a case.
+pub(crate) fn run_case(alloc: Global, stages: &[PlanStage], case: &Case) -> (Outcome, Vec<u8>)
+    requires { IsTree (stages_of stages.now) }
+    ensures { (plan : List ℕ) → IsPlanOf plan (stages_of stages.now) → (scores : List Named)
+        → case.now.is_too_large ≡ nat_lt largest (size scores)
         → (case.now.is_too_large ≡ false → case.now.scores.items ≡ scores)
-        → CaseComes plan.now scores result.1.items result.0 }
+        → CaseComes plan scores result.1.items result.0 }
 {
     let text = HeldText::new(alloc);
     if case.is_too_large {
         return (Outcome::TooLarge, text.into_bytes());
     }
+    let Ok(stages) = copied_stages(alloc, stages) else {
+        return (Outcome::Run(RunResult::Memory), text.into_bytes());
+    };
     // from the right, each record goes through before the next is read: few are held
-    let (outcome, text) = run_scores(alloc, plan, &case.scores(), LINK, &mut Rightmost, text);
+    let (outcome, text) = run_named(alloc, stages, &case.scores(), LINK, &mut Rightmost, text);
     (held_outcome(outcome), text.into_bytes())
 }

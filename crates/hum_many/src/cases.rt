@@ -5,8 +5,7 @@ ghost use Rattle.hum_packets.specs.Streams.{Lost, Serves, is_write};
 ghost use Rattle.hum_many.specs.Cases.{Named, size_of, score_in, HoldsCase, HoldsScore, TookScore, TookCase};
 ghost use Rattle.hum_many.specs.Cases.{StopsInCase, EndsHere, LostCase};
 
-use crate::held::HeldScore;
-use hum_net::Scores;
+use hum_net::{HeldScore, Scores};
 use hum_packets::{Answers, Packets, Stop, Text, read_text};
 use hum_text::calls::{Sink, Source};
 use hum_words::LARGEST_BUNDLE;

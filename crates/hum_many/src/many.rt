@@ -1,9 +1,11 @@
 //! A plan and cases that are read, and their answers.
-ghost use Rattle.std.specs.Prelude.{◌≡◌, ◌||◌, true, false, nat_lt, OnOk, IfOk, IfErr};
-ghost use Rattle.hum_net.specs.Outcomes.{status_of};
+ghost use Rattle.std.specs.Prelude.{◌≡◌, ◌||◌, true, false, ℕ, List, OnOk, IfOk, IfErr};
+ghost use Rattle.hum_plan.specs.Stages.{IsTree};
+ghost use Rattle.hum_plan.specs.Seen.{stages_of};
+ghost use Rattle.hum_plan.specs.Grammar.{IsPlanOf};
 ghost use Rattle.hum_packets.specs.Streams.{Hands, HasFailed, is_write, coming, going};
 ghost use Rattle.hum_many.specs.Ends.{is_read_end, is_write_end};
-ghost use Rattle.hum_many.specs.Many.{PlanComes, ManyCome};
+ghost use Rattle.hum_many.specs.Many.{ManyCome};
 ghost use Rattle.hum_many.specs.Talks.{TalkedToEnd, TalkedTo, AllCome, ReadFails, HasClosed};
 
 use crate::answers::{run_case, tell};
@@ -11,6 +13,7 @@ use crate::cases::read_case;
 use crate::end::{ManyEnd, end_of};
 use hum_net::{Outcome, RunResult, plan_stages};
 use hum_packets::{Answers, Packets, Stop, read_text};
+use hum_plan::PlanStage;
 use hum_text::calls::{Sink, Source};
 use hum_words::LONGEST_PLAN;
 use std::alloc::Global;
@@ -18,39 +21,25 @@ use std::alloc::Global;
 /// Answers the cases that are read, until there are none.
 fn answer_cases<R: Source + Drop, W: Sink + Drop>(
     alloc: Global,
-    plan: &[u8],
+    stages: &[PlanStage],
     packets: &mut Packets<R>,
     answers: &mut Answers<W>,
 ) -> Result<(), Stop>
-    ensures all { OnOk result (TalkedToEnd R.Source W.Sink plan.now packets.old answers.old answers.new) }
-    ensures stops { IfErr result (TalkedTo R.Source W.Sink plan.now packets.old answers.old answers.new) }
+    requires { IsTree (stages_of stages.now) }
+    ensures all { (plan : List ℕ) → IsPlanOf plan (stages_of stages.now)
+        → OnOk result (TalkedToEnd R.Source W.Sink plan packets.old answers.old answers.new) }
+    ensures stops { (plan : List ℕ) → IsPlanOf plan (stages_of stages.now)
+        → IfErr result (TalkedTo R.Source W.Sink plan packets.old answers.old answers.new) }
     ensures hands { Hands W.Sink answers.old answers.new (is_write result) }
 {
     for _ in 0..u64::MAX {
         let Some(case) = read_case(alloc, packets, answers)? else {
             return Ok(());
         };
-        let (outcome, text) = run_case(alloc, plan, &case);
+        let (outcome, text) = run_case(alloc, stages, &case);
         tell(alloc, answers, &text, outcome)?;
     }
     Err(Stop::Memory)
-}
-
-/// What comes of the plan's text.
-fn plan_outcome(alloc: Global, plan: &[u8]) -> Outcome
-    ensures { PlanComes plan.now result }
-{
-    match plan_stages(alloc, plan) {
-        Ok(_) => Outcome::Run(RunResult::Finished),
-        Err(outcome) => outcome,
-    }
-}
-
-/// Whether a plan of which this comes is refused.
-fn is_refused(outcome: Outcome) -> bool
-    ensures { result ≡ nat_lt 0 (status_of outcome) }
-{
-    outcome.status() > 0
 }
 
 /// Answers the plan, and then the cases: how that ends.
@@ -67,12 +56,15 @@ fn answer_all<R: Source + Drop, W: Sink + Drop>(
     ensures failed { IfErr result (ReadFails R.Source) }
 {
     let plan = read_text(alloc, packets, answers, LONGEST_PLAN + 1)?.bytes;
-    let outcome = plan_outcome(alloc, &plan);
-    tell(alloc, answers, b"", outcome)?;
-    if is_refused(outcome) {
-        return Ok(ManyEnd::Plan(outcome));
-    }
-    answer_cases(alloc, &plan, packets, answers)?;
+    let stages = match plan_stages(alloc, &plan) {
+        Ok(stages) => stages,
+        Err(outcome) => {
+            tell(alloc, answers, b"", outcome)?;
+            return Ok(ManyEnd::Plan(outcome));
+        }
+    };
+    tell(alloc, answers, b"", Outcome::Run(RunResult::Finished))?;
+    answer_cases(alloc, &stages, packets, answers)?;
     Ok(ManyEnd::Finished)
 }
 

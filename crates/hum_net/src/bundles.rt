@@ -1,57 +1,17 @@
 //! Runs of bundles: a plan and its scores in one stream.
 ghost use Rattle.std.specs.Prelude.{◌≡◌, ◌≤◌, ◌+◌, ◌||◌, length, nat_lt, true, false, ℕ};
-ghost use Rattle.std.specs.Prelude.{Some};
 ghost use Rattle.hum_turns.specs.Ordering.{order_of};
 ghost use Rattle.hum_words.specs.Bundle.{largest, plan_of, score_of};
 ghost use Rattle.hum_net.specs.Bundles.{ComesOfBundle, is_refused, Picks, Ends};
 ghost use Rattle.hum_net.specs.Bundles.{is_failed_write, is_read_by};
 
+use crate::held::HeldScore;
 use crate::outcome::Outcome;
 use crate::scores::{Scores, run_scores};
-use hum_text::calls::{Sink, Source};
+use hum_text::calls::Sink;
 use hum_turns::Order;
 use hum_words::{is_too_large, plan_part, score};
 use std::alloc::Global;
-use std::io;
-use std::io::Read;
-
-/// A score in a bundle, which is read from where it stands: no read of it fails.
-#[derive(Drop)]
-struct HeldScore<'a> {
-    rest: &'a [u8],
-    calls: u64,
-}
-
-impl<'a> HeldScore<'a> {
-    /// A score of which nothing was read yet.
-    fn new(bytes: &'a [u8]) -> HeldScore<'a>
-        ensures { result ≡ record { rest = bytes.entry; calls = 0 } }
-    {
-        HeldScore {
-            rest: bytes,
-            calls: 0,
-        }
-    }
-}
-
-impl<'a> Source for HeldScore<'a> {
-    ghost use Rattle.std.specs.Prelude.{false};
-
-    ghost remaining = { λ s. Some s.rest.now };
-
-    ghost calls = { λ s. s.calls };
-
-    ghost failed = { λ s. false };
-
-    fn hint(&self) -> usize {
-        self.rest.len()
-    }
-
-    fn read(&mut self, buf: &mut [u8]) -> io::Result<usize> {
-        self.calls = self.calls.saturating_add(1);
-        self.rest.read(buf)
-    }
-}
 
 /// The scores of a bundle.
 #[derive(Drop)]

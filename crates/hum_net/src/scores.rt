@@ -121,6 +121,45 @@ fn readers<S: Scores>(
     Ok(readers)
 }
 
+/// Runs the stages of a plan over scores by their names, with links that hold so many records. The writer is handed
+/// back with how it ended.
+pub fn run_named<S: Scores, O: Order, W: Sink + Drop>(
+    alloc: Global,
+    stages: Vec<PlanStage>,
+    scores: &S,
+    link: u16,
+    order: &mut O,
+    writer: W,
+) -> (Outcome, W)
+    requires tree { IsTree (stages_of stages.items) }
+    requires link { 1 ≤ link }
+    requires room { link ≤ 4096 }
+
+    // Of each text that is the plan of these stages comes what [`run_scores`] says of it.
+    ensures comes { (text : List ℕ) → IsPlanOf text (stages_of stages.items) → S.is_known scores.now ≡ true
+        → Comes text (S.score scores.now) (W.contents writer) (W.contents result.1) (W.flushed result.1) result.0 }
+    ensures picked { (text : List ℕ) → IsPlanOf text (stages_of stages.items) → S.is_known scores.now ≡ true
+        → Picks (order_of O.Order) text (S.score scores.now) link order.old order.new result.0 }
+    ensures ended { (text : List ℕ) → IsPlanOf text (stages_of stages.items) → S.is_known scores.now ≡ true
+        → Ends (order_of O.Order) text (S.score scores.now) link order.old order.new (W.contents writer)
+        (W.contents result.1) result.0 }
+    ensures may { (text : List ℕ) → IsPlanOf text (stages_of stages.items) → MayCome text result.0 }
+    ensures drives { (text : List ℕ) → IsPlanOf text (stages_of stages.items)
+        → Drives (order_of O.Order) text link order.old order.new (W.contents writer) (W.contents result.1) result.0 }
+    ensures marked { W.failed result.1 ≡ (W.failed writer || is_failed_write result.0) }
+    ensures flushes { W.flushes result.1 ≤ W.flushes writer + 1 }
+    ensures unread { ((reader : S.Reader) → S.Reader.failed reader ≡ false)
+        → (k : ℕ) → is_read_by k result.0 ≡ false }
+    ensures refused { is_refused result.0 ≡ true → (result.1 ≡ writer) × (order.new ≡ order.old) }
+{
+    let readers = match readers(alloc, scores, &stages) {
+        Ok(readers) => readers,
+        Err(outcome) => return (outcome, writer),
+    };
+    let (end, writer) = run_stages(alloc, stages, readers, link, order, writer);
+    (Outcome::Run(end), writer)
+}
+
 /// Runs the plan that a text is over scores by their names, with links that hold so many records. The writer is
 /// handed back with how it ended.
 pub fn run_scores<S: Scores, O: Order, W: Sink + Drop>(
@@ -172,10 +211,5 @@ pub fn run_scores<S: Scores, O: Order, W: Sink + Drop>(
         Ok(stages) => stages,
         Err(outcome) => return (outcome, writer),
     };
-    let readers = match readers(alloc, scores, &stages) {
-        Ok(readers) => readers,
-        Err(outcome) => return (outcome, writer),
-    };
-    let (end, writer) = run_stages(alloc, stages, readers, link, order, writer);
-    (Outcome::Run(end), writer)
+    run_named(alloc, stages, scores, link, order, writer)
 }
