@@ -1,1 +1,3 @@
+pub mod LineReading
 pub mod Running
+mod LineExamples

@@ -5,8 +5,8 @@ use Rattle.hum_text.specs.declared.calls.Sink.{Ghosts as Sink}
 use Rattle.hum_turns.specs.Orders.{Order}
 use Rattle.hum_turns.specs.declared.order.Side.{Side}
 use Rattle.hum_turns.specs.declared.order.Side.TheVariants.{Left, Right}
-use Rattle.hum_line.specs.Line.{Asks}
-use Rattle.hum_line.specs.declared.Choice.{Choice}
+use Rattle.hum_program.specs.Line.{Asks}
+use Rattle.hum_program.specs.declared.line.Choice.{Choice}
 use Rattle.hum_program.specs.Program.{RanNamed, RanTo, Does}
 use Rattle.hum_program.specs.declared.ending.Ending.{Ending}
 use Rattle.hum_program.specs.declared.ending.Ending.TheVariants as ending

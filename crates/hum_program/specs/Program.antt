@@ -8,8 +8,8 @@ use Rattle.hum_turns.specs.declared.order.Side.{Side}
 use Rattle.hum_turns.specs.declared.order.Side.TheVariants.{Left, Right}
 use Rattle.hum_turns.specs.contracts.order.LeftmostOrder.TheImpl as leftmost
 use Rattle.hum_turns.specs.contracts.order.RightmostOrder.TheImpl as rightmost
-use Rattle.hum_line.specs.Line.{Asks, AskNothing}
-use Rattle.hum_line.specs.declared.Choice.{Choice}
+use Rattle.hum_program.specs.Line.{Asks, AskNothing}
+use Rattle.hum_program.specs.declared.line.Choice.{Choice}
 use Rattle.hum_program.specs.Runs.{RanBundle, RanPlan, RanOr}
 use Rattle.hum_program.specs.declared.ending.Ending.{Ending}
 use Rattle.hum_program.specs.declared.ending.Ending.TheVariants as ending

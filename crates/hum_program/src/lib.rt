@@ -6,10 +6,12 @@
 
 mod ending;
 mod folder;
+mod line;
 mod program;
 mod reading;
 mod runs;
 
 pub use ending::Ending;
 pub use folder::Folder;
+pub use line::{Choice, LineFault, Side, read_line};
 pub use program::run_program;

@@ -5,8 +5,8 @@ ghost use Rattle.hum_program.specs.Program.{RanNamed, RanTo, Does};
 
 use crate::ending::Ending;
 use crate::folder::Folder;
+use crate::line::{Choice, LineFault, Side, read_line};
 use crate::runs::{run_input, run_plan};
-use hum_line::{Choice, LineFault, Side, read_line};
 use hum_net::{Leftmost, Order, Rightmost, Sink};
 use std::alloc::Global;
 use std::io::Read;

@@ -1,6 +1,6 @@
 //! The command line: what its words ask for, and which lines are refused.
 use crate::compared::{holds, same, same_bytes};
-use hum_line::{LineFault, Side, read_line};
+use hum_program::{LineFault, Side, read_line};
 use std::process::Abort;
 
 fn words(rt: &(impl Abort + AllocGlobal), texts: &[&'static str]) -> Vec<String> {

@@ -1,5 +1,5 @@
-use Rattle.hum_line.proofs.Reading.{asks, asks_nothing, within}
-use Rattle.hum_line.proofs.read_line.Goals as goal
+use Rattle.hum_program.proofs.LineReading.{asks, asks_nothing, within}
+use Rattle.hum_program.proofs.line.read_line.Goals as goal
 
 pub returns-in-Some-clause-asked : goal.returns-in-Some-clause-asked
 returns-in-Some-clause-asked c = asks _ c.in-Ok-try_get_matches_from.matches c.in-Ok.ensures

@@ -7,8 +7,8 @@ use Rattle.hum_turns.specs.declared.order.Side.{Side}
 use Rattle.clap.specs.Words.{App, Text, fault_of, first_value, first_of, matches_of, HasMatchesOf, rows_of, found_of, is_simple, is_simple_and_free}
 use Rattle.clap.specs.declared.parser.matches.ArgMatches.{ArgMatches}
 use Rattle.clap.proofs.OnLiterals.{clap_on_literals}
-use Rattle.hum_line.specs.Line.{line, Says, Asks, AskNothing, IsLink, IsOrder}
-use Rattle.hum_line.specs.declared.Choice.{Choice}
+use Rattle.hum_program.specs.Line.{line, Says, Asks, AskNothing, IsLink, IsOrder}
+use Rattle.hum_program.specs.declared.line.Choice.{Choice}
 
 line_is_simple : is_simple line ≡ true
 unfolding clap_on_literals

@@ -6,7 +6,7 @@ use Rattle.clap.specs.Simple.{on_top}
 use Rattle.clap.specs.declared.builder.ArgAction.TheVariants.{Set}
 use Rattle.hum_turns.specs.declared.order.Side.{Side}
 use Rattle.hum_turns.specs.declared.order.Side.TheVariants.{Left, Right}
-use Rattle.hum_line.specs.declared.Choice.{Choice}
+use Rattle.hum_program.specs.declared.line.Choice.{Choice}
 
 -- an option of one value, `--NAME VALUE` or `--NAME=VALUE`, and a word of its own
 abbrev pub option : Text → Rule

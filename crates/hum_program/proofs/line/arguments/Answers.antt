@@ -2,8 +2,8 @@ use Rattle.std.proofs.Common.{◌≡◌, ◌∙◌, ap, ap₂, true, codes, rule
 use Rattle.std.proofs.lemmas.Result.{IfOk-weaker}
 use Rattle.clap.specs.Words.{app_of, rule_of, new_app, with_rule}
 use Rattle.clap.specs.Simple.{App, app_of_fields, on_top}
-use Rattle.hum_line.specs.Line.{word}
-use Rattle.hum_line.proofs.arguments.Goals as goal
+use Rattle.hum_program.specs.Line.{word}
+use Rattle.hum_program.proofs.line.arguments.Goals as goal
 
 abbrev unhelpful : App → App
 unhelpful = on_top (λ s. record s { disable_help_flag = true })

@@ -3,7 +3,7 @@ use Rattle.std.proofs.Common.{◌≡◌, refl, List, [], ◌∷◌, None, Some}
 use Rattle.std.specs.Prelude.{ℕ, ◌++◌, codes}
 use Rattle.clap.specs.Words.{Text}
 use Rattle.clap.proofs.OnLiterals.{clap_on_literals}
-use Rattle.hum_line.specs.Line.{said, IsLine}
+use Rattle.hum_program.specs.Line.{said, IsLine}
 
 abbrev bare : List Text
 bare = codes "humpipe" ∷ []

@@ -1,5 +1,5 @@
-use Rattle.hum_line.proofs.Reading.{says, no_link, no_order}
-use Rattle.hum_line.proofs.choice_of.Goals as goal
+use Rattle.hum_program.proofs.LineReading.{says, no_link, no_order}
+use Rattle.hum_program.proofs.line.choice_of.Goals as goal
 
 pub returns-in_default : goal.returns-in_default
 returns-in_default c = no_link c.args.matches.now _ c.get_str.ensures c.in_default.ensures

@@ -3,11 +3,9 @@
 //! A link holds 1 to 4,096 records, 16 where nothing is said. The order of turns is `left` where
 //! nothing is said. PIPELINE is the file of the plan; without it a bundle is read. Any other line,
 //! `--help` too, is refused.
-#![tactic(auto)]
-
 ghost use Rattle.std.specs.Prelude.{◌≡◌, ◌≢◌, ◌≤◌, ℕ, IfOk, IfErr, MatchOption, map, option_map, string_bytes, false};
 ghost use Rattle.clap.specs.Words.{app_of, first_of, rows_of, rule_of, found_of, kind_of};
-ghost use Rattle.hum_line.specs.Line.{line, option, IsLink, IsOrder, Says, Asks, AskNothing};
+ghost use Rattle.hum_program.specs.Line.{line, option, IsLink, IsOrder, Says, Asks, AskNothing};
 
 use clap::error::ErrorKind;
 use clap::{Arg, ArgAction, ArgMatches, Command};

@@ -1,2 +1,0 @@
--- What is said of the command line.
-pub mod Line
