@@ -215,23 +215,22 @@ fn long_token(alloc: Global, len: usize) -> Result<Vec<u8>, AllocError>
     Ok(vec![in alloc; b'a'; len]?)
 }
 
-/// How long tokens are that stand side by side: longer ones than a short record has room for among others.
-const SIZES: &[usize] = &[1, 513, 2, 600, 16, 70_000, 3, 1, 2_000, 520];
-
 #[test]
 fn builds_records_of_long_tokens(rt: HostRuntime) {
     let alloc = rt.alloc();
+    let short = long_token(alloc, 3).expect(&rt, "memory");
+    let long = long_token(alloc, 600).expect(&rt, "memory");
+    let longer = long_token(alloc, 70_000).expect(&rt, "memory");
     let mut builder = RecordBuilder::new(alloc, SpinedKind::Values);
-    let mut whole = Vec::new(alloc);
-    for len in SIZES {
-        let token = long_token(alloc, (*len).max(1)).expect(&rt, "memory");
-        builder.push(&token).expect(&rt, "a token");
-        if !whole.is_empty() {
-            whole.push(b'\t').expect(&rt, "memory");
-        }
-        whole.extend_from_slice(&token).expect(&rt, "memory");
-    }
+    builder.push(&short).expect(&rt, "a token");
+    builder.push(&long).expect(&rt, "a token");
+    builder.push(&short).expect(&rt, "a token");
+    builder.push(&longer).expect(&rt, "a token");
     let record = builder.finish();
+    let mut whole = Vec::new(alloc);
+    for part in [short.as_slice(), b"\t", &long, b"\t", &short, b"\t", &longer] {
+        whole.extend_from_slice(part).expect(&rt, "memory");
+    }
     same_bytes(&rt, record.text(), &whole, "long tokens side by side");
     check_alike(&rt, &record, &read(&rt, alloc, &whole));
 }
