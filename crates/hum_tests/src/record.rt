@@ -228,7 +228,15 @@ fn builds_records_of_long_tokens(rt: HostRuntime) {
     builder.push(&longer).expect(&rt, "a token");
     let record = builder.finish();
     let mut whole = Vec::new(alloc);
-    for part in [short.as_slice(), b"\t", &long, b"\t", &short, b"\t", &longer] {
+    for part in [
+        short.as_slice(),
+        b"\t",
+        &long,
+        b"\t",
+        &short,
+        b"\t",
+        &longer,
+    ] {
         whole.extend_from_slice(part).expect(&rt, "memory");
     }
     same_bytes(&rt, record.text(), &whole, "long tokens side by side");
