@@ -71,7 +71,7 @@ fn push_tokens(builder: &mut RecordBuilder, row: &Record) -> Result<(), AllocErr
     Ok(())
 }
 
-/// Adds the tokens of a record, all at once where there is room for them.
+/// Adds the tokens of a record, all at once where they surely fit.
 fn push_row(builder: &mut RecordBuilder, row: &Record) -> Result<(), AllocError>
     requires spined { row.now ≡ Spined builder.old.kind (tokens_of row.now) }
     requires tokens { AllByRecursion (IsToken builder.old.kind) (tokens_of row.now) }

@@ -1,6 +1,6 @@
 -- How much room a record has: that of a short one, and twice what its text and its tokens need.
 use Rattle.std.specs.Prelude.{◌≡◌, ◌<◌, ◌≤◌, ◌+◌, ◌-◌, ◌*◌, ◌^◌, min, ℕ, Vec, List, [], ◌∷◌, length}
-use Rattle.std.specs.Prelude.{slice_index, vec_len}
+use Rattle.std.specs.Prelude.{Bool, true, false, max, slice_index, take, vec_len}
 use Rattle.hum_score.specs.Row.{Row, text_of, width_of}
 
 -- for the bytes of its text
@@ -32,3 +32,11 @@ pub record IsRoomOf {Z : Type 0} (held : Vec ℕ Z) (len : ℕ) : Type 0 where
   pub within : len < vec_len held
   pub most : vec_len held ≤ most_bytes len
   pub ended : slice_index held.items len ≡ 10
+
+-- A list begins with what it was. It was given room for so many items, and no more than a limit; or where it was given none, it is as long as it was.
+pub record IsGiven {Z : Type 0} (given : Bool) (old new : Vec ℕ Z) (count limit : ℕ) : Type 0 where
+  pub kept : take (vec_len old) new.items ≡ old.items
+  pub more : vec_len old ≤ vec_len new
+  pub room : given ≡ true → count ≤ vec_len new
+  pub most : vec_len new ≤ max (vec_len old) limit
+  pub full : given ≡ false → vec_len new ≡ vec_len old

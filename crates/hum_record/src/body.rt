@@ -18,7 +18,8 @@ use crate::leaving::move_in_front;
 use crate::near::{FEW, NEAR, copy_near, copy_places, put_places};
 use crate::putting::{put_behind, put_ends};
 use crate::room::{
-    SHORT_BYTES, SHORT_PLACES, fill_bytes, fill_places, give_bytes, give_places, is_within, shorten,
+    SHORT_BYTES, SHORT_PLACES, fill_bytes, fill_places, give_bytes, give_places, is_within,
+    make_room, shorten,
 };
 use crate::selection::Selection;
 use crate::wide::{copy_groups, copy_words};
@@ -510,7 +511,8 @@ impl Body {
         true
     }
 
-    /// The same of all tokens of another one, which are cut as those of a record.
+    /// Adds all tokens of another one, which are cut as those of a record, if there is memory for them and no
+    /// doubt that the text isn't too long, or else nothing; and tells which.
     pub fn add_row(&mut self, other: &Body) -> bool
         requires cut { other.now.ends ≡ ends_from 0 (parts other.now.text) }
         ensures text { result ≡ true
@@ -524,10 +526,11 @@ impl Body {
         let text = other.text();
         let ends = other.ends();
         let count = self.count;
-        if self.held.len() > MOST_BYTES
-            || self.held.len() - self.len <= text.len() + 1
-            || self.places.len() - count < ends.len()
-        {
+        if self.len + text.len() >= MOST_BYTES {
+            return false;
+        }
+        let bytes = self.len + text.len() + 2;
+        if !make_room(&mut self.held, bytes, &mut self.places, count + ends.len()) {
             return false;
         }
         let end = put_behind(&mut self.held, self.len, count, text);

@@ -127,7 +127,8 @@ impl RecordBuilder {
         false
     }
 
-    /// Adds the tokens of a record at the end where there is room for them, or else nothing; and tells which.
+    /// Adds the tokens of a record at the end where they surely fit and there is memory for them, or else
+    /// nothing; and tells which.
     pub fn push_row(&mut self, row: &Record) -> bool
         requires { row.now ≡ Spined self.old.kind (tokens_of row.now) }
         ensures pushed { result ≡ true

@@ -2,7 +2,8 @@
 //!
 //! A short text has little room, and a long one twice what it needs: no record holds much memory that
 //! a longer one left.
-ghost use Rattle.std.specs.Prelude.{◌≡◌, ◌≤◌, ◌+◌, ◌*◌, max, nat_le, OnOk, OnErr, take, vec_len};
+ghost use Rattle.std.specs.Prelude.{◌≡◌, ◌≤◌, ◌<◌, ◌+◌, ◌*◌, ◌^◌, max, nat_le, OnOk, OnErr, take, vec_len};
+ghost use Rattle.hum_record.specs.Room.{IsGiven};
 
 use crate::filling::WHOLE;
 use crate::near::NEAR;
@@ -52,6 +53,7 @@ pub fn fill_places(places: &mut Vec<u32>, count: usize) -> Result<(), AllocError
     ensures more { vec_len places.old ≤ vec_len places.new }
     ensures room { OnOk result (count ≤ vec_len places.new) }
     ensures most { vec_len places.new ≤ max (vec_len places.old) (max count 32) }
+    ensures full { OnErr result (vec_len places.new ≡ vec_len places.old) }
 {
     let count = count.max(LEAST_PLACES);
     if places.len() < count {
@@ -83,6 +85,39 @@ pub fn give_places(places: &mut Vec<u32>, count: usize) -> Result<(), AllocError
         return fill_places(places, count);
     }
     Ok(())
+}
+
+/// Makes room for so many bytes and places, if there is memory for both, and tells whether there was. Most often
+/// the room is there already.
+pub fn make_room(held: &mut Vec<u8>, bytes: usize, places: &mut Vec<u32>, count: usize) -> bool
+    requires few { bytes < 2 ^ 62 }
+    requires few_places { count < 2 ^ 62 }
+    ensures bytes { IsGiven result held.old held.new bytes (max (2 * bytes) 80) }
+    ensures places { IsGiven result places.old places.new count (max (2 * count) 32) }
+{
+    if held.len() >= bytes && places.len() >= count {
+        return true;
+    }
+    make_more(held, bytes, places, count)
+}
+
+// The same, with room for as much again.
+#[inline(never)]
+fn make_more(held: &mut Vec<u8>, bytes: usize, places: &mut Vec<u32>, count: usize) -> bool
+    requires few { bytes < 2 ^ 62 }
+    requires few_places { count < 2 ^ 62 }
+    ensures bytes { IsGiven result held.old held.new bytes (max (2 * bytes) 80) }
+    ensures places { IsGiven result places.old places.new count (max (2 * count) 32) }
+{
+    let before = places.len();
+    let Ok(()) = fill_places(places, 2 * count) else {
+        return false;
+    };
+    let Ok(()) = fill_bytes(held, 2 * bytes) else {
+        places.truncate(before);
+        return false;
+    };
+    true
 }
 
 /// Lets go of what a list holds, and of its memory.

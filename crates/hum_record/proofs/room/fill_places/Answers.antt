@@ -19,4 +19,4 @@ returns-in_err-resize c =
     let places = c.args.places.now in
     let same = c.in_err-resize.ensures in
     let p = err_from_is_err_and c.from_residual.result c.from_residual.ensures.1 in
-    rw p.1 (record { kept = rw same.items (take_all _ places.items (omega (arith, places.ok.0))); more = search rules; room = tt; most = search rules })
+    rw p.1 (record { kept = rw same.items (take_all _ places.items (omega (arith, places.ok.0))); more = search rules; room = tt; most = search rules; full = search rules })
