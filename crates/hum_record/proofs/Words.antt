@@ -148,3 +148,11 @@ last_word held places next at head len whole_size ends short w end put =
         cut = words.tabs ∙ tabs_cut text;
       };
     }
+
+-- a line that ends in the second word
+pub second_word : (held : List ℕ) (first len size ends : ℕ) → 64 ≤ length held → first ≡ bits_of 9 (chunk 0 64 held)
+    → mask_l (map is_stop (chunk 0 64 held)) ≡ 0 → bit_and (1 + 2 * first) first ≡ 0 → len < 128
+    → EndsLine held 64 (first / 2 ^ 63) len size ends → FarLine held (set_places 64 0 first ++ set_places 64 64 ends) len
+second_word held first len size ends room is_first free apart short end =
+    last_word held (set_places 64 0 first) _ 64 (first / 2 ^ 63) len size ends short
+    (whole_word held [] (set_places 64 0 first) 0 1 first _ room no_words is_first refl free apart refl) end refl

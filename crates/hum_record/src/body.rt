@@ -1,5 +1,5 @@
 //! The text of a record, and where its tokens end in it.
-ghost use Rattle.std.specs.Prelude.{◌≡◌, ◌≤◌, ◌<◌, ◌+◌, ◌-◌, ◌*◌, ◌^◌, ◌++◌, ◌∷◌, [], length, take};
+ghost use Rattle.std.specs.Prelude.{◌≡◌, ◌≤◌, ◌<◌, ◌+◌, ◌-◌, ◌*◌, ◌/◌, ◌^◌, ◌++◌, ◌∷◌, [], length, take};
 ghost use Rattle.std.specs.Prelude.{bit_and, slice_index};
 ghost use Rattle.std.specs.Prelude.{ℕ, OnOk, IfErr, IfSome, Ok, true, false, vec_len};
 ghost use Rattle.hum_record.specs.Building.{tab_between, spelled};
@@ -15,7 +15,7 @@ ghost use Rattle.hum_score.specs.Spelling.{has_byte, reading, parts, Fails};
 use crate::filling::{WHOLE, put_filled};
 use crate::holding::{fit, hold_behind, hold_copy, hold_far, hold_line};
 use crate::leaving::move_in_front;
-use crate::near::{FEW, NEAR, copy_near, copy_places, put_places};
+use crate::near::{FEW, LineEnd, NEAR, copy_near, copy_places, put_places};
 use crate::putting::{put_behind, put_ends};
 use crate::room::{
     SHORT_BYTES, SHORT_PLACES, fill_bytes, fill_places, give_bytes, give_places, is_within,
@@ -207,6 +207,34 @@ impl Body {
         let count = put_places(&mut self.places, 0, 0, ends);
         self.len = len;
         self.count = count;
+        true
+    }
+
+    /// Puts a line that ends in the second 64 bytes of what is held in place of the text, and the places of bits
+    /// in both in place of where tokens end, no two of which stand side by side, if there is room; and tells
+    /// whether there was.
+    #[inline(always)]
+    pub fn put_pair(&mut self, held: &[u8], ends: u64, end: LineEnd) -> bool
+        requires filled { 128 ≤ length held.now }
+        requires short { end.len < 128 }
+        requires apart { bit_and (1 + 2 * ends) ends ≡ 0 }
+        requires next_apart { bit_and (ends / 2 ^ 63 + 2 * end.ends) end.ends ≡ 0 }
+        ensures text { result ≡ true → self.new.text ≡ take end.len held.now }
+        ensures ends { result ≡ true
+            → self.new.ends ≡ set_places 64 0 ends ++ set_places 64 64 end.ends }
+    {
+        if self.held.len() < 2 * NEAR || self.held.len() > SHORT_BYTES {
+            return false;
+        }
+        if self.places.len() < NEAR || self.places.len() > SHORT_PLACES {
+            return false;
+        }
+        copy_words(&mut self.held, held, 2);
+        self.held[end.len] = b'\n';
+        let count = put_places(&mut self.places, 0, 0, ends);
+        let all = put_places(&mut self.places, count, 64, end.ends);
+        self.len = end.len;
+        self.count = all;
         true
     }
 

@@ -1,11 +1,12 @@
 //! A record, and how a line is read as one.
 ghost use Rattle.std.specs.Prelude.{◌≡◌, ◌≢◌, ◌<◌, ◌≤◌, true, false, Ok, IfOk, IfErr, OnOk, OnErr, MatchResult};
-ghost use Rattle.std.specs.Prelude.{IfSome, length, take, ◌++◌, ◌∷◌, []};
+ghost use Rattle.std.specs.Prelude.{IfSome, length, map, take, ◌++◌, ◌∷◌, []};
+ghost use Rattle.std.specs.Simd.Lanes.{chunk, mask_l};
 ghost use Rattle.hum_score.specs.Spelling.{IsTokenOf, IsTextOf, has_byte, is_comment, reading};
 ghost use Rattle.hum_score.specs.Spelling.{Gives, Fails, Breaks};
 ghost use Rattle.hum_record.specs.Fields.{AreFields, row_in};
 ghost use Rattle.hum_record.specs.Lines.{IsRead, IsReadTo};
-ghost use Rattle.hum_record.specs.Plain.{EndsLine};
+ghost use Rattle.hum_record.specs.Plain.{EndsLine, is_stop};
 ghost use Rattle.hum_record.specs.Room.{room_for, least_room};
 ghost use Rattle.hum_score.specs.Row.{Row, kind_of, row_of, tokens_of, width_of, token_at, text_of};
 ghost use Rattle.hum_score.specs.Row.{Spined, with_chosen};
@@ -15,9 +16,10 @@ ghost use Rattle.hum_score.specs.declared.records.SpinedKind.TheVariants.{Values
 ghost use Rattle.std.specs.List.{list_any};
 ghost use Rattle.hum_score.specs.declared.records.RecordFault.TheVariants.{Memory};
 
+use crate::bits::bits_at;
 use crate::body::Body;
 use crate::iter::Tokens;
-use crate::near::{LineEnd, NEAR, SHORT, line_end, stop_bits};
+use crate::near::{LineEnd, NEAR, SHORT, is_apart, line_end, stop_bits};
 use crate::selection::Selection;
 use crate::spare::Spare;
 use crate::tokens::{Cut, lawful_kind, push_ends, token_at_end, token_kind};
@@ -26,10 +28,13 @@ use memchr::memchr;
 use std::alloc::{AllocError, Global};
 use std::marker::Model;
 
-/// With so many tokens most lines are longer than 32 bytes, and with so many more than 64.
+/// With so many tokens most lines are longer than 32 bytes, with so many more than 64, and with so many more
+/// than 128.
 const WIDE: usize = 8;
 
 const WIDEST: usize = 16;
+
+const FAR: usize = 32;
 
 /// One record: a global comment, or a token of one kind for each spine.
 ///
@@ -181,25 +186,47 @@ impl Record {
         })
     }
 
-    /// The record of a line of any length, into what is left of any record. By how many tokens it may have it
-    /// is known in what pieces it is best looked at. What any other line is, [`Record::parse_into`] tells.
+    /// The record of a line of any length, into what is left of any record, where the first 64 bytes haven't
+    /// shown what it is. By how many tokens it may have it is known in what pieces it is best looked at. What
+    /// any other line is, [`Record::parse_into`] tells.
     #[inline(always)]
     pub fn parse_line(spare: &mut Spare, held: &[u8], width: usize) -> Option<Record>
         ensures { IfSome result (IsRead held.now) }
     {
-        if held.len() < NEAR {
-            return None;
-        }
-        if width >= WIDE {
+        if held.len() < 2 * NEAR || width >= FAR {
             return Self::parse_wide(spare, held);
         }
-        let stops = stop_bits::<NEAR>(held, 0);
+        if stop_bits::<NEAR>(held, 0) != 0 {
+            if width >= WIDEST {
+                return Self::parse_wide(spare, held);
+            }
+            return None;
+        }
+        Self::parse_pair(spare, held)
+    }
+
+    /// The same where it doesn't end among the first 64 bytes, by the next 64 or by all.
+    #[inline(always)]
+    fn parse_pair(spare: &mut Spare, held: &[u8]) -> Option<Record>
+        requires filled { 128 ≤ length held.now }
+        requires free { mask_l (map is_stop (chunk 0 64 held.now)) ≡ 0 }
+        ensures { IfSome result (IsRead held.now) }
+    {
+        let stops = stop_bits::<NEAR>(held, NEAR);
         if stops == 0 {
             return Self::parse_wide(spare, held);
         }
-        let end = line_end::<NEAR>(held, 0, 1, stops)?;
-        let body = spare.take()?;
-        Self::of_near::<NEAR>(spare, body, held, end)
+        let ends = bits_at::<NEAR>(held, 0, b'\t');
+        if !is_apart(1, ends) {
+            return None;
+        }
+        let end = line_end::<NEAR>(held, NEAR, ends >> 63, stops)?;
+        let mut body = spare.take_first()?;
+        if body.put_pair(held, ends, end) {
+            return Some(Record { body });
+        }
+        spare.put_back(body);
+        Self::parse_wide(spare, held)
     }
 
     /// The record of a line that ends among the first `N` bytes of what is held, in what was taken.
