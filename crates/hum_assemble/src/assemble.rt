@@ -7,7 +7,7 @@ ghost use Rattle.hum_record.specs.Room.{rooms_for};
 ghost use Rattle.hum_stage.specs.declared.faults.Fault.{Fault};
 ghost use Rattle.hum_stage.specs.Meaning.{fault_at, resting_state, readiness_by};
 ghost use Rattle.hum_assemble.specs.Change.{Input, More, Ends, IsOpenInput};
-ghost use Rattle.hum_assemble.specs.{Merge.ahead, Groups.GivesByGroups, Groups.IsTakenByGroups};
+ghost use Rattle.hum_assemble.specs.{Groups.GivesByGroups, Groups.IsTakenByGroups};
 ghost use Rattle.hum_assemble.specs.Meaning.{Moment, MayPut, MayEnd, HasChanged, HasTaken};
 ghost use Rattle.hum_assemble.specs.Meaning.{state_of, wants_of, held_at, lower, inputs_end};
 ghost use Rattle.hum_assemble.specs.Meaning.{heads, waiting_by, waiting_at};

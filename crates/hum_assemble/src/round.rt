@@ -1,12 +1,11 @@
 //! What several sources give side by side.
-ghost use Rattle.std.specs.Prelude.{◌≡◌, ◌≤◌, ◌++◌, ℕ, ◌+◌, nat_lt, nat_le, true, not, ◌&&◌, ◌||◌};
+ghost use Rattle.std.specs.Prelude.{◌≡◌, ◌≤◌, ℕ, ◌+◌, nat_lt, nat_le, true, not, ◌&&◌, ◌||◌};
 ghost use Rattle.std.specs.Prelude.{None, Some, IfOk, OnOk, length, take};
 ghost use Rattle.std.specs.List.{list_all, list_any, position_from};
-ghost use Rattle.hum_record.specs.{Building.spelled};
 ghost use Rattle.hum_score.specs.{Row.text_of};
 ghost use Rattle.hum_assemble.specs.{Head.AllLawful, Places.kind_at, Places.is_shared};
 ghost use Rattle.hum_assemble.specs.Round.{any_due, waits, is_lost, is_missing, earliest, AllKnown};
-ghost use Rattle.hum_assemble.specs.Merge.{spines, all_moved, made, comment_given, tokens_given};
+ghost use Rattle.hum_assemble.specs.Merge.{spines, all_moved, made, comment_given};
 ghost use Rattle.hum_assemble.specs.Merge.{ahead, ahead_open, ahead_at, given_row, given_on};
 ghost use Rattle.hum_assemble.specs.Taking.{row_taken, bytes_given, parts_given, AreNotes, IsGiving, IsAlone};
 
