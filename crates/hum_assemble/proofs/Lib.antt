@@ -1,5 +1,3 @@
-mod Examples
-mod GroupExamples
 pub mod Fitting
 pub mod Bytes
 pub mod Taking

@@ -1,4 +1,3 @@
-mod Examples
 pub mod Framing
 pub mod Headings
 pub mod Keeping

@@ -1,3 +1,2 @@
 pub mod Rewriting
 pub mod Rewriter
-pub mod Samples

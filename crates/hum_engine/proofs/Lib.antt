@@ -22,7 +22,6 @@ pub mod Advancing
 pub mod Choosing
 pub mod Telling
 pub mod Beginning
-mod Examples
 pub mod Appending
 pub mod Lasting
 pub mod Tried

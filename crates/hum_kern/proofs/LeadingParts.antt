@@ -1,11 +1,10 @@
 -- Durations that one or two digits at the front of a token tell.
-use Rattle.std.proofs.Common.{◌≡◌, ◌∙◌, ℕ, ◌+◌, ◌-◌, ◌*◌, ◌<◌, ◌≤◌, ◌==◌, List, [], ◌∷◌, length, take, drop, get_or, refl, sym, ap, arith, subst}
+use Rattle.std.proofs.Common.{◌≡◌, ◌∙◌, ℕ, ◌+◌, ◌-◌, ◌*◌, ◌<◌, ◌≤◌, ◌==◌, List, [], ◌∷◌, length, refl, sym, ap, arith, subst}
 use Rattle.std.proofs.Common.{Bool, true, false, Option, None, Some}
 use Rattle.std.specs.Prelude.{not, nat_lt, nat_le, is_some, IfSome, ◌&&◌, ◌++◌, if◌then◌else◌}
 use Rattle.std.specs.List.{list_any}
 use Rattle.std.proofs.lemmas.Bool.{and_parts}
 use Rattle.std.proofs.lemmas.Bool.Decides.{nat_tests}
-use Rattle.std.proofs.lemmas.List.{take_all}
 use Rattle.hum_frac.specs.Ratio.{Ratio, reduced}
 use Rattle.hum_kern.specs.declared.runs.Class.TheVariants.{Digit}
 use Rattle.hum_kern.specs.Classes.{is_in, is_digit, is_dot, is_divider, is_rest_sign}
@@ -122,16 +121,6 @@ abbrev chosen : Bool → ℕ → ℕ → List ℕ → Leading
 chosen two a b bytes =
     if two then record { number = 10 * (a - 48) + (b - 48); digits = 2; rest = bytes }
     else record { number = a - 48; digits = 1; rest = b ∷ bytes }
-
-pub two_behind : (a : ℕ) (rest : List ℕ) → 1 ≤ length rest → is_digit (get_or rest 0 0) ≡ true
-    → record { number = 10 * (a - 48) + (get_or rest 0 0 - 48); digits = 2; rest = take (length rest - 1) (drop 1 rest) } ≡ behind_digit a rest
-two_behind a [] filled digit = absurd (omega (arith, filled))
-two_behind a (b ∷ rest) filled digit =
-    let whole : take (length (b ∷ rest) - 1) rest ≡ rest = take_all (length (b ∷ rest) - 1) rest (omega arith) in
-    rw (whole, digit) refl
-
-pub one_behind : (a b : ℕ) (rest : List ℕ) → is_digit b ≡ false → record { number = a - 48; digits = 1; rest = b ∷ rest } ≡ behind_digit a (b ∷ rest)
-one_behind a b rest other = rw other refl
 
 digit_range : (b : ℕ) → is_digit b ≡ true → (48 ≤ b) × (b ≤ 57)
 digit_range b digit =

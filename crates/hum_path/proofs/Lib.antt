@@ -1,7 +1,6 @@
 pub mod ByPlace
 pub mod Carry
 pub mod Climbing
-pub mod Examples
 pub mod Joins
 pub mod Obeyed
 pub mod Onwards

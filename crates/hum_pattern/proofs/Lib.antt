@@ -1,4 +1,3 @@
-mod Examples
 pub mod OnLiterals
 pub mod Reading
 pub mod Remembered

@@ -1,4 +1,3 @@
-mod Examples
 pub mod Denoting
 pub mod Faults
 pub mod Polling

@@ -1,4 +1,3 @@
-mod Examples
 pub mod Long
 pub mod Parts
 pub mod Ends

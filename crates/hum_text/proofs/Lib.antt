@@ -1,4 +1,3 @@
-pub mod Examples
 pub mod WindowLemmas
 pub mod PieceLemmas
 pub mod TextLemmas
