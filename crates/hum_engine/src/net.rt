@@ -292,23 +292,24 @@ impl<S: Stage + Drop, R: Source + Drop, W: Sink> Net<S, R, W> {
             Moved::Gave => Some(k),
             Moved::Heard(link) => Some(link),
             // room has come on that link: most often its stage gives at once
-            Moved::Took(link) => self.give_left(link),
+            Moved::Took(link) => self.give_left(link, k),
             Moved::Failed(_) => None,
             Moved::Over => None,
         }
     }
 
-    // The turn of a stage onto whose link room has come, if it gives at once: it was to be asked next.
+    // The turn of a stage onto whose link room has come, if it gives at once: it was to be asked next. Where it has filled
+    // its link again, nobody is ready to the left of who has taken from it.
     #[inline(always)]
-    fn give_left(&mut self, k: usize) -> Option<usize>
-        requires may { MayStep S.Stage W.Sink (looks.FromLeft k) self.old }
+    fn give_left(&mut self, k: usize, taker: usize) -> Option<usize>
+        requires may { MayStep S.Stage W.Sink (looks.Beside k taker) self.old }
         requires room { HasRoom k self.old.web }
-        ensures advanced { HasAdvanced S.Stage R.Source W.Sink (leaning side.Left) tt tt (looks.FromLeft k)
+        ensures advanced { HasAdvanced S.Stage R.Source W.Sink (leaning side.Left) tt tt (looks.Beside k taker)
             (left_at result) self.old self.new (is_none result) }
         ensures turns { self.old.turns ≤ self.new.turns }
     {
         match self.give_on(k) {
-            Moved::Filled => Some(k + 1),
+            Moved::Filled => Some(taker),
             Moved::Failed(_) => None,
             Moved::Over => None,
             Moved::Waits => Some(k),

@@ -1,6 +1,6 @@
 use Rattle.std.proofs.Common.{refl, ap, arith, inl, inr}
 use Rattle.hum_engine.proofs.Advancing.{advanced_twice, may_on}
-use Rattle.hum_engine.proofs.Choosing.{left_asked, left_few, left_filled, left_on, left_over, left_rested}
+use Rattle.hum_engine.proofs.Choosing.{left_asked, left_few, left_filled, left_on, left_over, left_rested, left_took}
 use Rattle.hum_engine.proofs.net.Net.step_left.Goals as goal
 
 pub act-requires : goal.act-requires
@@ -32,14 +32,14 @@ pub returns-in-Heard-clause-closer : goal.returns-in-Heard-clause-closer
 returns-in-Heard-clause-closer g c = inr (inl (omega (arith, c.in-Heard.ensures.0.gone.turns)))
 
 pub give_left-requires-clause-may : goal.give_left-requires-clause-may
-give_left-requires-clause-may g c = may_on (left_on c.requires c.in-Took.ensures.0).stepped c.requires
+give_left-requires-clause-may g c = may_on (left_took c.requires c.in-Took.ensures.0 c.in-Took.ensures.1).stepped c.requires
 
 pub give_left-requires-clause-room : goal.give_left-requires-clause-room
 give_left-requires-clause-room g c = c.in-Took.ensures.2
 
 pub returns-in-Took-clause-advanced : goal.returns-in-Took-clause-advanced
 returns-in-Took-clause-advanced g c =
-    advanced_twice c.requires (left_on c.requires c.in-Took.ensures.0) c.give_left.ensures.advanced
+    advanced_twice c.requires (left_took c.requires c.in-Took.ensures.0 c.in-Took.ensures.1) c.give_left.ensures.advanced
 
 pub returns-in-Took-clause-closer : goal.returns-in-Took-clause-closer
 returns-in-Took-clause-closer g c =
