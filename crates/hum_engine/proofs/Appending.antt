@@ -1,5 +1,5 @@
 -- A text that is written in parts.
-use Rattle.std.proofs.Common.{◌≡◌, ◌∙◌, ◌||◌, ◌≤◌, ◌+◌, ◌-◌, true, false, ℕ}
+use Rattle.std.proofs.Common.{◌≡◌, ◌∙◌, ◌||◌, ◌<◌, ◌≤◌, ◌+◌, ◌-◌, true, false, ℕ}
 use Rattle.std.proofs.Common.{List, [], ◌++◌, length, Option, Some, None}
 use Rattle.std.proofs.Common.{refl, sym, ap, arith, ne_eqb, append_assoc, append-nil, take, drop, length-drop}
 use Rattle.std.specs.Bool.{◌==◌}
@@ -113,6 +113,16 @@ module _ {W : Type 0} {writer : Sink W} {old now : W} {text rest : List ℕ} (w 
     unflushed = w.unflushed;
   }
 
--- what is left of a text behind a call that took some bytes of it
-pub left_behind : (n : ℕ) (text : List ℕ) → length (take (length text - n) (drop n text)) ≡ length text - n
-left_behind n text = rw (take_all (length text - n) (drop n text) (omega (arith, length-drop n text))) (length-drop n text)
+-- One call has taken all of a text.
+pub written_near : {W A E : Type 0} {writer : Sink W} {old new : W} {text : List ℕ} {x : A} → 0 < length text
+    → Appends (writer.contents old) (writer.contents new) text → writer.calls new ≡ counted (writer.calls old)
+    → writer.failed new ≡ writer.failed old → writer.flushes new ≡ writer.flushes old
+    → HasWritten {E = E} writer old new text (Ok x)
+written_near {writer = writer} {old} {new} some appends called sound unflushed = record {
+  ok = appends;
+  err = tt;
+  sound = sound;
+  marked = tt;
+  few = omega (arith, some, one_call (writer.calls old) (writer.calls new) called);
+  unflushed = unflushed;
+}

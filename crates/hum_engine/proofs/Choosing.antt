@@ -18,14 +18,14 @@ use Rattle.hum_turns.proofs.States.{sink_state, last_less}
 use Rattle.hum_turns.proofs.Writing.{still}
 use Rattle.hum_nodes.proofs.Standing.{source_bytes}
 use Rattle.hum_engine.specs.declared.net.Net.{Net}
-use Rattle.hum_engine.specs.Looks.{Look, FromLeft, FromRight, Unseen, Sees, leaning}
+use Rattle.hum_engine.specs.Looks.{Look, FromLeft, Beside, FromRight, Unseen, Sees, leaning}
 use Rattle.hum_engine.specs.Scene.{Scene, plan_of, moved, before_all, IsFull}
 use Rattle.hum_engine.specs.Nets.{NetAt, AtEach, AreOver, GoesTo, MayAsk, MayGo, MayStep, HasPicked, HasRested}
 use Rattle.hum_engine.specs.Nets.{HasGone, HasWorked, HasAdvanced}
 use Rattle.hum_engine.proofs.Advancing.{pick_now, rested_on, then_at}
 use Rattle.hum_engine.proofs.Feeding.{room_same}
 use Rattle.hum_engine.proofs.Leaning.{left_choice, right_choice}
-use Rattle.hum_engine.proofs.Looking.{IsTurn, IsTaker, touched_below, took, left_moved, left_passed}
+use Rattle.hum_engine.proofs.Looking.{IsTurn, IsTaker, touched_below, took, left_moved, left_passed, took_beside, filled_beside}
 use Rattle.hum_engine.proofs.Looking.{right_moved, right_passed, right_more}
 use Rattle.hum_engine.proofs.Netting.{is_at, not_over, ready_at}
 use Rattle.hum_engine.proofs.Running.{any_ready, no_rests, now_unfailed, picked, relisted, seen, some_ready, unfailed_at}
@@ -270,6 +270,13 @@ module _ {S R W : Type 0} {stage : Stage S} {reader : Source R} {writer : Sink W
       → HasAdvanced stage reader writer (leaning side.Left) tt tt (FromLeft k) (FromLeft link) net behind false
   left_on w = moved_on (left_asked may) w.ready w.gone (λ start s now n goes. left_seen w n goes)
 
+  pub left_took : {link : ℕ} → HasWorked stage reader writer k link net behind false → link < k
+      → HasAdvanced stage reader writer (leaning side.Left) tt tt (FromLeft k) (Beside link k) net behind false
+  left_took w less =
+      let a = left_asked may in
+      moved_on a w.ready w.gone (λ start s now n goes.
+      took_beside (turn_of a w n goes) (taker_of a w n goes (some_taker a w n goes)) less n.sees)
+
   pub left_filled : HasWorked stage reader writer k k net behind false → IsFull k behind.web
       → HasAdvanced stage reader writer (leaning side.Left) tt tt (FromLeft k) (FromLeft (k + 1)) net behind false
   left_filled w full = moved_on (left_asked may) w.ready w.gone (λ start s now n goes.
@@ -287,6 +294,55 @@ module _ {S R W : Type 0} {stage : Stage S} {reader : Source R} {writer : Sink W
   pub left_waits : behind ≡ net
       → HasAdvanced stage reader writer (leaning side.Left) tt tt (FromLeft k) (FromLeft k) net behind false
   left_waits same = rested_on may (rw same refl) (rw same refl) (λ start s now at none sees. sees)
+
+-- and of an actor from which another has just taken:
+beside_left : (s : Scene) (now : Now Row) {k by : ℕ} → Sees (Beside k by) s now → Sees (FromLeft k) s now
+beside_left s now sees =
+    (omega (arith, sees.0, sees.1), λ j less. sees.3 j (omega (arith, less, sees.0)) (λ e. omega (arith, less, e)))
+
+module _ {S R W : Type 0} {stage : Stage S} {writer : Sink W} {k by : ℕ} {net : Net S R W}
+    (may : MayStep stage writer (Beside k by) net) where
+  pub beside_may : MayStep stage writer (FromLeft k) net
+  beside_may = record {
+    start = may.start;
+    scene = may.scene;
+    now = may.now;
+    rests = may.rests;
+    at = may.at;
+    going = may.going;
+    sees = λ rests over. beside_left (may.scene rests over) (may.now rests over) (may.sees rests over);
+  }
+
+  beside_asked : Asked stage writer (leaning side.Left) (Beside k by) k tt tt net
+  beside_asked =
+      let a = left_asked beside_may in record {
+        may = may;
+        ask = a.ask;
+        picks = λ start s now h none sees ready. a.picks start s now h none (beside_left s now sees) ready;
+      }
+
+module _ {S R W : Type 0} {stage : Stage S} {reader : Source R} {writer : Sink W} {k by : ℕ} {net behind : Net S R W}
+    (may : MayStep stage writer (Beside k by) net) where
+  pub beside_on : {after : Look} {is_over : Bool}
+      → HasAdvanced stage reader writer (leaning side.Left) tt tt (FromLeft k) after net behind is_over
+      → HasAdvanced stage reader writer (leaning side.Left) tt tt (Beside k by) after net behind is_over
+  beside_on h = record {
+    stepped = record {
+      reads = h.stepped.reads;
+      read = h.stepped.read;
+      goes = λ start s now over at none sees. h.stepped.goes start s now over at none (beside_left s now sees);
+    };
+    marks = h.marks;
+    flushes = h.flushes;
+  }
+
+  pub beside_filled : HasWorked stage reader writer k k net behind false → IsFull k behind.web
+      → HasAdvanced stage reader writer (leaning side.Left) tt tt (Beside k by) (FromLeft by) net behind false
+  beside_filled w full =
+      let a = beside_asked may in
+      moved_on a w.ready w.gone (λ start s now n goes.
+      filled_beside (turn_of a w n goes) (taker_of a w n goes (some_taker a w n goes)) refl
+      (full_unready n.goes.at goes full) n.sees)
 
 -- from the right:
 module _ {S R W : Type 0} {stage : Stage S} {reader : Source R} {writer : Sink W} {k : ℕ} {net behind : Net S R W}

@@ -10,7 +10,7 @@ use Rattle.hum_turns.specs.Failures.{Now, Turn, is_ready, result}
 use Rattle.hum_turns.specs.Near.{touched, LooksAt}
 use Rattle.hum_turns.proofs.Near.{ready_untouched}
 use Rattle.hum_turns.proofs.States.{taker, last_next}
-use Rattle.hum_engine.specs.Looks.{Sees, FromLeft, FromRight}
+use Rattle.hum_engine.specs.Looks.{Sees, FromLeft, Beside, FromRight}
 use Rattle.hum_engine.specs.Scene.{Scene, plan_of, TakesFrom, IsNetPlan}
 
 -- Who takes from a link, and which links there are.
@@ -104,6 +104,31 @@ module _ {s : Scene} {k link taker : ℕ} {old new : Now Row} (t : IsTurn s k li
         ((λ e. absurd (omega (arith, less, e))), (λ e. absurd (omega (arith, less, e, u.behind))))
         (sees.1 j (omega (arith, less, below))),
   )
+
+  -- Behind a record that was taken from it that actor alone is asked before the taker,
+  pub took_beside : link < k → Sees (FromLeft k) s old → Sees (Beside link k) s new
+  took_beside less sees =
+      let takes = took t (λ e. omega (arith, less, e)) in (
+        less,
+        sees.0,
+        takes,
+        λ j below apart. before j (omega (arith, below, sees.0))
+            (apart, λ e. absurd (omega (arith, below, e, u.alone k takes)))
+            (sees.1 j below),
+      )
+
+  -- and nobody once it isn't ready.
+  pub filled_beside : {by : ℕ} → k ≡ link → is_ready (plan_of s) s.size new link ≡ false → Sees (Beside k by) s old
+      → Sees (FromLeft by) s new
+  filled_beside {by} own isnt sees =
+      let is : by ≡ taker = u.alone by (subst (TakesFrom s.count s.kinds by) own sees.2) in (
+        sees.1,
+        λ j less. ⊎_elim
+            (λ (here : j ≡ link). ap (is_ready (plan_of s) s.size new) here ∙ isnt)
+            (λ apart. before j (omega (arith, less, sees.1)) (apart, λ e. absurd (omega (arith, less, e, is)))
+            (sees.3 j less (λ e. apart (e ∙ own))))
+            (cases_eq j link),
+      )
 
   -- From the right: nobody who stands to the right of who takes from it.
   pub right_moved : Sees (FromRight k) s old → Sees (FromRight taker) s new

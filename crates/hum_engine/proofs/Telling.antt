@@ -19,7 +19,7 @@ use Rattle.hum_nodes.specs.Nodes.{StandsAs, is_source}
 use Rattle.hum_nodes.proofs.Followed.{read_none}
 use Rattle.hum_nodes.proofs.Standing.{any_rest, reads_few}
 use Rattle.hum_engine.specs.declared.net.Net.{Net}
-use Rattle.hum_engine.specs.Looks.{Look, FromLeft, FromRight, Unseen, leaning, still_to_ask}
+use Rattle.hum_engine.specs.Looks.{Look, FromLeft, Beside, FromRight, Unseen, leaning, still_to_ask}
 use Rattle.hum_engine.specs.Readers.{ended_at}
 use Rattle.hum_engine.specs.Scene.{Scene, plan_of, at_of, before_all}
 use Rattle.hum_engine.specs.Nets.{NetAt, AtEach, IsNet, IsRunning, MayStep, HasAdvanced, MarksFailures, IsCloser}
@@ -34,6 +34,7 @@ use Rattle.hum_engine.proofs.Running.{no_rests}
 -- few actors are still to be asked
 few_still : (look : Look) → still_to_ask look ≤ 256
 few_still (FromLeft k) = omega arith
+few_still (Beside k taker) = omega arith
 few_still (FromRight k) = omega arith
 few_still Unseen = omega arith
 

@@ -1,14 +1,16 @@
 -- What a run knows of who is ready, and the order by which it goes that leans to a side.
-use Rattle.std.specs.Prelude.{◌≡◌, ℕ, ◌-◌, ◌<◌, ◌≤◌, false, Option, None, Some}
+use Rattle.std.specs.Prelude.{◌≡◌, ◌≢◌, ℕ, ◌-◌, ◌<◌, ◌≤◌, false, Option, None, Some}
 use Rattle.hum_score.specs.Row.{Row}
 use Rattle.hum_turns.specs.declared.order.Side.{Side}
 use Rattle.hum_turns.specs.Failures.{Now, is_ready}
 use Rattle.hum_turns.specs.Orders.{Order, outermost}
-use Rattle.hum_engine.specs.Scene.{Scene, plan_of}
+use Rattle.hum_engine.specs.Scene.{Scene, plan_of, TakesFrom}
 
 pub data Look : Type 0 where
   -- nobody to the left of this actor is ready
   FromLeft : (actor : ℕ) → Look
+  -- nor to the left of who takes from its link, but perhaps this one
+  Beside : (actor taker : ℕ) → Look
   -- nobody to the right of it is
   FromRight : (actor : ℕ) → Look
   -- of nobody anything is known
@@ -16,6 +18,8 @@ pub data Look : Type 0 where
 
 abbrev pub Sees : Look → Scene → Now Row → Type 0
 Sees (FromLeft k) s now = (k ≤ s.count) × ((j : ℕ) → j < k → is_ready (plan_of s) s.size now j ≡ false)
+Sees (Beside k taker) s now = (k < taker) × (taker ≤ s.count) × TakesFrom s.count s.kinds taker k
+    × ((j : ℕ) → j < taker → j ≢ k → is_ready (plan_of s) s.size now j ≡ false)
 Sees (FromRight k) s now =
     (k ≤ s.count) × ((j : ℕ) → k < j → j ≤ s.count → is_ready (plan_of s) s.size now j ≡ false)
 Sees Unseen s now = Unit {0}
@@ -32,6 +36,7 @@ right_at None = Unseen
 -- how many actors are still asked at most before one of 256 is ready
 abbrev pub still_to_ask : Look → ℕ
 still_to_ask (FromLeft k) = 256 - k
+still_to_ask (Beside k taker) = 0
 still_to_ask (FromRight k) = 256 - (256 - k)
 still_to_ask Unseen = 0
 

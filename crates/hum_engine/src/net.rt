@@ -194,19 +194,29 @@ impl<S: Stage + Drop, R: Source + Drop, W: Sink> Net<S, R, W> {
         ensures { HasCome S.Stage R.Source W.Sink k self.old self.new result }
     {
         if k == self.web.count() {
-            let last = self.web.last();
-            let Some(is_over) = self.sink_turn() else {
-                return Moved::Waits;
-            };
-            self.turns += 1;
-            if is_over {
-                return Moved::Over;
-            }
-            return Moved::Took(last);
+            return self.act_sink(k);
         }
         let moved = self.web.turn(k);
         self.settle(k, moved);
         moved
+    }
+
+    // The same of the sink.
+    #[inline(always)]
+    fn act_sink(&mut self, k: usize) -> Moved
+        requires ask { MayAsk S.Stage W.Sink k self.old }
+        requires sink { k ≡ length self.old.web.nodes.items }
+        ensures { HasCome S.Stage R.Source W.Sink k self.old self.new result }
+    {
+        let last = self.web.last();
+        let Some(is_over) = self.sink_turn() else {
+            return Moved::Waits;
+        };
+        self.turns += 1;
+        if is_over {
+            return Moved::Over;
+        }
+        Moved::Took(last)
     }
 
     // The turn of a stage whose link has room, if it gives or reads at once.
@@ -279,6 +289,7 @@ impl<S: Stage + Drop, R: Source + Drop, W: Sink> Net<S, R, W> {
     }
 
     // Asks an actor, and tells who is asked next; nobody, where the run is over.
+    // Each arm counts its turn, so that what a turn has come to is looked at once.
     #[inline(always)]
     fn step_left(&mut self, k: usize) -> Option<usize>
         requires { MayStep S.Stage W.Sink (looks.FromLeft k) self.old }
@@ -286,29 +297,69 @@ impl<S: Stage + Drop, R: Source + Drop, W: Sink> Net<S, R, W> {
             (left_at result) self.old self.new (is_none result) }
         ensures closer { IsCloser (looks.FromLeft k) (left_at result) self.old self.new (is_none result) }
     {
-        match self.act(k) {
+        if k == self.web.count() {
+            return self.sink_left(k);
+        }
+        match self.web.turn(k) {
+            Moved::Waits => Some(k + 1),
+            Moved::Filled => {
+                self.turns += 1;
+                Some(k + 1)
+            }
+            Moved::Gave => {
+                self.turns += 1;
+                Some(k)
+            }
+            Moved::Heard(link) => {
+                self.turns += 1;
+                Some(link)
+            }
+            // room has come on that link: most often its stage gives at once
+            Moved::Took(link) => {
+                self.turns += 1;
+                self.give_left(link, k)
+            }
+            Moved::Failed(error) => {
+                self.turns += 1;
+                self.fail(k, error);
+                None
+            }
+            Moved::Over => None,
+        }
+    }
+
+    // The same of the sink.
+    #[inline(always)]
+    fn sink_left(&mut self, k: usize) -> Option<usize>
+        requires may { MayStep S.Stage W.Sink (looks.FromLeft k) self.old }
+        requires sink { k ≡ length self.old.web.nodes.items }
+        ensures advanced { HasAdvanced S.Stage R.Source W.Sink (leaning side.Left) tt tt (looks.FromLeft k)
+            (left_at result) self.old self.new (is_none result) }
+        ensures closer { IsCloser (looks.FromLeft k) (left_at result) self.old self.new (is_none result) }
+    {
+        match self.act_sink(k) {
             Moved::Waits => Some(k + 1),
             Moved::Filled => Some(k + 1),
             Moved::Gave => Some(k),
             Moved::Heard(link) => Some(link),
-            // room has come on that link: most often its stage gives at once
-            Moved::Took(link) => self.give_left(link),
+            Moved::Took(link) => self.give_left(link, k),
             Moved::Failed(_) => None,
             Moved::Over => None,
         }
     }
 
-    // The turn of a stage onto whose link room has come, if it gives at once: it was to be asked next.
+    // The turn of a stage onto whose link room has come, if it gives at once: it was to be asked next. Where it has filled
+    // its link again, nobody is ready to the left of who has taken from it.
     #[inline(always)]
-    fn give_left(&mut self, k: usize) -> Option<usize>
-        requires may { MayStep S.Stage W.Sink (looks.FromLeft k) self.old }
+    fn give_left(&mut self, k: usize, taker: usize) -> Option<usize>
+        requires may { MayStep S.Stage W.Sink (looks.Beside k taker) self.old }
         requires room { HasRoom k self.old.web }
-        ensures advanced { HasAdvanced S.Stage R.Source W.Sink (leaning side.Left) tt tt (looks.FromLeft k)
+        ensures advanced { HasAdvanced S.Stage R.Source W.Sink (leaning side.Left) tt tt (looks.Beside k taker)
             (left_at result) self.old self.new (is_none result) }
         ensures turns { self.old.turns ≤ self.new.turns }
     {
         match self.give_on(k) {
-            Moved::Filled => Some(k + 1),
+            Moved::Filled => Some(taker),
             Moved::Failed(_) => None,
             Moved::Over => None,
             Moved::Waits => Some(k),

@@ -18,18 +18,13 @@ pub struct WriteFailed;
 fn write_all<W: Sink>(sink: &mut W, text: &[u8]) -> Result<(), WriteFailed>
     ensures { HasWritten W.Sink sink.old sink.new text.now result }
 {
-    if text.is_empty() {
+    if sink.write_near(text) {
         return Ok(());
     }
-    match sink.write(text) {
-        Ok(n) if n == text.len() => Ok(()),
-        Ok(0) => Err(WriteFailed),
-        Ok(n) => write_on(sink, &text[n..]),
-        Err(_) => Err(WriteFailed),
-    }
+    write_on(sink, text)
 }
 
-/// The same where one write may not be enough.
+/// The same where it can't be had at once.
 #[inline(never)]
 fn write_on<W: Sink>(sink: &mut W, text: &[u8]) -> Result<(), WriteFailed>
     ensures { HasWritten W.Sink sink.old sink.new text.now result }

@@ -118,12 +118,11 @@ handed-on a b xs items n e order within appends moved =
 pub taken : (a : Option (List ℕ)) (xs ys bytes : List ℕ) (e room : ℕ) → room ≡ length xs → e + length bytes ≤ room
     → ys ≡ put_chunk e xs bytes
     → Appends (append_known a (take e xs))
-    (append_known a (take (e + length bytes) (take room (ys ++ drop (length ys) xs)))) (take (length bytes) bytes)
+    (append_known a (take (e + length bytes) (take room (ys ++ drop (length ys) xs)))) bytes
 taken a xs ys bytes e room size fits put =
     let long : length ys ≡ length xs = ap length put ∙ length-put_chunk e xs bytes in
     let whole : take room (ys ++ drop (length ys) xs) ≡ ys = take_at ys (drop (length ys) xs) room (omega (arith, size, long)) in
-    let more : take (e + length bytes) (take room (ys ++ drop (length ys) xs)) ≡ take e xs ++ take (length bytes) bytes =
+    let more : take (e + length bytes) (take room (ys ++ drop (length ys) xs)) ≡ take e xs ++ bytes =
     ap (take (e + length bytes)) (whole ∙ put)
-    ∙ take_more_put_chunk e xs bytes (e + length bytes) refl (omega (arith, size, fits))
-    ∙ ap (λ (zs : List ℕ). take e xs ++ zs) (sym (take_all (length bytes) bytes (omega arith))) in
-    append_known-grown (append_known a (take e xs)) a (take e xs) _ (take (length bytes) bytes) (Keeps-refl _) more
+    ∙ take_more_put_chunk e xs bytes (e + length bytes) refl (omega (arith, size, fits)) in
+    append_known-grown (append_known a (take e xs)) a (take e xs) _ bytes (Keeps-refl _) more

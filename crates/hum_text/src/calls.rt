@@ -1,8 +1,8 @@
 //! Readers and writers that show how often they were called and whether a call failed.
 ghost use Rattle.std.specs.Prelude.{◌≡◌, ℕ, Bool, List, ◌||◌, is_err, is_ok, false, length};
-ghost use Rattle.std.specs.Prelude.{◌<◌, ◌≤◌, Option};
+ghost use Rattle.std.specs.Prelude.{◌<◌, ◌≤◌, true, Option};
 ghost use Rattle.std.specs.Io.{ReadsAtMost, WritesAtMost};
-ghost use Rattle.std.specs.Io.KnownBytes.{ReadConsumes, WriteAppends, Keeps};
+ghost use Rattle.std.specs.Io.KnownBytes.{Appends, ReadConsumes, WriteAppends, Keeps};
 ghost use Rattle.hum_text.specs.Calls.{counted, write_fails};
 
 use std::io;
@@ -60,6 +60,19 @@ pub trait Sink {
         ensures flushes { flushes self.new ≡ flushes self.old }
         ensures failed { failed self.new ≡ (failed self.old || write_fails result) }
         ensures flushed { flushed self.new ≡ false };
+
+    /// Writes all of the bytes in one call that can't fail, where that is to be had at once; or else nothing. Tells which.
+    fn write_near(&mut self, _buf: &[u8]) -> bool
+        ensures some { result ≡ true → 0 < length _buf.now }
+        ensures bytes { result ≡ true → Appends (contents self.old) (contents self.new) _buf.now }
+        ensures calls { result ≡ true → calls self.new ≡ counted (calls self.old) }
+        ensures flushes { result ≡ true → flushes self.new ≡ flushes self.old }
+        ensures failed { result ≡ true → failed self.new ≡ failed self.old }
+        ensures flushed { result ≡ true → flushed self.new ≡ false }
+        ensures kept { result ≡ false → self.new ≡ self.old }
+    {
+        false
+    }
 
     /// Hands on what was written and still waits.
     fn flush(&mut self) -> io::Result<()>

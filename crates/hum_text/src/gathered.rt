@@ -202,15 +202,23 @@ impl<T: Write + Drop> Sink for Gathered<T> {
 
     #[inline(always)]
     fn write(&mut self, buf: &[u8]) -> io::Result<usize> {
+        if self.write_near(buf) {
+            return Ok(buf.len());
+        }
+        self.write_out(buf)
+    }
+
+    #[inline(always)]
+    fn write_near(&mut self, buf: &[u8]) -> bool {
         let n = buf.len();
         if n == 0 || ROOM - self.len < n {
-            return self.write_out(buf);
+            return false;
         }
         put(&mut self.room, self.len, buf);
         self.len += n;
         self.calls = self.calls.saturating_add(1);
         self.flushed = false;
-        Ok(n)
+        true
     }
 
     fn flush(&mut self) -> io::Result<()>
