@@ -82,7 +82,7 @@ def each(work: Callable[[Sequence[Job]], Sequence[Result]], jobs: Iterable[Job],
     as long as they are short, and may answer the first of them alone. A few are ahead of what is waited for, however many there are. If the jobs raise an
     error, it is raised after the results of those before it."""
     threads = None if executor else Threads(at_once or processors())
-    ahead = (4 if most == 1 else 2) * (at_once or processors() * (4 if executor else 1))
+    width = at_once or processors() * (4 if executor else 1)
     done: 'SimpleQueue[Future[Timed[Result]]]' = SimpleQueue()
     order: 'Deque[Future[Timed[Result]]]' = deque()
     waiting: 'Dict[Future[Timed[Result]], List[Job]]' = {}
@@ -130,7 +130,7 @@ def each(work: Callable[[Sequence[Job]], Sequence[Result]], jobs: Iterable[Job],
                     order.append(future)
             if len(some) < together:
                 break
-            if len(waiting) > ahead:
+            while sum(len(some) for some in waiting.values()) > width * max(4, 2 * together):
                 yield from settled()
         while waiting:
             yield from settled()
