@@ -206,8 +206,7 @@ impl Serving {
     fn new(alloc: Global, expression: Expression) -> Result<Serving, AllocError>
         ensures { IfOk result (λ serving. serving ≡ expression) }
     {
-        let done: &'static Cell<Option<Expression>> =
-            Box::leak(Box::new(alloc, Cell::new(None))?);
+        let done: &'static Cell<Option<Expression>> = Box::leak(Box::new(alloc, Cell::new(None))?);
         Ok(Serving { expression, done })
     }
 
