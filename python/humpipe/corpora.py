@@ -6,7 +6,7 @@ import uuid
 from concurrent.futures import Executor
 from contextlib import closing
 from functools import partial
-from typing import Iterable, List, NamedTuple, Optional, Set, Tuple
+from typing import Iterable, List, NamedTuple, Optional, Sequence, Set, Tuple
 
 from .codes import CODES
 from .faults import Fault, RunError, unread
@@ -78,7 +78,7 @@ def corpus(plan: Plan, scores: Iterable[Path], into: Path, *, jobs: Optional[int
     own = all_scores[number - 1::parts]
     try:
         run = _Run(results, journal, known(results, made))
-        work = partial(_settle, text, timeout, again, journal.scratch)
+        work = partial(_settle_all, text, timeout, again, journal.scratch)
         with closing(each(work, run.jobs(own), run.lost, jobs, executor, in_order=False)) as settled:
             for one in with_bar(settled, own, progress):
                 run.take(one)
@@ -109,8 +109,13 @@ def _made(plan: bytes) -> Made:
     return Made(found.hexdigest(), hash_of(program()))
 
 
+def _settle_all(plan: bytes, timeout: Optional[float], again: bool, scratch: str, jobs: Sequence[Job]) -> List[Settled]:
+    """What becomes of these scores, in a thread or a process."""
+    return [_settle(plan, timeout, again, scratch, job) for job in jobs]
+
+
 def _settle(plan: bytes, timeout: Optional[float], again: bool, scratch: str, job: Job) -> Settled:
-    """What becomes of one score, in a thread or a process. The result goes into a fresh file."""
+    """What becomes of one score. The result goes into a fresh file."""
     name = job.score.name
     try:
         score, there = _hashes(job)

@@ -11,7 +11,7 @@ from unittest import mock
 import humpipe
 from humpipe import feeding
 
-from .support import FROM_STDIN, PROGRAM, Runs, made_score
+from .support import FROM_STDIN, MINT, PROGRAM, Runs, made_score
 
 FEEDS = os.environ.get('HUMPIPE_MANY') or os.path.join(os.path.dirname(os.path.abspath(shutil.which(PROGRAM) or '.')), 'humpipe-many')
 
@@ -102,6 +102,50 @@ class Feeding(Runs):
         place.chmod(0o755)
         with mock.patch.dict(os.environ, HUMPIPE_MANY=str(place)):
             self.assertEqual(self.answers(FROM_STDIN), self.alone(FROM_STDIN))
+
+    def test_several_at_once(self):
+        large = [self.write(f'large{k}.krn', '**text\n' + f'{k} and so on\n' * 700 + '*-\n') for k in range(14)]
+        for scores in self.scores[:16], large, large[:3] + self.scores[12:16] * 3:
+            for plan in FROM_STDIN, 'out: read /dev/stdin', 'p: read /dev/stdin\nq: read /dev/fd/0 | rid -l\nout: assemble p q':
+                with mock.patch.object(feeding.Feed, 'ask', autospec=True, side_effect=feeding.Feed.ask) as asked:
+                    found = self.at_once(plan, scores)
+                self.assertEqual(asked.call_count, 1)
+                self.assertIn(len(found), (len(scores), 12))
+                self.assertEqual([(one.written, str(one.error)) for one in found], self.each_alone(plan, scores[:len(found)]))
+
+    def at_once(self, plan, scores, timeout=None):
+        with ThreadPoolExecutor(1) as threads:
+            return threads.submit(feeding.answers, plan.encode(), scores, timeout).result()
+
+    def each_alone(self, plan, scores):
+        found = [feeding.run_score(feeding.kept_file(plan.encode()), score) for score in scores]
+        return [(one.written, str(one.error)) for one in found]
+
+    def test_what_is_too_much_at_once_is_left_for_later(self):
+        for scores, count in ((self.scores, 16), (self.scores[16:], 1), (self.scores[17:], 1), (self.scores[18:], 1), (self.scores[19:], 1)):
+            found = self.at_once(FROM_STDIN, scores)
+            self.assertEqual(len(found), count)
+            self.assertEqual([(one.written, str(one.error)) for one in found], self.each_alone(FROM_STDIN, scores[:count]))
+
+    def test_one_of_several_that_dies_or_takes_too_long(self):
+        dies = self.write('dies.krn', '**kern\n!! ODD, DIES\n4c\n*-\n')
+        slow = self.write('slow.krn', '**kern\n!! ODD\n4d\n*-\n')
+        middle = self.write('middle.krn', '**text\n' + 'so\n' * 20_000 + '*-\n')
+        scores = [*self.scores[:3], dies, *self.scores[12:15], slow, middle, self.score, dies, self.score]
+        wanted = self.each_alone(FROM_STDIN, scores)
+        wanted[7] = (b'', 'not done after 1 s')
+        with self.odd("os.abort() if b'DIES' in case else time.sleep(60)"):
+            found = self.at_once(FROM_STDIN, scores, 1)
+            self.assertEqual([(one.written, str(one.error)) for one in found], wanted)
+            outcomes = list(humpipe.map(FROM_STDIN, [self.score] * 40 + scores + [self.score] * 9, 1, timeout=1))
+        self.assertEqual([(one.text.encode(), str(one.fault)) for one in outcomes[40:52]], wanted)
+        self.assertEqual({one.text for one in outcomes[:40] + outcomes[52:]}, {MINT})
+
+    def test_each_has_the_time_of_its_own(self):
+        slow = [self.write(f'slow{k}.krn', f'**kern\n!! ODD {k}\n4d\n*-\n') for k in range(5)]
+        with self.odd('time.sleep(0.4)'):
+            found = self.at_once(FROM_STDIN, slow, 1.5)
+        self.assertEqual([one.error for one in found], [None] * 5)
 
     def test_executors(self):
         with ThreadPoolExecutor(2) as threads:

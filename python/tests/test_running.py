@@ -1,10 +1,12 @@
 """Runs of the program: the `humpipe` on the path, or the one that HUMPIPE names."""
 import os
 import threading
+import time
 import unittest
 
 import humpipe
 from humpipe import running
+from humpipe.many import each
 
 from .support import FROM_STDIN, MINT, SCORE, Runs
 
@@ -122,6 +124,13 @@ class Many(Runs):
         outcomes.close()
         self.assertFalse([thread for thread in threading.enumerate() if 'ThreadPool' in thread.name])
 
+    def test_few_are_ahead(self):
+        asked, most = [], 0
+        for taken, _ in enumerate(humpipe.map(FROM_STDIN, (asked.append(path) or path for path in self.paths * 10), jobs=1)):
+            most = max(most, len(asked) - taken)
+        self.assertEqual((len(asked), taken), (400, 399))
+        self.assertLessEqual(most, 48)
+
     def test_with_a_bar(self):
         try:
             import tqdm  # noqa: F401
@@ -129,6 +138,42 @@ class Many(Runs):
             self.skipTest('no tqdm')
         self.assertEqual(len(list(humpipe.map(FROM_STDIN, self.paths, progress=False))), 40)
         self.assertEqual(len(list(humpipe.map(FROM_STDIN, self.paths, progress=None))), 40)
+
+
+class Together(unittest.TestCase):
+    """Jobs that are taken together."""
+
+    def each(self, work, jobs, in_order=True, most=8):
+        seen = []
+
+        def noted(some):
+            seen.append(len(some))
+            return work(some)
+
+        return list(each(noted, jobs, lambda job, error: f'{job} lost', 2, in_order=in_order, most=most)), seen
+
+    def test_more_and_more_and_all_in_order(self):
+        found, seen = self.each(lambda some: [-job for job in some], range(500))
+        self.assertEqual(found, [-job for job in range(500)])
+        self.assertEqual((seen[0], max(seen)), (1, 8))
+
+    def test_some_of_them_alone(self):
+        found, seen = self.each(lambda some: some[:1 if some[0] % 50 > 40 else 3], range(500))
+        self.assertEqual(found, list(range(500)))
+        self.assertLess(max(seen), 7)
+
+    def test_long_jobs_are_taken_alone(self):
+        found, seen = self.each(lambda some: time.sleep(0.025 * len(some)) or some, range(20))
+        self.assertEqual((found, max(seen)), (list(range(20)), 1))
+
+    def test_one_that_fails_is_lost_alone(self):
+        found, seen = self.each(lambda some: [100 // (job % 100) for job in some], range(1, 500))
+        self.assertEqual(found, [100 // (job % 100) if job % 100 else f'{job} lost' for job in range(1, 500)])
+        self.assertEqual(max(seen), 8)
+
+    def test_as_they_are_done(self):
+        found, _ = self.each(lambda some: some, range(100), False, 1)
+        self.assertEqual(sorted(found), list(range(100)))
 
 
 class NoProgram(unittest.TestCase):

@@ -4,7 +4,7 @@
 //! and it matches a token where it has a match anywhere in the token's bytes.
 #![tactic(auto)]
 
-ghost use Rattle.std.specs.Prelude.{◌≡◌, IfOk, IfErr, OnOk, Some, None, if◌then◌else◌};
+ghost use Rattle.std.specs.Prelude.{◌≡◌, true, IfOk, IfErr, OnOk, Some, None, if◌then◌else◌};
 ghost use Rattle.hum_pattern.specs.Meaning.{IsExpression, IsNone, matched, matched_by, first_end};
 ghost use Rattle.hum_pattern.specs.Searching.{begins_with, MayBeBarline};
 ghost use Rattle.hum_pattern.specs.declared.PatternFault.TheVariants.{Refused, TooLarge};
@@ -15,6 +15,7 @@ use crate::searched::{Searched, recalled, remember};
 use regex::Error as RegexError;
 use regex::bytes::{Matcher, Regex};
 use std::alloc::{AllocError, Global};
+use std::cell::Cell;
 use std::marker::Model;
 use thiserror::Error;
 
@@ -128,6 +129,13 @@ impl Expression {
         Expression::searching(alloc, self.regex)
     }
 
+    /// Whether another has the same text.
+    fn is_same(&self, other: &Expression) -> bool
+        ensures { result ≡ true → self.now ≡ other.now }
+    {
+        self.regex.as_str() == other.regex.as_str()
+    }
+
     /// Whether it has a match anywhere in a token, by what is remembered of the token, or by a search.
     #[inline(never)]
     fn finds(&mut self, token: &[u8]) -> bool
@@ -148,6 +156,85 @@ impl Expression {
         ensures same { self.new ≡ self.old }
     {
         self.matcher.shortest_match(token)
+    }
+}
+
+/// The same expression once more: one that is done with, if there is one.
+fn once_more(
+    alloc: Global,
+    expression: &Expression,
+    done: Option<Expression>,
+) -> Result<Expression, AllocError>
+    ensures { IfOk result (λ copy. copy ≡ expression.now) }
+{
+    match done {
+        None => expression.copy(alloc),
+        Some(done) => {
+            if done.is_same(expression) {
+                Ok(done)
+            } else {
+                expression.copy(alloc)
+            }
+        }
+    }
+}
+
+/// An expression that serves one copy of a pattern after the other.
+struct Serving {
+    expression: Expression,
+    // where it stays when it is done with, to the program's end
+    done: &'static Cell<Option<Expression>>,
+}
+
+impl Drop for Serving {
+    fn drop(self) {
+        let Serving { expression, done } = self;
+        done.set(Some(expression));
+    }
+}
+
+impl Model for Serving {
+    ghost use Rattle.std.specs.Prelude.{ℕ, List};
+
+    ghost Value = { List ℕ };
+
+    ghost view = { λ s. s.expression };
+}
+
+impl Serving {
+    /// An expression that is to serve.
+    fn new(alloc: Global, expression: Expression) -> Result<Serving, AllocError>
+        ensures { IfOk result (λ serving. serving ≡ expression) }
+    {
+        let done: &'static Cell<Option<Expression>> = Box::leak(Box::new(alloc, Cell::new(None))?);
+        Ok(Serving { expression, done })
+    }
+
+    /// One for a copy.
+    fn copy(&self, alloc: Global) -> Result<Serving, AllocError>
+        ensures { IfOk result (λ serving. serving ≡ self.now) }
+    {
+        let expression = once_more(alloc, &self.expression, self.done.take())?;
+        Ok(Serving {
+            expression,
+            done: self.done,
+        })
+    }
+
+    /// Whether it has a match anywhere in a token.
+    fn finds(&mut self, token: &[u8]) -> bool
+        ensures found { result ≡ matched self.old token.now }
+        ensures same { self.new ≡ self.old }
+    {
+        self.expression.finds(token)
+    }
+
+    /// Where the leftmost match ends in a token.
+    fn end_of_first(&mut self, token: &[u8]) -> Option<usize>
+        ensures found { result ≡ first_end self.old token.now }
+        ensures same { self.new ≡ self.old }
+    {
+        self.expression.end_of_first(token)
     }
 }
 
@@ -176,7 +263,7 @@ enum Search {
     /// for that of barlines: a look at a token's first byte
     Barlines,
     /// for any other
-    Expression(Expression),
+    Expression(Serving),
 }
 
 /// A pattern that is tried on tokens.
@@ -217,9 +304,12 @@ impl Pattern {
             });
         }
         let expression = expression_of(alloc, text)?;
-        Ok(Pattern {
-            search: Search::Expression(expression),
-        })
+        match Serving::new(alloc, expression) {
+            Ok(serving) => Ok(Pattern {
+                search: Search::Expression(serving),
+            }),
+            Err(_) => Err(PatternFault::Memory),
+        }
     }
 
     /// The same pattern once more. What was worked out of its text serves both.
