@@ -1,5 +1,6 @@
 -- Joins that aren't torn stay joins among the chosen columns.
-use Rattle.std.proofs.Common.{◌≡◌, ◌∙◌, refl, sym, ap, ℕ, Bool, true, false, not, ◌&&◌, ◌||◌, List, [], ◌∷◌, length, map, arith}
+use Rattle.std.proofs.lemmas.Bool.Decides.{nat_tests}
+use Rattle.std.proofs.Common.{◌≡◌, ◌∙◌, refl, ap, ℕ, Bool, true, false, not, ◌&&◌, ◌||◌, List, [], ◌∷◌, length, map, arith}
 use Rattle.std.specs.Str.{bytes_eq}
 use Rattle.std.proofs.lemmas.Bool.{or_parts, not-false, false≢true}
 use Rattle.std.proofs.lemmas.Slice.Eq.{bytes_eq-Decides}
@@ -8,7 +9,7 @@ use Rattle.hum_score.specs.declared.spines.Sign.TheVariants.{Plain}
 use Rattle.hum_score.specs.Sign.{sign_of, is_join}
 use Rattle.hum_score.specs.Rules.{first_is, has_lone_join, has_mixed_join}
 use Rattle.hum_path.specs.Onward.{beginnings}
-use Rattle.hum_columns.specs.Spread.{JoinedToken, tokens_in}
+use Rattle.hum_columns.specs.Spread.{tokens_in}
 use Rattle.hum_columns.proofs.Spreading.{marks, next_goes_on, Formed}
 use Rattle.hum_score.specs.Row.{chosen}
 use Rattle.hum_columns.specs.Chosen.{others, differ, is_torn, each_piece}
@@ -24,65 +25,41 @@ each_marks b [] = refl
 each_marks b (t ∷ ts) = ap (λ (bs : List Bool). (is_join (sign_of t) && not b) ∷ bs) (each_marks (is_join (sign_of t)) ts)
 
 pub chosen_tokens : (b : Bool) (fs : List Bool) (ts : List (List ℕ)) → tokens_in (chosen fs (each_piece b ts)) ≡ chosen fs ts
-chosen_tokens b fs ts =
-    chosen_map (λ (p : JoinedToken). p.token) fs (each_piece b ts) ∙ ap (λ (us : List (List ℕ)). chosen fs us) (each_tokens b ts)
+chosen_tokens = grind (arith, nat_tests, chosen_map, each_tokens)
 
 pub chosen_marks : (b : Bool) (fs : List Bool) (ts : List (List ℕ)) → marks (chosen fs (each_piece b ts)) ≡ chosen fs (beginnings b (map sign_of ts))
-chosen_marks b fs ts =
-    chosen_map (λ (p : JoinedToken). p.begins) fs (each_piece b ts) ∙ ap (λ (bs : List Bool). chosen fs bs) (each_marks b ts)
+chosen_marks = grind (arith, nat_tests, chosen_map, each_marks)
 
 -- the join to the right is as this one
 pub join_too : (j k f g : Bool) → j ≡ true → k ≡ true → (j && (k && differ f g)) ≡ false → g ≡ f
-join_too true true true true a b h = refl
-join_too true true true false a b h = cc
-join_too true true false true a b h = cc
-join_too true true false false a b h = refl
-join_too true false f g a b h = absurd (false≢true b)
-join_too false k f g a b h = absurd (false≢true a)
+join_too = grind (arith, nat_tests)
 
 -- and goes on with it
 pub goes : (j k : Bool) → j ≡ true → k ≡ true → (k && not (k && not j)) ≡ true
-goes true true a b = refl
-goes true false a b = absurd (false≢true b)
-goes false k a b = absurd (false≢true a)
+goes = grind (arith, nat_tests)
 
 next_chosen : (s : Sign) (fs : List Bool) (ts : List (List ℕ)) → length fs ≡ length ts → is_join s ≡ true
     → first_is is_join (map sign_of ts) ≡ true
     → is_torn (true ∷ fs) (s ∷ map sign_of ts) ≡ false → next_goes_on (chosen fs (each_piece (is_join s) ts)) ≡ true
 next_chosen s fs [] len join first torn = absurd (false≢true first)
 next_chosen s [] (t ∷ ts) len join first torn = absurd (omega (arith, len))
-next_chosen s (g ∷ fs) (t ∷ ts) len join first torn =
-    let here = (or_parts (is_join s && (is_join (sign_of t) && differ true g)) (is_torn (g ∷ fs) (map sign_of (t ∷ ts))) torn).0 in
-    let with = join_too (is_join s) (is_join (sign_of t)) true g join first here in
-    rw with (goes (is_join s) (is_join (sign_of t)) join first)
+next_chosen s (g ∷ fs) (t ∷ ts) len join first torn = grind (arith, nat_tests)
 
 -- a join that begins one has another to its right
 pub begins_well : (j p next : Bool) → (j && not (p || next)) ≡ false → (j && not p) ≡ true → (j ≡ true) × (next ≡ true)
-begins_well true true next lone h = absurd (false≢true h)
-begins_well true false true lone h = (refl, refl)
-begins_well true false false lone h = absurd (false≢true (sym lone))
-begins_well false p next lone h = absurd (false≢true h)
+begins_well = grind (arith, nat_tests)
 
 -- and one that goes on has one to its left, which is as it is
 pub goes_well : (j p f g : Bool) (m n : List ℕ) → (p && (j && differ f g)) ≡ false → (p && (j && not (bytes_eq m n))) ≡ false
     → (j && not (j && not p)) ≡ true
     → (p ≡ true) × ((f ≡ g) × (m ≡ n))
-goes_well true true true true m n torn mixed h = (refl, (refl, (bytes_eq-Decides m n).0 (not-false (bytes_eq m n) mixed)))
-goes_well true true false false m n torn mixed h = (refl, (refl, (bytes_eq-Decides m n).0 (not-false (bytes_eq m n) mixed)))
-goes_well true true true false m n torn mixed h = absurd (false≢true (sym torn))
-goes_well true true false true m n torn mixed h = absurd (false≢true (sym torn))
-goes_well true false f g m n torn mixed h = absurd (false≢true h)
-goes_well false p f g m n torn mixed h = absurd (false≢true h)
+goes_well = grind (arith, nat_tests, bytes_eq-Decides, not-false, false≢true)
 
 formed_from : (f : Bool) (s : Sign) (name : List ℕ) (b : Bool) (before : List ℕ) (fs : List Bool) (ts ns : List (List ℕ))
     → length fs ≡ length ts → length ns ≡ length ts
     → is_torn (f ∷ fs) (s ∷ map sign_of ts) ≡ false → has_lone_join (is_join s) (map sign_of ts) ≡ false
     → has_mixed_join (name ∷ ns) (s ∷ map sign_of ts) ≡ false
     → (f ≡ true → (b ≡ is_join s) × (before ≡ name)) → Formed b before (chosen fs (each_piece (is_join s) ts)) (chosen fs ns)
-formed_from f s name b before [] [] ns len wide torn lone mixed at = tt
-formed_from f s name b before [] (t ∷ ts) ns len wide torn lone mixed at = absurd (omega (arith, len))
-formed_from f s name b before (g ∷ fs) [] ns len wide torn lone mixed at = absurd (omega (arith, len))
-formed_from f s name b before (g ∷ fs) (t ∷ ts) [] len wide torn lone mixed at = absurd (omega (arith, wide))
 formed_from f s name b before (true ∷ fs) (t ∷ ts) (n ∷ ns) len wide torn lone mixed at =
     let signs = map sign_of ts in
     let tear = or_parts _ (is_torn (true ∷ fs) (sign_of t ∷ signs)) torn in
@@ -104,6 +81,7 @@ formed_from f s name b before (false ∷ fs) (t ∷ ts) (n ∷ ns) len wide torn
     let mix = or_parts _ (has_mixed_join (n ∷ ns) (sign_of t ∷ signs)) mixed in
     formed_from false (sign_of t) n b before fs ts ns (omega (arith, len)) (omega (arith, wide)) tear.1 alone.1 mix.1
     (λ e. absurd (false≢true e))
+formed_from f s name b before fs ts ns h k w e m q = grind (arith, nat_tests)
 
 -- the same of the others, behind a chosen column
 pub others_formed : (s : Sign) (name : List ℕ) (b : Bool) (before : List ℕ) (fs : List Bool) (ts ns : List (List ℕ))
@@ -116,9 +94,7 @@ others_formed s name b before fs ts ns len wide torn lone mixed =
     (λ e. absurd (false≢true e))
 
 pub mixed_start : (ns : List (List ℕ)) (ss : List Sign) → has_mixed_join ns ss ≡ false → has_mixed_join ([] ∷ ns) (Plain ∷ ss) ≡ false
-mixed_start [] ss h = refl
-mixed_start (n ∷ ns) [] h = refl
-mixed_start (n ∷ ns) (s ∷ ss) h = h
+mixed_start = grind (arith, nat_tests)
 
 -- The chosen tokens are formed, where no join is torn, lone or mixed.
 pub chosen_formed : (fs : List Bool) (ts ns : List (List ℕ)) → length fs ≡ length ts → length ns ≡ length ts

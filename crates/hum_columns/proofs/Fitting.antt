@@ -1,7 +1,6 @@
 -- One record of pieces breaks no rule, where no join touches another.
-use Rattle.std.proofs.Common.{◌≡◌, ◌∙◌, refl, sym, ap, ℕ, suc, ◌≤◌, ◌==◌, Bool, true, false, not, ◌&&◌, ◌||◌}
+use Rattle.std.proofs.Common.{◌≡◌, refl, ap, ℕ, suc, ◌≤◌, Bool, true, false, not, ◌&&◌, ◌||◌}
 use Rattle.std.proofs.Common.{List, [], ◌∷◌, length, map, arith, None}
-use Rattle.std.specs.Prelude.{nat_lt}
 use Rattle.std.specs.List.{find}
 use Rattle.std.specs.Str.{bytes_eq}
 use Rattle.std.proofs.lemmas.Bool.{and_parts, or_parts, or_from, false≢true}
@@ -12,7 +11,7 @@ use Rattle.hum_score.specs.declared.records.SpinedKind.TheVariants.{Interpretati
 use Rattle.hum_score.specs.declared.spines.Sign.{Sign}
 use Rattle.hum_score.specs.declared.spines.Sign.TheVariants.{Plain}
 use Rattle.hum_score.specs.Sign.{sign_of, is_join}
-use Rattle.hum_score.specs.Spines.{Spines, exchanges, moves_under, names_after, renamed}
+use Rattle.hum_score.specs.Spines.{Spines, exchanges, names_after}
 use Rattle.hum_score.specs.Rules.{breaks, in_order, has_unnamed, has_bare, names_and_steers}
 use Rattle.hum_score.specs.Rules.{has_lone_join, first_is, is_pair_or_none, has_mixed_join}
 use Rattle.hum_score.specs.Score.{Lead}
@@ -40,56 +39,36 @@ pub sound_by_rules : (names tokens : List (List ℕ)) (k : ℕ) → length token
     → has_bare tokens ≡ false → names_and_steers (map sign_of tokens) ≡ false → has_lone_join false (map sign_of tokens) ≡ false
     → is_pair_or_none (exchanges 0 (map sign_of tokens)) ≡ true → has_mixed_join names (map sign_of tokens) ≡ false
     → length (names_after (Spines names) tokens) ≤ 4096 → find (breaks (Spines names) tokens) in_order ≡ None
-sound_by_rules names tokens k some len p6 p10 p11 p3 p4 p5 p9 =
-    let here : (length names == 0) ≡ false = grind (arith, nat_tests, some, len) in
-    let same : (length tokens == length names) ≡ true = grind (arith, nat_tests, len) in
-    let size = length-map (moves_under (map sign_of tokens)) (renamed names tokens) in
-    let few : nat_lt 4096 (length (moves_under (map sign_of tokens))) ≡ false = grind (arith, nat_tests, p9, size) in
-    rw (here, same, p6, p10, p11, p3, p4, p5, few) refl
+sound_by_rules = grind (arith, nat_tests, length-map)
 
 pub pieces_size : (ps : List JoinedToken) → length (tokens_in ps) ≡ length ps
 pieces_size ps = length-map ps (λ p. p.token)
 
 -- Where no join touches another, each begins where its piece says.
 not_after : (b m j : Bool) → (m ≡ true → j ≡ true) → ((j && not m) ≡ true → b ≡ true) → (b && m) ≡ false → (j && not b) ≡ m
-not_after true true true h g t = cc
-not_after true true false h g t = cc
-not_after true false true h g t = refl
-not_after true false false h g t = refl
-not_after false true true h g t = refl
-not_after false true false h g t = h refl
-not_after false false true h g t = sym (g refl)
-not_after false false false h g t = refl
+not_after = grind (arith, nat_tests)
 
 pub begins_marks : (b : Bool) (m : List ℕ) (ps : List JoinedToken) (ns : List (List ℕ)) → Formed b m ps ns → touches b ps ≡ false
     → beginnings b (signs_in ps) ≡ marks ps
-begins_marks b m [] ns f t = refl
-begins_marks b m (p ∷ ps) [] f t = absurd f
 begins_marks b m (p ∷ ps) (n ∷ ns) f t =
     let both = or_parts (b && p.begins) (touches (joins p) ps) t in
     let here = not_after b p.begins (joins p) (λ e. (f.0 e).0) (λ e. (f.1.0 e).0) both.0 in
     rw (here, begins_marks (joins p) n ps ns f.1.1 both.1) refl
+begins_marks b m ps ns h k = grind (arith, nat_tests)
 
 -- no join is lone
 next_joins : (ps : List JoinedToken) → next_goes_on ps ≡ true → first_is is_join (signs_in ps) ≡ true
-next_joins [] h = h
-next_joins (p ∷ ps) h = (and_parts (joins p) (not p.begins) h).0
+next_joins = grind (arith, nat_tests, and_parts)
 
 beside : (b m j : Bool) (next : Bool) → (m ≡ true → next ≡ true) → ((j && not m) ≡ true → b ≡ true) → (j && not (b || next)) ≡ false
-beside true m true next h g = refl
-beside true m false next h g = refl
-beside false true true next h g = rw (h refl) refl
-beside false true false next h g = refl
-beside false false true next h g = absurd (false≢true (g refl))
-beside false false false next h g = refl
+beside = grind (arith, nat_tests)
 
 pub formed_lone : (b : Bool) (m : List ℕ) (ps : List JoinedToken) (ns : List (List ℕ)) → Formed b m ps ns → has_lone_join b (signs_in ps) ≡ false
-formed_lone b m [] ns f = refl
-formed_lone b m (p ∷ ps) [] f = absurd f
 formed_lone b m (p ∷ ps) (n ∷ ns) f =
     or_from (joins p && not (b || first_is is_join (signs_in ps))) (has_lone_join (joins p) (signs_in ps))
     (beside b p.begins (joins p) (first_is is_join (signs_in ps)) (λ e. next_joins ps (f.0 e).1) (λ e. (f.1.0 e).0))
     (formed_lone (joins p) n ps ns f.1.1)
+formed_lone b m ps ns h = grind (arith, nat_tests)
 
 -- no join is mixed
 pub same_name : (m n : List ℕ) → m ≡ n → not (bytes_eq m n) ≡ false
@@ -97,21 +76,16 @@ same_name m n e = let same = (bytes_eq-Decides m n).1 e in rw same refl
 
 unmixed : (b g j : Bool) (m n : List ℕ) → ((j && not g) ≡ true → (b ≡ true) × (m ≡ n)) → (b && g) ≡ false
     → (b && (j && not (bytes_eq m n))) ≡ false
-unmixed false g j m n h t = refl
-unmixed true true j m n h t = absurd (false≢true (sym t))
-unmixed true false false m n h t = refl
-unmixed true false true m n h t = same_name m n (h refl).1
+unmixed = grind (arith, nat_tests, false≢true, same_name)
 
 pub formed_mixed : (s : Sign) (m : List ℕ) (ps : List JoinedToken) (ns : List (List ℕ)) → Formed (is_join s) m ps ns
     → touches (is_join s) ps ≡ false → has_mixed_join (m ∷ ns) (s ∷ signs_in ps) ≡ false
-formed_mixed s m [] [] f t = refl
-formed_mixed s m [] (n ∷ ns) f t = absurd f
-formed_mixed s m (p ∷ ps) [] f t = absurd f
 formed_mixed s m (p ∷ ps) (n ∷ ns) f t =
     let both = or_parts (is_join s && p.begins) (touches (joins p) ps) t in
     or_from (is_join s && (joins p && not (bytes_eq m n))) (has_mixed_join (n ∷ ns) (signs_in (p ∷ ps)))
     (unmixed (is_join s) p.begins (joins p) m n f.1.0 both.0)
     (formed_mixed (sign_of p.token) n ps ns f.1.1 both.1)
+formed_mixed s m ps ns h k = grind (arith, nat_tests)
 
 -- nothing stands to the left of the first
 mixed_first : (ps : List JoinedToken) (ns : List (List ℕ)) → Formed false [] ps ns → touches false ps ≡ false
@@ -124,11 +98,7 @@ mixed_first (p ∷ ps) (n ∷ ns) f t = formed_mixed Plain [] (p ∷ ps) (n ∷ 
 -- One record, where no join touches another.
 pub one_comes : (ps : List JoinedToken) (ns : List (List ℕ)) → Fits ps ns → touches false ps ≡ false
     → names_after (Spines ns) (tokens_in ps) ≡ come_to ps ns
-one_comes ps ns fits t =
-    let len : length ns ≡ length (tokens_in ps) = sym (formed_length false [] ps ns fits.formed) ∙ sym (pieces_size ps) in
-    names_onward ns (tokens_in ps) len fits.pair
-    ∙ ap (λ (bs : List Bool). onward (λ _. []) bs (signs_in ps) (swapped (signs_in ps) (renamed_each ns (tokens_in ps))))
-    (begins_marks false [] ps ns fits.formed t)
+one_comes = grind (arith, nat_tests, formed_length, pieces_size, names_onward, signs_in, begins_marks)
 
 pub one_sound : (ps : List JoinedToken) (ns : List (List ℕ)) (k : ℕ) → length ps ≡ suc k → Fits ps ns → touches false ps ≡ false
     → length (come_to ps ns) ≤ 4096

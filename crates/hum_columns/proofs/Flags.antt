@@ -1,19 +1,20 @@
 -- What is chosen goes on along the columns.
+use Rattle.std.proofs.lemmas.Grind.{common_steps}
+use Rattle.std.proofs.lemmas.Bool.Decides.{nat_tests}
 use Rattle.std.proofs.Common.{◌≡◌, ◌≢◌, ◌∙◌, refl, sym, ap, ℕ, zero, suc, ◌+◌, ◌<◌, ◌≤◌, Bool, true, false, subst}
-use Rattle.std.proofs.Common.{List, [], ◌∷◌, length, map, drop, get_or, arith, add-one, drop-cons, None}
-use Rattle.std.specs.List.{list_all, find, AllByRecursion}
+use Rattle.std.proofs.Common.{List, [], ◌∷◌, length, map, drop, get_or, arith, None}
+use Rattle.std.specs.List.{find, AllByRecursion}
 use Rattle.std.proofs.lemmas.List.{drop_all, length-map, get_or-map}
 use Rattle.std.proofs.lemmas.Bool.{and_parts, not-false, false≢true}
 use Rattle.std.proofs.lemmas.Simd.{map-map}
 use Rattle.hum_score.specs.declared.records.SpinedKind.TheVariants.{Interpretation}
-use Rattle.hum_score.specs.Row.{Row, Comment, Spined, tokens_of}
-use Rattle.hum_score.specs.declared.spines.PathFault.TheVariants.{P1, P2, P3, P4, P5, P6, P7, P9, P10, P11}
+use Rattle.hum_score.specs.Row.{Row, Spined, tokens_of}
 use Rattle.hum_score.specs.declared.spines.Sign.{Sign}
 use Rattle.hum_score.specs.declared.spines.Move.{Move}
 use Rattle.hum_score.specs.declared.spines.Move.TheVariants.{Same}
-use Rattle.hum_score.specs.Sign.{sign_of, is_exclusive, is_plain, all_plain}
+use Rattle.hum_score.specs.Sign.{sign_of, all_plain}
 use Rattle.hum_score.specs.Spines.{Path, Unopened, Spines, width, source, same_upto, moves, moves_under}
-use Rattle.hum_score.specs.Rules.{breaks, breaks_as_text, in_order, fault_of}
+use Rattle.hum_score.specs.Rules.{breaks_as_text, in_order, fault_of}
 use Rattle.hum_score.specs.Score.{IsOpen, path_after}
 use Rattle.hum_path.specs.Chains.{origin_of, origins}
 use Rattle.hum_path.specs.Onward.{beginnings, onward, swapped}
@@ -27,17 +28,14 @@ use Rattle.hum_columns.specs.Following.{AsWide, moved}
 
 -- as many as spines
 pub flags_width : (choose : List (List ℕ) → List Bool) (past : List Row) → IsOpen past → length (flags choose past) ≡ width (path_after past)
-flags_width choose past h =
-    length-map (origins past) (λ origin. get_or (choose (opening_of past)) origin false) ∙ origins_width past h
+flags_width = grind (arith, nat_tests, length-map, get_or, origins_width)
 
 -- where each spine stays, what is chosen does
 same_marks : (fs : List Bool) (next : Move → Bool) → ((j : ℕ) → next (Same j) ≡ get_or fs j false) → (j n : ℕ)
     → j + n ≡ length fs → map next (same_upto j n) ≡ drop j fs
 same_marks fs next h j zero e = sym (drop_all j fs (omega (arith, e)))
 same_marks fs next h j (suc n) e =
-    let first = h j in
-    let rest : map next (same_upto (j + 1) n) ≡ drop (suc j) fs = same_marks fs next h (j + 1) n (omega (arith, e)) ∙ ap (λ (k : ℕ). drop k fs) (add-one j) in
-    rw (drop-cons fs j false (omega (arith, e)), first, rest) refl
+    grind (arith, common_steps, same_marks fs next h (j + 1) n (omega (arith, e)))
 
 pub moved_none : (fs : List Bool) → moved fs (same_upto 0 (length fs)) ≡ fs
 moved_none fs = same_marks fs (λ m. get_or fs (source m) false) (λ j. refl) 0 (length fs) (omega arith)
@@ -46,20 +44,13 @@ mapped_twice : (f : ℕ → Bool) (g : Move → ℕ) (ms : List Move) → map f 
 mapped_twice f g [] = refl
 mapped_twice f g (m ∷ ms) = ap (λ rest. f (g m) ∷ rest) (mapped_twice f g ms)
 
-mapped_at : (f : ℕ → Bool) (os : List ℕ) (j d : ℕ) (e : Bool) → j < length os → f (get_or os j d) ≡ get_or (map f os) j e
-mapped_at f [] j d e h = absurd (omega (arith, h))
-mapped_at f (o ∷ os) zero d e h = refl
-mapped_at f (o ∷ os) (suc j) d e h = mapped_at f os j d e (omega (arith, h))
-
 come : (f : ℕ → Bool) (os : List ℕ) (ms : List Move) → AllByRecursion (λ m. source m < length os) ms
     → map f (map (origin_of os) ms) ≡ moved (map f os) ms
 come f os [] h = refl
-come f os (m ∷ ms) h =
-    let first = mapped_at f os (source m) (source m) false h.0 in let rest = come f os ms h.1 in cc
+come f os (m ∷ ms) h = grind (arith, common_steps, come f os ms h.1)
 
 empty_list : (os : List ℕ) → length os ≡ 0 → os ≡ []
-empty_list [] h = refl
-empty_list (o ∷ os) h = absurd (omega (arith, h))
+empty_list = grind (arith, common_steps)
 
 -- at the opening
 pub flags_open : (choose : List (List ℕ) → List Bool) (past : List Row) (tokens : List (List ℕ))
@@ -79,8 +70,7 @@ pub flags_move : (choose : List (List ℕ) → List Bool) (past : List Row) (tok
     → ComeFrom (Spined Interpretation tokens) found
     → flags choose (Spined Interpretation tokens ∷ past) ≡ moved (flags choose past) found
 flags_move choose past tokens names found h e sound told within =
-    let wide : length tokens ≡ length (origins past) =
-    sound_width names tokens (rw e at sound) ∙ sym (origins_width past h ∙ ap width e) in
+    let wide : length tokens ≡ length (origins past) = grind (arith, nat_tests, sound_width, origins_width) in
     let all : AllByRecursion (λ m. source m < length (origins past)) found =
     subst (λ (n : ℕ). AllByRecursion (λ m. source m < n) found) wide within in
     let same : opening_if (path_after past) tokens (opening_of past) ≡ opening_of past = rw e refl in
@@ -89,20 +79,14 @@ flags_move choose past tokens names found h e sound told within =
 -- under a text
 pub text_opening : (path : Path) (tokens before : List (List ℕ)) → find (breaks_as_text path tokens) in_order ≡ None
     → opening_if path tokens before ≡ before
-text_opening Unopened tokens before h = cc
-text_opening (Spines names) tokens before h = refl
+text_opening = grind (arith, nat_tests)
 
 -- an opening record isn't plain
 pub opening_steers : (tokens : List (List ℕ)) → tokens ≢ [] → all_plain tokens ≡ true
     → fault_of Unopened (Spined Interpretation tokens) ≡ None → ⊥
 opening_steers [] filled h sound = filled refl
 opening_steers (t ∷ ts) filled h sound =
-    let a = find_head (breaks Unopened (t ∷ ts)) P7 (P1 ∷ P2 ∷ P6 ∷ P10 ∷ P11 ∷ P3 ∷ P4 ∷ P5 ∷ P9 ∷ []) sound in
-    let b = find_head (breaks Unopened (t ∷ ts)) P1 (P2 ∷ P6 ∷ P10 ∷ P11 ∷ P3 ∷ P4 ∷ P5 ∷ P9 ∷ []) a.1 in
-    let first = (and_parts (is_exclusive (sign_of t)) (list_all is_exclusive (map sign_of ts))
-    (not-false (list_all is_exclusive (map sign_of (t ∷ ts))) b.0)).0 in
-    let plain = (and_parts (is_plain (sign_of t)) (all_plain ts) h).0 in
-    false≢true (sym (not_exclusive (sign_of t) plain) ∙ first)
+    grind (arith, nat_tests, find_head, and_parts, not-false, false≢true, not_exclusive)
 
 -- under an interpretation that asks nothing
 pub flags_plain : (choose : List (List ℕ) → List Bool) (past : List Row) (tokens names : List (List ℕ)) → IsOpen past
@@ -127,8 +111,7 @@ flags_plain choose past tokens names h e sound plain =
 
 pub opening_wide : (choose : List (List ℕ) → List Bool) (row : Row) (fs : List Bool)
     → length (choose (tokens_of row)) ≡ length (tokens_of row) → fs ≡ choose (tokens_of row) → AsWide fs row
-opening_wide choose (Comment text) fs size e = tt
-opening_wide choose (Spined kind tokens) fs size e = ap length e ∙ size
+opening_wide = grind (arith, nat_tests)
 
 -- the flags of the columns after an interpretation
 abbrev pub flags_after : List Bool → List Sign → List Bool

@@ -1,21 +1,19 @@
 -- A command on chosen columns makes scores of scores.
-use Rattle.std.proofs.Common.{◌≡◌, ◌∙◌, refl, ap, ℕ, suc, ◌≤◌, ◌==◌, Bool, true, false, List, [], ◌∷◌, length, map, arith}
-use Rattle.std.specs.Prelude.{None, Ok, nat_lt}
+use Rattle.std.proofs.lemmas.Grind.{common_steps}
+use Rattle.std.proofs.Common.{◌≡◌, ◌∙◌, refl, ap, ℕ, ◌≤◌, ◌==◌, Bool, false, List, [], ◌∷◌, length, map, arith}
+use Rattle.std.specs.Prelude.{None, Ok}
 use Rattle.std.specs.List.{list_any, find}
-use Rattle.std.proofs.lemmas.Bool.{not-false}
 use Rattle.std.proofs.lemmas.Bool.Decides.{nat_tests}
 use Rattle.std.proofs.lemmas.List.{length-map}
 use Rattle.hum_score.specs.declared.records.SpinedKind.{SpinedKind}
 use Rattle.hum_score.specs.declared.records.SpinedKind.TheVariants.{Local, Interpretation, Values}
 use Rattle.hum_score.specs.Row.{Row, Comment, Spined}
 use Rattle.hum_score.specs.Spelling.{is_empty}
-use Rattle.hum_score.specs.declared.spines.PathFault.TheVariants.{P1, P2, P3, P4, P5, P6, P7, P9, P10, P11}
 use Rattle.hum_score.specs.Sign.{sign_of}
 use Rattle.hum_score.specs.Spines.{Path, Unopened, Spines, width, names_after}
 use Rattle.hum_score.specs.Rules.{breaks, breaks_as_text, in_order, is_unfinished}
 use Rattle.hum_score.specs.Score.{IsOpen, path_after, Lead}
 use Rattle.hum_path.specs.Chains.{origins}
-use Rattle.hum_path.proofs.Plain.{find_head}
 use Rattle.hum_path.proofs.Widths.{origins_width}
 use Rattle.hum_path.proofs.Obeyed.{Opens, opens, Obeys, obeys, narrow}
 use Rattle.hum_score.specs.InOrder.{through, Follow}
@@ -44,40 +42,19 @@ pub record Selects (command : ColumnCommand) (select : List Bool → List (List 
       → (kind ≡ Interpretation → ⊥) → find (breaks_as_text (Spines names) tokens) in_order ≡ None → command.other fs kind tokens ≡ Ok rows
       → Reach (Spines (select fs names)) rows (Spines (select fs names))
 
--- A local comment or data: the first three rules.
-text_sound : (names tokens : List (List ℕ)) (k : ℕ) → length tokens ≡ suc k → length tokens ≡ length names → list_any is_empty names ≡ false
-    → find (breaks_as_text (Spines names) tokens) in_order ≡ None
-text_sound names tokens k a b c =
-    let some : (length names == 0) ≡ false = grind (arith, nat_tests, a, b) in
-    let same : (length tokens == length names) ≡ true = grind (arith, nat_tests, b) in
-    rw (some, same, c) refl
-
 pub text_reaches : (kind : SpinedKind) (names : List (List ℕ)) (u : List ℕ) (us : List (List ℕ)) → (kind ≡ Interpretation → ⊥)
     → length (u ∷ us) ≡ length names → list_any is_empty names ≡ false
     → Reach (Spines names) (Spined kind (u ∷ us) ∷ []) (Spines names)
-text_reaches kind names u us other size named = by_kind kind other (text_sound names (u ∷ us) (length us) refl size named)
-  where
-    by_kind : (kind : SpinedKind) → (kind ≡ Interpretation → ⊥) → find (breaks_as_text (Spines names) (u ∷ us)) in_order ≡ None
-        → Reach (Spines names) (Spined kind (u ∷ us) ∷ []) (Spines names)
-    by_kind Local other h = ((h, tt), refl)
-    by_kind Values other h = ((h, tt), refl)
-    by_kind Interpretation other h = absurd (other refl)
+text_reaches = grind (arith, nat_tests)
 
 -- it has tokens, and no spine waits for its name
 pub text_parts : (names tokens : List (List ℕ)) → find (breaks_as_text (Spines names) tokens) in_order ≡ None
     → ((length names == 0) ≡ false) × (list_any is_empty names ≡ false)
-text_parts names tokens h =
-    let a = find_head (breaks_as_text (Spines names) tokens) P7 (P1 ∷ P2 ∷ P6 ∷ P10 ∷ P11 ∷ P3 ∷ P4 ∷ P5 ∷ P9 ∷ []) h in
-    let b = find_head (breaks_as_text (Spines names) tokens) P1 (P2 ∷ P6 ∷ P10 ∷ P11 ∷ P3 ∷ P4 ∷ P5 ∷ P9 ∷ []) a.1 in
-    let c = find_head (breaks_as_text (Spines names) tokens) P2 (P6 ∷ P10 ∷ P11 ∷ P3 ∷ P4 ∷ P5 ∷ P9 ∷ []) b.1 in
-    (a.0, (find_head (breaks_as_text (Spines names) tokens) P6 (P10 ∷ P11 ∷ P3 ∷ P4 ∷ P5 ∷ P9 ∷ []) c.1).0)
+text_parts = grind (arith, nat_tests)
 
 -- an opening record
 opening_sound : (tokens : List (List ℕ)) → Opens tokens → find (breaks Unopened tokens) in_order ≡ None
-opening_sound tokens h =
-    let most = h.few in
-    let few : nat_lt 4096 (length tokens) ≡ false = grind (arith, nat_tests, most) in
-    rw (h.exclusive, h.bare, few) refl
+opening_sound = grind (arith, nat_tests)
 
 pub opening_reaches : (tokens : List (List ℕ)) → Opens tokens → Reach Unopened (Spined Interpretation tokens ∷ []) (Spines tokens)
 opening_reaches tokens h = ((opening_sound tokens h, tt), refl)
@@ -120,8 +97,7 @@ module _ (command : ColumnCommand) (select : List Bool → List (List ℕ) → L
 
   pub next : (past : List Row) (row : Row) (given : Path) (rows : List Row) → IsOpen (row ∷ past) → Leads past given
       → by_columns command past row ≡ Ok rows → Follow given rows × Leads (row ∷ past) (through given rows)
-  next past (Comment text) given rows sound leads e =
-      let one : Comment text ∷ [] ≡ rows = cc in rw (← one) ((refl, tt), leads)
+  next past (Comment text) given rows sound leads e = grind (arith, nat_tests)
   next past (Spined Local tokens) given rows sound leads e =
       rw (text_opening (path_after past) tokens (opening_of past) sound.1)
       (text_case (flags command.choose past) Local (path_after past) tokens given rows (flags_width command.choose past sound.0) (λ x. cc)
@@ -137,17 +113,12 @@ module _ (command : ColumnCommand) (select : List Bool → List (List ℕ) → L
           → at_path path (command.opening tokens) (command.later (flags command.choose past) tokens) ≡ Ok rows
           → Reach given rows
           (Spines (select (flags command.choose (Spined Interpretation tokens ∷ past)) (names_after (path_after past) tokens)))
-      on_path Unopened at h leads e =
-          rw (leads, ap (λ (p : Path). names_after p tokens) at) (open_next past tokens rows sound.0 at h e)
+      on_path Unopened at h leads e = grind (arith, nat_tests, open_next past tokens rows sound.0)
       on_path (Spines names) at h leads e =
           rw (leads, ap (λ (p : Path). names_after p tokens) at) (later_next past names tokens rows sound.0 at h e)
 
   closing : (fs : List Bool) (path : Path) → is_unfinished path ≡ false → is_unfinished (selected_path select fs path) ≡ false
-  closing fs Unopened h = refl
-  closing fs (Spines []) h = rw (is.nothing fs) refl
-  closing fs (Spines (n ∷ names)) h =
-      let none : (length (n ∷ names) == 0) ≡ true = not-false _ h in
-      absurd (let l : length (n ∷ names) ≡ 0 = grind (arith, nat_tests, none) in omega (arith, l))
+  closing = grind (arith, common_steps)
 
   steps : Keeps (by_columns command) Leads
   steps = record {

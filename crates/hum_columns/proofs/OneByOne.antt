@@ -1,8 +1,10 @@
 -- Pieces that are written one join after another.
-use Rattle.std.proofs.Common.{◌≡◌, ◌≢◌, ◌∙◌, refl, sym, ap, ℕ, zero, suc, ◌+◌, ◌-◌, ◌<◌, ◌≤◌, Bool, true, false, cond, subst}
+use Rattle.std.proofs.lemmas.Grind.{common_steps}
+use Rattle.std.proofs.lemmas.Bool.Decides.{nat_tests}
+use Rattle.std.proofs.Common.{◌≡◌, ◌≢◌, ◌∙◌, refl, sym, ap, ℕ, zero, suc, ◌+◌, ◌-◌, ◌<◌, ◌≤◌, Bool, true, false, subst}
 use Rattle.std.proofs.Common.{List, [], ◌∷◌, ◌++◌, length, drop, get_or, arith, add-one, append_assoc, drop-cons, inl, inr, ◌&&◌, ◌||◌, ◌==◌}
 use Rattle.std.specs.List.{AllByRecursion}
-use Rattle.std.proofs.lemmas.Bool.{cases_Bool, false≢true}
+use Rattle.std.proofs.lemmas.Bool.{cases_Bool}
 use Rattle.std.proofs.lemmas.List.{drop_all, drop-drop}
 use lib.Chars.{codes}
 use Rattle.hum_record.specs.declared.TheConstants.{MOST_BYTES}
@@ -24,31 +26,16 @@ abbrev pub Lawful : List JoinedToken → Type 0
 Lawful = AllByRecursion (λ p. IsToken Interpretation p.token)
 
 pub null_lawful : IsToken Interpretation (codes "*")
-null_lawful = record {
-  filled = λ e. cc;
-  one_token = refl;
-  one_line = refl;
-  no_line_end = refl;
-  of_kind = refl;
-  no_comment = refl;
-}
+null_lawful = grind (arith, nat_tests)
 
 filled_length : (token : List ℕ) → token ≢ [] → 1 ≤ length token
-filled_length [] h = absurd (h refl)
-filled_length (b ∷ bs) h = omega arith
+filled_length = grind (arith, common_steps)
 
 -- one piece more of a join alone
 pub alone_step : (phase : Phase) (p : JoinedToken) (ps : List JoinedToken)
     → alone_from phase (p ∷ ps) ≡ shown (next_phase phase p) p ∷ alone_from (next_phase phase p) ps
-alone_step Before p ps = elim (cases_Bool p.begins) as (λ _. alone_from Before (p ∷ ps) ≡ shown (next_phase Before p) p ∷ alone_from (next_phase Before p) ps) [
-  | inl w ↦ rw w refl
-  | inr w ↦ rw w refl
-]
-alone_step Inside p ps = elim (cases_Bool (goes_on p)) as (λ _. alone_from Inside (p ∷ ps)
-    ≡ shown (next_phase Inside p) p ∷ alone_from (next_phase Inside p) ps) [
-      | inl w ↦ rw w refl
-      | inr w ↦ rw w refl
-    ]
+alone_step Before p ps = grind (arith, nat_tests)
+alone_step Inside p ps = grind (arith, nat_tests, cases_Bool (goes_on p))
 alone_step After p ps = refl
 
 -- the pieces in front
@@ -65,8 +52,7 @@ alone_behind [] ps = refl
 alone_behind (t ∷ front) ps = ap (λ rest. codes "*" ∷ rest) (alone_behind front ps)
 
 pub behind_push : (front : List (List ℕ)) (t : List ℕ) (ps : List JoinedToken) → behind (front ++ t ∷ []) ps ≡ behind front (piece false t ∷ ps)
-behind_push [] t ps = refl
-behind_push (x ∷ front) t ps = ap (λ rest. piece false x ∷ rest) (behind_push front t ps)
+behind_push = grind (arith, common_steps)
 
 pub lawful_behind : (front : List (List ℕ)) (ps : List JoinedToken) → Lawful (behind front ps) → Lawful ps
 lawful_behind [] ps h = h
@@ -86,10 +72,8 @@ join_alone_weight (p ∷ ps) h = elim (cases_Bool (goes_on p)) as (λ _. weight 
 
 pub alone_weight : (ps : List JoinedToken) → Lawful ps → weight (first_alone ps) ≤ weight (tokens_in ps)
 alone_weight [] h = omega arith
-alone_weight (p ∷ ps) h = elim (cases_Bool p.begins) as (λ _. weight (first_alone (p ∷ ps)) ≤ weight (tokens_in (p ∷ ps))) [
-  | inl w ↦ rw w (let ih = join_alone_weight ps h.1 in omega (arith, ih))
-  | inr w ↦ rw w (let ih = alone_weight ps h.1 in let one = filled_length p.token h.0.filled in omega (arith, ih, one))
-]
+alone_weight (p ∷ ps) h =
+    grind (arith, nat_tests, alone_weight ps h.1, cases_Bool, weight, join_alone_weight, filled_length)
 
 join_done_weight : (ps : List JoinedToken) → weight (tokens_in (join_done ps)) ≤ weight (tokens_in ps)
 join_done_weight [] = omega arith
@@ -100,61 +84,39 @@ join_done_weight (p ∷ ps) = elim (cases_Bool (goes_on p)) as (λ _. weight (to
 
 done_weight : (ps : List JoinedToken) → Lawful ps → weight (tokens_in (first_done ps)) ≤ weight (tokens_in ps)
 done_weight [] h = omega arith
-done_weight (p ∷ ps) h = elim (cases_Bool p.begins) as (λ _. weight (tokens_in (first_done (p ∷ ps))) ≤ weight (tokens_in (p ∷ ps))) [
-  | inl w ↦ rw w (let ih = join_done_weight ps in let one = filled_length p.token h.0.filled in omega (arith, ih, one))
-  | inr w ↦ rw w (let ih = done_weight ps h.1 in omega (arith, ih))
-]
+done_weight (p ∷ ps) h =
+    grind (arith, nat_tests, done_weight ps h.1, cases_Bool, weight, join_done_weight, filled_length)
 
 join_done_lawful : (ps : List JoinedToken) → Lawful ps → Lawful (join_done ps)
 join_done_lawful [] h = tt
-join_done_lawful (p ∷ ps) h = elim (cases_Bool (goes_on p)) as (λ _. Lawful (join_done (p ∷ ps))) [
-  | inl w ↦ rw w (join_done_lawful ps h.1)
-  | inr w ↦ rw w h
-]
+join_done_lawful (p ∷ ps) h = grind (arith, nat_tests, join_done_lawful ps h.1, cases_Bool (goes_on p))
 
 done_lawful : (ps : List JoinedToken) → Lawful ps → Lawful (first_done ps)
 done_lawful [] h = tt
-done_lawful (p ∷ ps) h = elim (cases_Bool p.begins) as (λ _. Lawful (first_done (p ∷ ps))) [
-  | inl w ↦ rw w (null_lawful, join_done_lawful ps h.1)
-  | inr w ↦ rw w (h.0, done_lawful ps h.1)
-]
+done_lawful (p ∷ ps) h =
+    grind (arith, nat_tests, done_lawful ps h.1, cases_Bool, null_lawful, join_done_lawful)
 
 pub done_fit : (ps : List JoinedToken) → Fit ps → Fit (first_done ps)
-done_fit ps h = record {
-  lawful = done_lawful ps h.lawful;
-  at_most = let less = no_longer (tokens_in (first_done ps)) (tokens_in ps) (done_weight ps h.lawful) in let most = h.at_most in omega (arith, less, most);
-}
+done_fit = grind (arith, nat_tests, done_lawful, no_longer, done_weight)
 
 pub alone_fits : (ps : List JoinedToken) → Fit ps → length (spelled (first_alone ps)) ≤ MOST_BYTES
-alone_fits ps h =
-    let less = no_longer (first_alone ps) (tokens_in ps) (alone_weight ps h.lawful) in
-    let most = h.at_most in
-    omega (arith, less, most)
+alone_fits = grind (arith, nat_tests, no_longer, alone_weight)
 
 -- no record is empty
 pub alone_filled : (ps : List JoinedToken) → ps ≢ [] → first_alone ps ≢ []
 alone_filled [] h e = h refl
-alone_filled (p ∷ ps) h e = some (p.begins) (p.token ∷ join_alone ps) (codes "*" ∷ first_alone ps) (λ q. cc) (λ q. cc) e
-  where
-    some : (b : Bool) (xs ys : List (List ℕ)) → xs ≢ [] → ys ≢ [] → cond b xs ys ≢ []
-    some true xs ys h k = h
-    some false xs ys h k = k
+alone_filled (p ∷ ps) h e = grind (arith, nat_tests)
 
 pub done_filled : (ps : List JoinedToken) → ps ≢ [] → first_done ps ≢ []
 done_filled [] h e = h refl
-done_filled (p ∷ ps) h e = some (p.begins) (piece false (codes "*") ∷ join_done ps) (p ∷ first_done ps) (λ q. cc) (λ q. cc) e
-  where
-    some : (b : Bool) (xs ys : List JoinedToken) → xs ≢ [] → ys ≢ [] → cond b xs ys ≢ []
-    some true xs ys h k = h
-    some false xs ys h k = k
+done_filled (p ∷ ps) h e = grind (arith, nat_tests)
 
 pub tokens_filled : (ps : List JoinedToken) → ps ≢ [] → tokens_in ps ≢ []
 tokens_filled [] h e = h refl
 tokens_filled (p ∷ ps) h e = cc
 
 pub filled_more : (kind : SpinedKind) (x : List (List ℕ)) (xs : List (List (List ℕ))) → x ≢ [] → filled kind (x ∷ xs) ≡ Spined kind x ∷ filled kind xs
-filled_more kind [] xs h = absurd (h refl)
-filled_more kind (t ∷ ts) xs h = refl
+filled_more = grind (arith, nat_tests)
 
 -- as many as one more than those before the last
 pub filled_count : (n : ℕ) (ps : List JoinedToken) → ps ≢ [] → length (filled Interpretation (one_by_one n ps)) ≡ suc n
@@ -171,8 +133,7 @@ touches_some after (p ∷ ps) h = elim (cases_Bool p.begins) as (λ _. 1 ≤ joi
 ]
   where
     later : (a b : Bool) → ((a && false) || b) ≡ true → b ≡ true
-    later true b h = h
-    later false b h = h
+    later = grind (arith, nat_tests)
 
 -- records in the making
 
@@ -205,9 +166,7 @@ tokens_at ps i p h e = rw (drop-cons ps i p h, ← e, add-one) refl
 
 pub lawful_at : (ps : List JoinedToken) (i : ℕ) (p : JoinedToken) → i < length ps → p ≡ get_or ps i p → Lawful (drop i ps)
     → IsToken Interpretation p.token × Lawful (drop (i + 1) ps)
-lawful_at [] i p h e w = absurd (omega (arith, h))
-lawful_at (q ∷ ps) zero p h e w = let k : p ≡ q = e in rw k (w.0, w.1)
-lawful_at (q ∷ ps) (suc i) p h e w = let ih = lawful_at ps i p (omega (arith, h)) e w in (ih.0, rw add-one (rw add-one at ih.1))
+lawful_at = grind (arith, common_steps)
 
 -- the text of a front
 pub nulls_fit : (n : ℕ) (ps : List JoinedToken) → length (spelled (nulls Interpretation n ++ first_alone ps)) ≤ MOST_BYTES → length (spelled (nulls Interpretation n)) ≤ MOST_BYTES
@@ -220,16 +179,14 @@ here ps i p h e = rw (drop-cons ps i p h, ← e, add-one) refl
 
 pub fit_here : (first front : List (List ℕ)) (ps : List JoinedToken) (i : ℕ) (p : JoinedToken) → i < length ps → p ≡ get_or ps i p
     → behind front (drop i ps) ≡ behind first ps → Fit (behind first ps) → Fit (behind front (p ∷ drop (i + 1) ps))
-fit_here first front ps i p h e same fit =
-    subst Fit (sym same ∙ ap (λ (rest : List JoinedToken). behind front rest) (here ps i p h e)) fit
+fit_here = grind (arith, common_steps)
 
 pub token_lawful : (front : List (List ℕ)) (p : JoinedToken) (rest : List JoinedToken) → Fit (behind front (p ∷ rest)) → IsToken Interpretation p.token
 token_lawful front p rest fit = (lawful_behind front (p ∷ rest) fit.lawful).0
 
 pub token_fits : (front : List (List ℕ)) (p : JoinedToken) (rest : List JoinedToken) → Fit (behind front (p ∷ rest))
     → length (spelled (front ++ p.token ∷ [])) ≤ MOST_BYTES
-token_fits front p rest fit =
-    front_of front p.token (tokens_in rest) (tokens_in (behind front (p ∷ rest))) (sym (tokens_behind front (p ∷ rest))) fit.at_most
+token_fits = grind (arith, nat_tests, front_of, tokens_behind)
 
 pub null_fits : (front : List (List ℕ)) (p : JoinedToken) (rest : List JoinedToken) → p.begins ≡ true → Fit (behind front (p ∷ rest))
     → length (spelled (front ++ codes "*" ∷ [])) ≤ MOST_BYTES
@@ -263,8 +220,7 @@ passed_all first front ps i h same =
     ∙ done_behind first ps
 
 one_more : (n : ℕ) → 1 ≤ n → suc (before_last n) ≡ n
-one_more zero h = absurd (omega arith)
-one_more (suc n) h = refl
+one_more = grind (arith, nat_tests)
 
 -- so many records have no room
 pub too_many : (room n : ℕ) (ps : List JoinedToken) → ps ≢ [] → 1 ≤ n → spread ps ≡ one_by_one (before_last n) ps → room < n
@@ -289,8 +245,7 @@ alone_filled_behind front ps some none = alone_filled (behind front ps) some (al
 pub left_behind : (front front' : List (List ℕ)) (ps : List JoinedToken) (start n : ℕ)
     → behind front' (drop n (drop start ps)) ≡ behind front (first_done (drop start ps))
     → behind front' (drop (start + n) ps) ≡ first_done (behind front (drop start ps))
-left_behind front front' ps start n h =
-    ap (λ (rest : List JoinedToken). behind front' rest) (sym (drop-drop n start ps)) ∙ h ∙ sym (done_behind front (drop start ps))
+left_behind = grind (arith, nat_tests, drop-drop, done_behind)
 
 pub one_written : (out : List Row) (n i : ℕ) (front : List (List ℕ)) (ps left : List JoinedToken) → i < n → behind front ps ≢ []
     → left ≡ first_done (behind front ps)
@@ -304,9 +259,7 @@ one_written out n i front ps left h some is =
 
 pub last_written : (out : List Row) (n i : ℕ) (front : List (List ℕ)) (ps : List JoinedToken) → n ≤ i → behind front ps ≢ []
     → out ++ Spined Interpretation (front ++ tokens_in ps) ∷ [] ≡ out ++ filled Interpretation (one_by_one (n - i) (behind front ps))
-last_written out n i front ps h some =
-    let e : n - i ≡ 0 = omega arith in
-    rw (e, filled_more Interpretation (tokens_in (behind front ps)) [] (tokens_filled (behind front ps) some), tokens_behind front ps) refl
+last_written = grind (arith, nat_tests, filled_more, tokens_filled, tokens_behind)
 
 pub all_fits_behind : (front : List (List ℕ)) (ps : List JoinedToken) → Fit (behind front ps) → length (spelled (front ++ tokens_in ps)) ≤ MOST_BYTES
 all_fits_behind front ps fit = subst (λ (ts : List (List ℕ)). length (spelled ts) ≤ MOST_BYTES) (tokens_behind front ps) fit.at_most
@@ -315,6 +268,4 @@ pub all_filled_behind : (front : List (List ℕ)) (ps : List JoinedToken) → be
 all_filled_behind front ps some none = tokens_filled (behind front ps) some (tokens_behind front ps ∙ none)
 
 pub not_empty : {X : Type 0} (xs : List X) (b : Bool) → b ≡ length xs == 0 → b ≡ false → xs ≢ []
-not_empty xs b is off none =
-    let zero_length : length xs ≡ 0 = ap length none in
-    absurd (false≢true (sym off ∙ is ∙ ap (λ n. n == 0) zero_length))
+not_empty = grind (arith, nat_tests)

@@ -1,13 +1,15 @@
 -- Joins that are written one after another do what they did together.
+use Rattle.std.proofs.lemmas.Grind.{common_steps}
+use Rattle.std.proofs.lemmas.Bool.Decides.{nat_tests}
 use Rattle.std.proofs.Common.{◌≡◌, ◌∙◌, refl, sym, ap, ℕ, suc, ◌+◌, Bool, true, false, not}
-use Rattle.std.proofs.Common.{List, [], ◌∷◌, ◌++◌, length, map, cond, arith}
+use Rattle.std.proofs.Common.{List, [], ◌∷◌, length, map, cond, arith}
 use Rattle.std.specs.Prelude.{if◌then◌else◌}
 use Rattle.std.proofs.lemmas.Bool.{and_parts, false≢true}
 use lib.Chars.{codes}
 use Rattle.hum_score.specs.declared.spines.Sign.{Sign}
-use Rattle.hum_score.specs.declared.spines.Sign.TheVariants.{Split, Join, Exchange, Add, End, Exclusive, Plain}
+use Rattle.hum_score.specs.declared.spines.Sign.TheVariants.{Join}
 use Rattle.hum_score.specs.Sign.{sign_of, is_join, is_exchange}
-use Rattle.hum_path.specs.Onward.{beginnings, onward_one, onward, at_next, put_next, swapped}
+use Rattle.hum_path.specs.Onward.{beginnings, onward, at_next, put_next, swapped}
 use Rattle.hum_score.proofs.Cases.{by_bool}
 use Rattle.hum_columns.specs.Spread.{JoinedToken, piece, joins, goes_on, tokens_in, join_alone, first_alone, join_done, first_done, joins_in}
 
@@ -32,10 +34,8 @@ Formed after_join before [] [] = Unit {0}
 Formed after_join before _ _ = ⊥
 
 pub formed_length : (b : Bool) (m : List ℕ) (ps : List JoinedToken) (ns : List (List ℕ)) → Formed b m ps ns → length ps ≡ length ns
-formed_length b m [] [] h = refl
-formed_length b m [] (n ∷ ns) h = absurd h
-formed_length b m (p ∷ ps) [] h = absurd h
 formed_length b m (p ∷ ps) (n ∷ ns) h = ap suc (formed_length (joins p) n ps ns h.1.1)
+formed_length b m ps ns h = grind (arith, nat_tests)
 
 -- what is left when the first join is done: of each join's the first
 abbrev pub rest_merged : {X : Type 0} → List JoinedToken → List X → List X
@@ -49,48 +49,35 @@ merged (p ∷ pieces) [] = []
 merged (p ∷ pieces) (x ∷ xs) = if p.begins then x ∷ rest_merged pieces xs else x ∷ merged pieces xs
 
 pub is_join_at : (s : Sign) → is_join s ≡ true → s ≡ Join
-is_join_at Join h = refl
-is_join_at Split h = cc
-is_join_at Exchange h = cc
-is_join_at Add h = cc
-is_join_at End h = cc
-is_join_at Exclusive h = cc
-is_join_at Plain h = cc
+is_join_at = grind (arith, nat_tests)
 
 -- null tokens carry everything on
 stars_onward : {X : Type 0} (added : X → X) (b : Bool) (ps : List JoinedToken) (xs : List X) → length ps ≡ length xs
     → onward added (beginnings b (map sign_of (map (λ _. codes "*") ps))) (map sign_of (map (λ _. codes "*") ps)) xs ≡ xs
-stars_onward added b [] [] h = refl
-stars_onward added b [] (x ∷ xs) h = absurd (omega (arith, h))
-stars_onward added b (p ∷ ps) [] h = absurd (omega (arith, h))
 stars_onward {X} added b (p ∷ ps) (x ∷ xs) h = ap (λ (zs : List X). x ∷ zs) (stars_onward added false ps xs (omega (arith, h)))
+stars_onward added b ps xs h = grind (arith, common_steps)
 
 -- the record with the first join alone merges it
 rest_onward : {X : Type 0} (added : X → X) (ps : List JoinedToken) (xs : List X) → length ps ≡ length xs
     → onward added (beginnings true (map sign_of (join_alone ps))) (map sign_of (join_alone ps)) xs ≡ rest_merged ps xs
-rest_onward added [] [] h = refl
-rest_onward added [] (x ∷ xs) h = absurd (omega (arith, h))
-rest_onward added (p ∷ ps) [] h = absurd (omega (arith, h))
 rest_onward added (p ∷ ps) (x ∷ xs) h =
     by_bool (goes_on p)
     (λ w.
     let join = is_join_at (sign_of p.token) (and_parts (joins p) (not p.begins) w).0 in
     rw (w, join) (rest_onward added ps xs (omega (arith, h))))
     (λ w. rw w (stars_onward added true (p ∷ ps) (x ∷ xs) h))
+rest_onward added ps xs h = grind (arith, common_steps)
 
 pub first_onward : {X : Type 0} (added : X → X) (b : Bool) (m : List ℕ) (ps : List JoinedToken) (ns : List (List ℕ)) (xs : List X)
     → Formed b m ps ns → length ps ≡ length xs
     → onward added (beginnings false (map sign_of (first_alone ps))) (map sign_of (first_alone ps)) xs ≡ merged ps xs
-first_onward added b m [] ns [] f h = refl
-first_onward added b m [] ns (x ∷ xs) f h = absurd (omega (arith, h))
-first_onward added b m (p ∷ ps) ns [] f h = absurd (omega (arith, h))
-first_onward added b m (p ∷ ps) [] (x ∷ xs) f h = absurd f
 first_onward {X} added b m (p ∷ ps) (n ∷ ns) (x ∷ xs) f h =
     by_bool p.begins
     (λ w.
     let join = is_join_at (sign_of p.token) (f.0 w).0 in
     rw (w, join) (ap (λ (zs : List X). x ∷ zs) (rest_onward added ps xs (omega (arith, h)))))
     (λ w. rw w (ap (λ (zs : List X). x ∷ zs) (first_onward added (joins p) n ps ns xs f.1.1 (omega (arith, h)))))
+first_onward added b m ps ns xs h k = grind (arith, common_steps)
 
 -- the first join, and then what is left
 rest_done_onward : {X : Type 0} (added : X → X) (ps : List JoinedToken) (xs : List X)
@@ -111,44 +98,27 @@ rest_done_onward {X} added (p ∷ ps) (x ∷ xs) =
     (λ w. rw w refl)
   where
     unmarked : (b : Bool) → not b ≡ true → b ≡ false
-    unmarked true h = cc
-    unmarked false h = refl
+    unmarked = grind (arith, nat_tests)
 
 pub done_onward : {X : Type 0} (added : X → X) (b : Bool) (m : List ℕ) (ps : List JoinedToken) (ns : List (List ℕ)) (xs : List X)
     → Formed b m ps ns
     → onward added (marks (first_done ps)) (signs_in (first_done ps)) (merged ps xs) ≡ onward added (marks ps) (signs_in ps) xs
-done_onward added b m [] ns xs f = refl
-done_onward added b m (p ∷ ps) [] xs f = absurd f
-done_onward added b m (p ∷ ps) (n ∷ ns) [] f = cases_empty (first_done (p ∷ ps))
-  where
-    cases_empty : (qs : List JoinedToken) → onward added (marks qs) (signs_in qs) [] ≡ []
-    cases_empty [] = refl
-    cases_empty (q ∷ qs) = refl
 done_onward {X} added b m (p ∷ ps) (n ∷ ns) (x ∷ xs) f =
-    by_bool p.begins
-    (λ w.
-    let join = is_join_at (sign_of p.token) (f.0 w).0 in
-    rw (w, join) (ap (λ (zs : List X). x ∷ zs) (rest_done_onward added ps xs)))
-    (λ w. rw w (ap (λ (zs : List X). onward_one added false (sign_of p.token) x ++ zs) (done_onward added (joins p) n ps ns xs f.1.1)))
+    grind (arith, nat_tests, done_onward added (joins p) n ps ns xs f.1.1, is_join_at, rest_done_onward)
+done_onward added b m ps ns xs h = grind (arith, nat_tests)
 
 -- what is left is formed
 rest_formed : (b c : Bool) (m o : List ℕ) (ps : List JoinedToken) (ns : List (List ℕ)) → Formed b m ps ns
     → Formed c o (join_done ps) (rest_merged ps ns)
-rest_formed b c m o [] [] f = tt
-rest_formed b c m o [] (n ∷ ns) f = absurd f
-rest_formed b c m o (p ∷ ps) [] f = absurd f
 rest_formed b c m o (p ∷ ps) (n ∷ ns) f = by_test (goes_on p) refl (rest_formed (joins p) c n o ps ns f.1.1)
   where
     by_test : (t : Bool) → goes_on p ≡ t → Formed c o (join_done ps) (rest_merged ps ns)
         → Formed c o (cond t (join_done ps) (p ∷ ps)) (cond t (rest_merged ps ns) (n ∷ ns))
-    by_test true w rest = rest
-    by_test false w rest = (f.0, (λ e. absurd (false≢true (sym w ∙ e)), f.1.1))
+    by_test = grind (arith, nat_tests)
+rest_formed b c m o ps ns h = grind (arith, nat_tests)
 
 pub done_formed : (b : Bool) (m : List ℕ) (ps : List JoinedToken) (ns : List (List ℕ)) → Formed b m ps ns
     → Formed b m (first_done ps) (merged ps ns)
-done_formed b m [] [] f = tt
-done_formed b m [] (n ∷ ns) f = absurd f
-done_formed b m (p ∷ ps) [] f = absurd f
 done_formed b m (p ∷ ps) (n ∷ ns) f =
     by_test p.begins refl (rest_formed (joins p) false n n ps ns f.1.1) (done_formed (joins p) n ps ns f.1.1)
   where
@@ -158,6 +128,7 @@ done_formed b m (p ∷ ps) (n ∷ ns) f =
         (cond t (n ∷ rest_merged ps ns) (n ∷ merged ps ns))
     by_test true w rest more = (λ e. absurd (false≢true e), (λ e. absurd (false≢true e), rest))
     by_test false w rest more = (λ e. absurd (false≢true (sym w ∙ e)), (f.1.0, more))
+done_formed b m ps ns h = grind (arith, nat_tests)
 
 -- one join fewer
 pub done_joins : (ps : List JoinedToken) (n : ℕ) → joins_in ps ≡ suc n → joins_in (first_done ps) ≡ n
@@ -173,14 +144,12 @@ done_joins (p ∷ ps) n h = by_test p.begins refl h (λ h. done_joins ps n h)
         (λ w. rw w refl)
       where
         unmarked : (b : Bool) → not b ≡ true → b ≡ false
-        unmarked true h = cc
-        unmarked false h = refl
+        unmarked = grind (arith, nat_tests)
 
     by_test : (t : Bool) → p.begins ≡ t → cond t (joins_in ps + 1) (joins_in ps) ≡ suc n
         → (joins_in ps ≡ suc n → joins_in (first_done ps) ≡ n)
         → joins_in (cond t (piece false (codes "*") ∷ join_done ps) (p ∷ first_done ps)) ≡ n
-    by_test true w h more = let e = rest ps in omega (arith, e, h)
-    by_test false w h more = rw w (more h)
+    by_test = grind (arith, nat_tests, rest)
 
 -- Exchanges stand apart from joins.
 join_stays : (s : Sign) → is_join s ≡ true → is_exchange s ≡ false
@@ -238,27 +207,14 @@ begin_stays b m p ps n ns f w = join_stays (sign_of p.token) (f.0 w).0
 
 done_at_next : {X : Type 0} (other : X) (b : Bool) (m : List ℕ) (ps : List JoinedToken) (ns : List (List ℕ)) (xs : List X) → Formed b m ps ns
     → at_next other (signs_in (first_done ps)) (merged ps xs) ≡ at_next other (signs_in ps) xs
-done_at_next other b m [] ns xs f = refl
-done_at_next other b m (p ∷ ps) [] xs f = absurd f
-done_at_next {X} other b m (p ∷ ps) (n ∷ ns) [] f = none (first_done (p ∷ ps))
-  where
-    none : (qs : List JoinedToken) → at_next other (signs_in qs) [] ≡ other
-    none [] = refl
-    none (q ∷ qs) = refl
 done_at_next {X} other b m (p ∷ ps) (n ∷ ns) (x ∷ xs) f =
     by_bool p.begins
     (λ w. rw (w, begin_stays b m p ps n ns f w) (rest_at_next other ps xs))
     (λ w. rw w (ap (λ (y : X). cond (is_exchange (sign_of p.token)) x y) (done_at_next other (joins p) n ps ns xs f.1.1)))
+done_at_next other b m ps ns xs h = grind (arith, nat_tests)
 
 done_put_next : {X : Type 0} (other : X) (b : Bool) (m : List ℕ) (ps : List JoinedToken) (ns : List (List ℕ)) (xs : List X) → Formed b m ps ns
     → put_next other (signs_in (first_done ps)) (merged ps xs) ≡ merged ps (put_next other (signs_in ps) xs)
-done_put_next other b m [] ns xs f = refl
-done_put_next other b m (p ∷ ps) [] xs f = absurd f
-done_put_next {X} other b m (p ∷ ps) (n ∷ ns) [] f = none (first_done (p ∷ ps))
-  where
-    none : (qs : List JoinedToken) → put_next other (signs_in qs) [] ≡ []
-    none [] = refl
-    none (q ∷ qs) = refl
 done_put_next {X} other b m (p ∷ ps) (n ∷ ns) (x ∷ xs) f =
     by_bool p.begins
     (λ w. rw (w, begin_stays b m p ps n ns f w) ((ap (λ (ys : List X). x ∷ ys) (rest_put_next other ps xs))))
@@ -266,17 +222,11 @@ done_put_next {X} other b m (p ∷ ps) (n ∷ ns) (x ∷ xs) f =
     by_bool (is_exchange (sign_of p.token))
     (λ v. rw (w, v) refl)
     (λ v. rw (w, v) ((ap (λ (ys : List X). x ∷ ys) (done_put_next other (joins p) n ps ns xs f.1.1)))))
+done_put_next other b m ps ns xs h = grind (arith, nat_tests)
 
 -- the first join, and then the exchange: as the other way round
 pub done_swapped : {X : Type 0} (b : Bool) (m : List ℕ) (ps : List JoinedToken) (ns : List (List ℕ)) (xs : List X) → Formed b m ps ns
     → swapped (signs_in (first_done ps)) (merged ps xs) ≡ merged ps (swapped (signs_in ps) xs)
-done_swapped b m [] ns xs f = refl
-done_swapped b m (p ∷ ps) [] xs f = absurd f
-done_swapped {X} b m (p ∷ ps) (n ∷ ns) [] f = none (first_done (p ∷ ps))
-  where
-    none : (qs : List JoinedToken) → swapped {X = X} (signs_in qs) [] ≡ []
-    none [] = refl
-    none (q ∷ qs) = refl
 done_swapped {X} b m (p ∷ ps) (n ∷ ns) (x ∷ xs) f =
     by_bool p.begins
     (λ w. rw (w, begin_stays b m p ps n ns f w) ((ap (λ (ys : List X). x ∷ ys) (rest_swapped ps xs))))
@@ -287,3 +237,4 @@ done_swapped {X} b m (p ∷ ps) (n ∷ ns) (x ∷ xs) f =
     let back = done_put_next x (joins p) n ps ns xs f.1.1 in
     rw (w, v) (rw (other, back) refl))
     (λ v. rw (w, v) ((ap (λ (ys : List X). x ∷ ys) (done_swapped (joins p) n ps ns xs f.1.1)))))
+done_swapped b m ps ns xs h = grind (arith, nat_tests)

@@ -1,96 +1,62 @@
 -- One record more of a score.
-use Rattle.std.proofs.Common.{◌≡◌, ◌∙◌, sym, ap, refl, ℕ, suc, true, false, ◌==◌}
+use Rattle.std.proofs.Common.{◌≡◌, ◌∙◌, sym, ap, ℕ, true, false}
 use Rattle.std.proofs.Common.{List, [], ◌∷◌, length, arith, Option, None, Some}
-use Rattle.std.specs.Prelude.{Result, IfNone, OnOk, Ok, Err, nat_le}
-use Rattle.std.proofs.lemmas.Bool.{false≢true}
+use Rattle.std.specs.Prelude.{Result, IfNone, OnOk, Err}
 use Rattle.std.proofs.lemmas.Bool.Decides.{nat_tests}
-use Rattle.hum_score.specs.declared.records.SpinedKind.TheVariants.{Local, Interpretation, Values}
+use Rattle.hum_score.specs.declared.records.SpinedKind.TheVariants.{Interpretation}
 use Rattle.hum_score.specs.Row.{Row, Comment, Spined, tokens_of, width_of}
 use Rattle.hum_score.specs.declared.spines.Move.{Move}
-use Rattle.hum_score.specs.Spines.{Path, Unopened, Spines, width, moves, after}
+use Rattle.hum_score.specs.Spines.{Path, Unopened, Spines, moves, after}
 use Rattle.hum_score.specs.Rules.{fault_of, is_closed}
 use Rattle.hum_score.specs.Score.{IsOpen, path_after}
 use Rattle.hum_path.specs.Step.{ComeFrom}
-use Rattle.hum_score.proofs.Cases.{by_bool}
 use Rattle.hum_path.proofs.Plain.{sound_width}
 use Rattle.hum_path.proofs.Widths.{text_width}
 use Rattle.hum_stage.specs.declared.faults.Rule.{Rule}
 use Rattle.hum_stage.specs.declared.faults.Refusal.{Refusal}
-use Rattle.hum_stage.specs.declared.faults.Refusal.TheVariants.{Rule as Broken, Memory as OutOfMemory}
 use Rattle.hum_stage.specs.Decided.{Decision, Steps}
 use Rattle.hum_stage.specs.Limits.{in_room}
 use Rattle.hum_stage.specs.Refusals.{IfTold}
 use Rattle.hum_columns.specs.Chosen.{flags}
 use Rattle.hum_columns.specs.Deciding.{ColumnCommand, at_path, by_columns}
 use Rattle.hum_columns.specs.Following.{AsWide, moved, Memory, memory, passed, Answers, AnswersInRoom, Follows, is_interpretation}
-use Rattle.hum_columns.proofs.Flags.{flags_width, flags_open, flags_move, text_opening}
-
-some_left : (n : ℕ) → suc n == 0 ≡ false
-some_left n = grind (arith, nat_tests)
+use Rattle.hum_columns.proofs.Flags.{flags_width, flags_open, flags_move}
 
 closed_path : (path : Path) (tokens : List (List ℕ)) → fault_of path (Spined Interpretation tokens) ≡ None
     → is_closed path ≡ true → path ≡ Unopened
-closed_path Unopened tokens sound h = refl
-closed_path (Spines []) tokens sound h = cc
-closed_path (Spines (name ∷ names)) tokens sound h = absurd (false≢true (rw some_left at h))
+closed_path = grind (arith, nat_tests)
 
 abbrev pub names_in : Path → List (List ℕ)
 names_in Unopened = []
 names_in (Spines names) = names
 
 spines_path : (path : Path) → is_closed path ≡ false → path ≡ Spines (names_in path)
-spines_path Unopened h = cc
-spines_path (Spines names) h = refl
+spines_path = grind (arith, nat_tests)
 
 pub interpretation_kind : (row : Row) → is_interpretation row ≡ true → row ≡ Spined Interpretation (tokens_of row)
-interpretation_kind (Comment text) h = cc
-interpretation_kind (Spined Local tokens) h = cc
-interpretation_kind (Spined Values tokens) h = cc
-interpretation_kind (Spined Interpretation tokens) h = refl
+interpretation_kind = grind (arith, nat_tests)
 
 -- where there is room, an answer is one
 pub from_room : (decided : Result (List Row) Rule) (room : ℕ) (rows : List Row) (refused : Option Rule)
     → AnswersInRoom decided room rows refused → Answers decided room rows refused
-from_room decided room rows (Some rule) h = h.0
-from_room (Err rule) room rows None h = cc
-from_room (Ok out) room rows None h = by_bool (nat_le (length out) room)
-    (λ w. rw w at h)
-    (λ w. absurd (never (rw w at h)))
-  where
-    never : {e : Rule} → ◌≡◌ {A = Result (List Row) Rule} (Err e) (Ok rows) → ⊥
-    never h = cc
+from_room = grind (arith, nat_tests)
 
 -- a record that asks nothing of the spines
 module _ {command : ColumnCommand} {m : Memory} {decide : Decision} where
   pub wide_still : (row : Row) (past : List Row) → Follows command m decide past → IsOpen (row ∷ past)
       → is_interpretation row ≡ false → AsWide m.each row
-  wide_still (Comment text) past s score still = tt
-  wide_still (Spined Local tokens) past s score still =
-      ap length s.marks ∙ flags_width command.choose past score.0 ∙ sym (text_width (path_after past) tokens score.1)
-  wide_still (Spined Values tokens) past s score still =
-      ap length s.marks ∙ flags_width command.choose past score.0 ∙ sym (text_width (path_after past) tokens score.1)
-  wide_still (Spined Interpretation tokens) past s score still = cc
+  wide_still = grind (arith, nat_tests, flags_width, text_width)
 
   -- nothing moves
   pub follows_still : (row : Row) (past : List Row) → Follows command m decide past → IsOpen (row ∷ past)
       → is_interpretation row ≡ false → Follows command m decide (row ∷ past)
-  follows_still (Comment text) past s score still = record { decides = s.decides; spines = s.spines; marks = s.marks }
-  follows_still (Spined Local tokens) past s score still =
-      record { decides = s.decides; spines = s.spines; marks = s.marks ∙ rw (text_opening _ tokens _ score.1) refl }
-  follows_still (Spined Values tokens) past s score still =
-      record { decides = s.decides; spines = s.spines; marks = s.marks ∙ rw (text_opening _ tokens _ score.1) refl }
-  follows_still (Spined Interpretation tokens) past s score still = cc
+  follows_still = grind (arith, nat_tests)
 
 -- an interpretation
 module _ (command : ColumnCommand) {m : Memory} {decide : Decision} where
   pub wide_later : (row : Row) (past : List Row) → Follows command m decide past → IsOpen (row ∷ past)
       → row ≡ Spined Interpretation (tokens_of row) → is_closed m.path ≡ false → length m.each ≡ width_of row
-  wide_later (Comment text) past s score is off = cc
-  wide_later (Spined kind tokens) past s score is off =
-      let k : kind ≡ Interpretation = cc in
-      let path = spines_path (path_after past) (ap is_closed (sym s.spines) ∙ off) in
-      let sound : fault_of (Spines (names_in (path_after past))) (Spined Interpretation tokens) ≡ None = rw (k, path) at score.1 in
-      ap length s.marks ∙ flags_width command.choose past score.0 ∙ ap width path ∙ sym (sound_width (names_in (path_after past)) tokens sound)
+  wide_later = grind (arith, nat_tests, spines_path, flags_width, sound_width)
 
   -- the opening record
   pub steps_opening : (row : Row) (past : List Row) (room : ℕ) (out : List Row) (new : Memory) (refused : Option Rule)
@@ -99,48 +65,19 @@ module _ (command : ColumnCommand) {m : Memory} {decide : Decision} where
       → Answers (command.opening (tokens_of row)) room out refused
       → IfNone refused (new ≡ memory (after m.path row) (command.choose (tokens_of row)))
       → Steps decide past row (Follows command new) room out refused
-  steps_opening (Comment text) past room out new refused wide s score is on answers marked = cc
-  steps_opening (Spined kind tokens) past room out new refused wide s score is on answers marked =
-      let k : kind ≡ Interpretation = cc in
-      let sound : fault_of (path_after past) (Spined Interpretation tokens) ≡ None = rw k at score.1 in
-      let path = closed_path (path_after past) tokens sound (ap is_closed (sym s.spines) ∙ on) in
-      let later = command.later (flags command.choose past) tokens in
-      let decided : at_path (path_after past) (command.opening tokens) later ≡ command.opening tokens =
-      ap (λ (p : Path). at_path p (command.opening tokens) later) path in
-      rw (k, s.decides) (one refused answers (rw k at marked) decided (flags_open command.choose past tokens (wide tokens) score.0 path))
-    where
-      one : (refused : Option Rule) → Answers (command.opening tokens) room out refused
-          → IfNone refused (new ≡ memory (after m.path (Spined Interpretation tokens)) (command.choose tokens))
-          → by_columns command past (Spined Interpretation tokens) ≡ command.opening tokens
-          → flags command.choose (Spined Interpretation tokens ∷ past) ≡ command.choose tokens
-          → Steps (by_columns command) past (Spined Interpretation tokens) (Follows command new) room out refused
-      one None answers marked decided marks_then = (
-        decided ∙ answers,
-        record {
-          decides = refl;
-          spines = ap (λ (n : Memory). n.path) marked ∙ ap (λ (p : Path). after p (Spined Interpretation tokens)) s.spines;
-          marks = ap (λ (n : Memory). n.each) marked ∙ sym marks_then;
-        },
-      )
-      one (Some rule) answers marked decided marks_then = ap (in_room room) decided ∙ answers
+  steps_opening = grind (arith, nat_tests, closed_path, flags_open)
 
   -- what is decided of an interpretation after it
   decided_later : (tokens : List (List ℕ)) (past : List Row) → Follows command m decide past → is_closed m.path ≡ false
       → at_path (path_after past) (command.opening tokens) (command.later (flags command.choose past) tokens) ≡ command.later m.each tokens
-  decided_later tokens past s off =
-      let path = spines_path (path_after past) (ap is_closed (sym s.spines) ∙ off) in
-      ap (λ (p : Path). at_path p (command.opening tokens) (command.later (flags command.choose past) tokens)) path
-      ∙ ap (λ fs. command.later fs tokens) (sym s.marks)
+  decided_later = grind (arith, nat_tests)
 
   -- it is refused
   pub refuses_later : (row : Row) (past : List Row) (room : ℕ) (out : List Row) (rule : Rule)
       → Follows command m decide past → row ≡ Spined Interpretation (tokens_of row) → is_closed m.path ≡ false
       → AnswersInRoom (command.later m.each (tokens_of row)) room out (Some rule)
       → in_room room (decide past row) ≡ Err rule
-  refuses_later (Comment text) past room out rule s is off answers = cc
-  refuses_later (Spined kind tokens) past room out rule s is off answers =
-      let k : kind ≡ Interpretation = cc in
-      rw (k, s.decides) (ap (in_room room) (decided_later tokens past s off) ∙ answers.0)
+  refuses_later = grind (arith, nat_tests)
 
   -- it isn't
   pub steps_later : (row : Row) (past : List Row) (room : ℕ) (out : List Row) (new : Memory)
@@ -167,17 +104,8 @@ module _ (command : ColumnCommand) {m : Memory} {decide : Decision} where
           → new ≡ passed m (Spined Interpretation tokens)
           → moved m.each (moves m.path (Spined Interpretation tokens)) ≡ flags command.choose (Spined Interpretation tokens ∷ past)
           → Steps (by_columns command) past (Spined Interpretation tokens) (Follows command new) room out None
-      on answers decided went marks_then = (
-        decided ∙ answers,
-        record {
-          decides = refl;
-          spines = ap (λ (n : Memory). n.path) went ∙ ap (λ (p : Path). after p (Spined Interpretation tokens)) s.spines;
-          marks = ap (λ (n : Memory). n.each) went ∙ marks_then;
-        },
-      )
+      on = grind (arith, nat_tests)
 
 -- what holds where nothing is refused
 pub unless_refused : {A : Type 0} (r : Result A Refusal) (P : Type 0) → OnOk r P → IfTold r (λ o. IfNone o P)
-unless_refused (Ok x) P h = h
-unless_refused (Err (Broken rule)) P h = tt
-unless_refused (Err OutOfMemory) P h = tt
+unless_refused = grind (arith, nat_tests)

@@ -1,5 +1,7 @@
 -- How long the text of tokens is.
-use Rattle.std.proofs.Common.{◌≡◌, ℕ, ◌+◌, ◌≤◌, List, [], ◌∷◌, ◌++◌, length, arith, length-append}
+use Rattle.std.proofs.lemmas.Grind.{common_steps}
+use Rattle.std.proofs.lemmas.Bool.Decides.{nat_tests}
+use Rattle.std.proofs.Common.{◌≡◌, ℕ, ◌+◌, ◌≤◌, List, [], ◌∷◌, ◌++◌, length, arith}
 use Rattle.hum_record.specs.Building.{spelled}
 
 -- the bytes of tokens, each with one after it
@@ -13,23 +15,15 @@ weight-append (x ∷ xs) ys = let ih = weight-append xs ys in omega (arith, ih)
 
 pub spelled_weight : (x : List ℕ) (xs : List (List ℕ)) → length (spelled (x ∷ xs)) + 1 ≡ weight (x ∷ xs)
 spelled_weight x [] = omega arith
-spelled_weight x (y ∷ ys) =
-    let ih = spelled_weight y ys in
-    let size = length-append x (9 ∷ spelled (y ∷ ys)) in
-    omega (arith, ih, size)
+spelled_weight x (y ∷ ys) = grind (arith, common_steps, spelled_weight y ys)
 
 -- tokens of no more weight have no longer text
 pub no_longer : (us ts : List (List ℕ)) → weight us ≤ weight ts → length (spelled us) ≤ length (spelled ts)
 no_longer [] ts h = omega arith
 no_longer (u ∷ us) [] h = absurd (omega arith)
-no_longer (u ∷ us) (t ∷ ts) h =
-    let a = spelled_weight u us in let b = spelled_weight t ts in omega (arith, a, b, h)
+no_longer (u ∷ us) (t ∷ ts) h = grind (arith, nat_tests, spelled_weight)
 
 -- a prefix of tokens that fit fits
 pub front_fits : (most : ℕ) (xs : List (List ℕ)) (x : List ℕ) (rest all : List (List ℕ))
     → weight (xs ++ x ∷ rest) ≤ weight all → length (spelled all) ≤ most → length (spelled (xs ++ x ∷ [])) ≤ most
-front_fits most xs x rest all h fits =
-    let a = weight-append xs (x ∷ rest) in
-    let b = weight-append xs (x ∷ []) in
-    let c = no_longer (xs ++ x ∷ []) all (omega (arith, a, b, h)) in
-    omega (arith, c, fits)
+front_fits = grind (arith, nat_tests, weight-append, no_longer)

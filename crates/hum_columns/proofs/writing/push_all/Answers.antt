@@ -1,13 +1,10 @@
-use Rattle.std.proofs.Common.{◌∙◌, ◌++◌, ap, sym}
+use Rattle.std.proofs.lemmas.Bool.Decides.{nat_tests}
+use Rattle.std.proofs.Common.{arith}
 use Rattle.hum_columns.proofs.OneByOne.{tokens_at, lawful_at, front_of, draft_push, drafted, list_push}
 use Rattle.hum_columns.proofs.writing.push_all.Goals as goal
 
 pub push_fitting-requires-clause-fits : goal.push_fitting-requires-clause-fits
-push_fitting-requires-clause-fits c =
-    let p = c.piece-item.result in
-    let next = tokens_at c.args.pieces.now c.loop-piece.piece-index p c.loop-piece-test.true c.piece-item.is in
-    rw c.token.ensures
-    (front_of c.loop-piece.builder.tokens _ _ _ (ap (λ ys. c.loop-piece.builder.tokens ++ ys) (sym next) ∙ c.loop-piece.invariant.list) c.requires.fits)
+push_fitting-requires-clause-fits = grind (arith, nat_tests, tokens_at, front_of)
 
 pub loop-piece-preserved : goal.loop-piece-preserved
 loop-piece-preserved c =
