@@ -45,8 +45,11 @@ impl Write for Taker {
     }
 }
 
-// Writes a text to its end, and answers how many calls failed.
+// Writes a text to its end, every other one at once where that may be, and answers how many calls failed.
 fn put<S: Sink>(sink: &mut S, text: &[u8]) -> usize {
+    if text.len() % 2 == 0 && sink.write_near(text) {
+        return 0;
+    }
     let mut rest = text;
     let mut failed = 0usize;
     for _ in 0..1_000 {
