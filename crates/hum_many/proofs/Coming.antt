@@ -1,12 +1,14 @@
 -- What comes of a case.
 use Rattle.std.proofs.Common.{◌≡◌, ℕ, List, [], refl, sym, subst, ◌∙◌, Bool, true, false, nat_lt, Some, Option, inl, inr}
+use Rattle.std.specs.Prelude.{codes}
+use Rattle.hum_net.specs.Outcomes.{status_of}
 use Rattle.hum_words.specs.Bundle.{largest}
 use Rattle.hum_turns.specs.declared.result.RunResult.TheVariants as ends
 use Rattle.hum_net.specs.declared.outcome.Outcome.{Outcome}
 use Rattle.hum_net.specs.declared.outcome.Outcome.TheVariants as outcome
 use Rattle.hum_net.specs.Bundles.{Comes, ComesOfBundle, is_refused}
 use Rattle.hum_many.specs.Cases.{Named, size, score_in}
-use Rattle.hum_many.specs.Answers.{CaseComes, held_outcome}
+use Rattle.hum_many.specs.Answers.{CaseComes, held_outcome, told}
 
 -- a failed write of a text that is held is told as what it is
 comes-held : (plan : List ℕ) (score : List ℕ → Option (List ℕ)) (old new : Option (List ℕ)) (flushed : Bool) (is : Outcome)
@@ -52,3 +54,7 @@ case-comes plan old text held case flushed is small same none comes refused =
       comes = subst (λ b. ComesOfBundle b plan (score_in case) (Some []) (Some text) flushed (held_outcome is)) small from_none;
       refused = λ h. refused (sym (refused-held is) ∙ h) ∙ none;
     }
+
+-- what is told where all went well
+pub told-well : (is : Outcome) → status_of is ≡ 0 → told is ≡ codes "0"
+told-well is well = rw well refl

@@ -12,7 +12,7 @@ use crate::cases::Case;
 use crate::held::HeldText;
 use hum_net::{Outcome, Rightmost, RunResult, run_named};
 use hum_packets::{Answers, Stop};
-use hum_plan::{PlanStage, copied_stages};
+use hum_plan::PlanStage;
 use hum_text::calls::Sink;
 use std::alloc::{AllocError, Global};
 use std::fmt;
@@ -50,6 +50,9 @@ pub(crate) fn tell<W: Sink + Drop>(
     ensures answered { HasAnswered W.Sink text.now (told outcome) answers.old answers.new result }
     ensures hands { Hands W.Sink answers.old answers.new (is_write result) }
 {
+    if outcome.status() == 0 {
+        return answers.answer(text, b"0");
+    }
     let told = match (Told { outcome }).to_string(alloc) {
         Ok(told) => told,
         Err(_) => return Err(Stop::Memory),
@@ -79,9 +82,6 @@ pub(crate) fn run_case(alloc: Global, stages: &[PlanStage], case: &Case) -> (Out
     if case.is_too_large {
         return (Outcome::TooLarge, text.into_bytes());
     }
-    let Ok(stages) = copied_stages(alloc, stages) else {
-        return (Outcome::Run(RunResult::Memory), text.into_bytes());
-    };
     // from the right, each record goes through before the next is read: few are held
     let (outcome, text) = run_named(alloc, stages, &case.scores(), LINK, &mut Rightmost, text);
     (held_outcome(outcome), text.into_bytes())

@@ -1,7 +1,7 @@
 -- Nodes, one after another.
-use Rattle.std.proofs.Common.{◌≡◌, ◌∙◌, refl, sym, ap, subst, ℕ, suc, ◌+◌, List, [], ◌∷◌, ◌++◌, length, arith}
+use Rattle.std.proofs.Common.{◌≡◌, ◌∙◌, refl, sym, ap, subst, ℕ, suc, ◌+◌, ◌<◌, List, [], ◌∷◌, ◌++◌, length, drop, get_or, arith}
 use Rattle.std.proofs.Common.{length-append, append_assoc}
-use Rattle.std.proofs.lemmas.List.{append-nil, nil_from_length}
+use Rattle.std.proofs.lemmas.List.{append-nil, nil_from_length, drop_more}
 use Rattle.hum_plan.specs.declared.stages.PlanStage.{PlanStage}
 use Rattle.hum_plan.specs.Stages.{Stage}
 use Rattle.hum_plan.specs.Seen.{options_of, stage_of, stages_of}
@@ -52,6 +52,23 @@ module _ {N R : Type 0} {Holds : ℕ → PlanStage → N → Type 0} {Tell : (�
     many = count;
     narrow = narrow;
   }
+
+  -- The next stage is the one at this place.
+  pub at_next : {i : ℕ} {stage : PlanStage} {left : List R} {nodes : List N}
+      → Built Holds Tell remaining all (drop i all) readers left nodes → i < length all → stage ≡ get_or all i stage
+      → Built Holds Tell remaining all (stage ∷ drop (i + 1) all) readers left nodes
+  at_next {i} {stage} {left} {nodes} b below is =
+      subst (λ rest. Built Holds Tell remaining all rest readers left nodes)
+      (drop_more all i stage below ∙ ap (λ (s : PlanStage). s ∷ drop (i + 1) all) (sym is)) b
+
+  -- There are fewer nodes than stages.
+  pub fewer_built : {stage : PlanStage} {rest : List PlanStage} {left : List R} {nodes : List N}
+      → Built Holds Tell remaining all (stage ∷ rest) readers left nodes → length nodes < length all
+  fewer_built {stage} {rest} {left} {nodes} b =
+      let count = all_length Holds 0 b.front nodes b.made in
+      let parts = length-append b.front (stage ∷ rest) in
+      let split = ap length b.split in
+      omega (arith, count, parts, split)
 
   -- One more is made, of the stage that is next.
   pub one_built : {stage : PlanStage} {rest : List PlanStage} {left more : List R} {nodes : List N} {node : N} {k : ℕ}

@@ -45,20 +45,22 @@ module _ {S R : Type 0} (commands : Commands S) (k number : ℕ) (stage : PlanSt
       subst (λ (o : Options). FitsBy commands k stage.sources.items (said_by o) node) (sym told)
       (subst (λ (l : List ℕ). FitsBy commands k l (said_by options) node) (sym at) fits)
 
-  -- of a command
-  pub command_fits : (sources : List ℕ) (options : CommandOptions) (source : ℕ) (node : Node S R)
-      → stage.options ≡ said.Command options → stage.sources.items ≡ sources → source ≡ first_of sources
-      → ((rest : List ℕ) → StandsAs commands.stands node rest (fresh (single source (meaning number options))))
-      → IsLawful (meaning number options)
-      → (MakesScores options → KeepsScore (meaning number options).outcomes)
-      → KeepsRecords (meaning number options).outcomes → number ≡ k + 1 → Fits commands k stage node
-  command_fits sources options source node told at first fits lawful keeps records is =
+  -- of a command, whose node has a copy of what the stage is told
+  pub command_fits : (options copy : CommandOptions) (source : ℕ) (node : Node S R)
+      → stage.options ≡ said.Command options → options_of copy ≡ options_of options
+      → source ≡ first_of stage.sources.items
+      → ((rest : List ℕ) → StandsAs commands.stands node rest (fresh (single source (meaning number copy))))
+      → IsLawful (meaning number copy)
+      → (MakesScores copy → KeepsScore (meaning number copy).outcomes)
+      → KeepsRecords (meaning number copy).outcomes → number ≡ k + 1 → Fits commands k stage node
+  command_fits options copy source node told same first fits lawful keeps records is =
       let At : ℕ → List ℕ → ℕ → Type 0 = λ s rest n.
-      StandsAs commands.stands node rest (fresh (single s (meaning n options))) in
-      by_parts sources (said.Command options) node told at (
+      StandsAs commands.stands node rest (fresh (single s (meaning n copy))) in
+      by_parts stage.sources.items (said.Command options) node told refl
+      (subst (λ o. FitsBy commands k stage.sources.items (plan.Takes o) node) same (
         λ bytes. subst (λ s. At s bytes (k + 1)) first (subst (At source bytes) is (fits bytes)),
-        subst (λ n. IsSoundBy n (plan.Takes (options_of options))) is (is_sound number options lawful keeps records),
-      )
+        subst (λ n. IsSoundBy n (plan.Takes (options_of copy))) is (is_sound number copy lawful keeps records),
+      ))
 
   -- of assemble
   pub assemble_fits : (sources : List ℕ) (node : Node S R) → stage.options ≡ said.Assemble

@@ -51,22 +51,22 @@ impl<R: Source + Drop, W: Sink, S: OfOptions + Drop> Net<R, W, S> {
     /// The net of a plan's stages, as [`Net::new`] makes it.
     pub(crate) fn of_stages(
         alloc: Global,
-        stages: Vec<PlanStage>,
+        stages: &[PlanStage],
         readers: Vec<R>,
         writer: W,
         link: u16,
     ) -> Result<Net<R, W, S>, W>
-        requires tree { IsTree (stages_of stages.items) }
-        requires readers { readers_of (stages_of stages.items) ≡ length readers.items }
+        requires tree { IsTree (stages_of stages.now) }
+        requires readers { readers_of (stages_of stages.now) ≡ length readers.items }
         requires link { 1 ≤ link }
         requires room { link ≤ 4096 }
         ensures opens { IfOk result (λ net. (bytes : ℕ → List ℕ)
-            → NetAt S.Stage W.Sink (W.contents writer) (scene_of bytes bytes (stages_of stages.items) link) net
+            → NetAt S.Stage W.Sink (W.contents writer) (scene_of bytes bytes (stages_of stages.now) link) net
             first_now) }
         ensures tells { IfOk result (λ net. (bytes : ℕ → List ℕ)
-            → AreTold R.remaining bytes 0 (stages_of stages.items) readers.items
+            → AreTold R.remaining bytes 0 (stages_of stages.now) readers.items
             → Tells R.Source net.web.nodes.items bytes) }
-        ensures valid { IfOk result (λ net. AreSoundFrom 0 (stages_of stages.items)) }
+        ensures valid { IfOk result (λ net. AreSoundFrom 0 (stages_of stages.now)) }
         ensures sink { IfOk result (λ net. net.sink ≡ writer) }
         ensures failure { IfOk result (λ net. net.failure ≡ None) }
         ensures err { IfErr result (λ back. back ≡ writer) }

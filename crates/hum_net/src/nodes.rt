@@ -68,34 +68,33 @@ fn first_from_zero(numbers: &[u8]) -> usize
 fn plan_node<S: OfOptions + Drop, R: Source + Drop>(
     alloc: Global,
     k: usize,
-    stage: PlanStage,
+    stage: &PlanStage,
     readers: &mut VecDeque<R>,
 ) -> Result<Node<S, R>, AllocError>
     requires few { k < 64 }
-    requires narrow { length stage.sources.items ≤ 15 }
-    requires reader { readers_by (options_of stage.options) ≤ length readers.old.items }
-    ensures left { length readers.new.items + readers_by (options_of stage.options)
+    requires narrow { length stage.now.sources.items ≤ 15 }
+    requires reader { readers_by (options_of stage.now.options) ≤ length readers.old.items }
+    ensures left { length readers.new.items + readers_by (options_of stage.now.options)
         ≡ length readers.old.items }
-    ensures fits { IfOk result (Fits S.Stage k stage) }
+    ensures fits { IfOk result (Fits S.Stage k stage.now) }
     ensures told { IfOk result (λ made. (bytes : ℕ → List ℕ) (stages : List TreeStage)
-        → AreTold R.remaining bytes k (stage_of stage ∷ stages) readers.old.items
-        → Tells R.remaining bytes k stage made
+        → AreTold R.remaining bytes k (stage_of stage.now ∷ stages) readers.old.items
+        → Tells R.remaining bytes k stage.now made
         × AreTold R.remaining bytes (k + 1) stages readers.new.items) }
 {
     let number = k as u8 + 1;
-    let (sources, options) = stage.into_parts();
-    match options {
+    match &stage.options {
         Options::Read(_) => match readers.pop_front() {
             Some(reader) => Ok(Node::read(alloc, number, reader)),
             None => unreachable!(),
         },
         Options::Assemble => {
-            let sources = all_from_zero(alloc, &sources)?;
+            let sources = all_from_zero(alloc, &stage.sources)?;
             Node::assemble(alloc, number, sources)
         }
         Options::Command(options) => {
-            let stage = S::of_options(alloc, number, options);
-            Ok(Node::command(stage, first_from_zero(&sources)))
+            let made = S::of_options(alloc, number, options.copy(alloc)?);
+            Ok(Node::command(made, first_from_zero(&stage.sources)))
         }
     }
 }
@@ -103,24 +102,21 @@ fn plan_node<S: OfOptions + Drop, R: Source + Drop>(
 /// The nodes of a plan's stages, with a reader for each that reads a score, in their order.
 pub(crate) fn plan_nodes<S: OfOptions + Drop, R: Source + Drop>(
     alloc: Global,
-    stages: Vec<PlanStage>,
+    stages: &[PlanStage],
     readers: Vec<R>,
 ) -> Result<Vec<Node<S, R>>, AllocError>
-    requires tree { IsTree (stages_of stages.items) }
-    requires readers { readers_of (stages_of stages.items) ≡ length readers.items }
-    ensures fits { IfOk result (λ nodes. AllFrom (Fits S.Stage) 0 stages.items nodes.items) }
+    requires tree { IsTree (stages_of stages.now) }
+    requires readers { readers_of (stages_of stages.now) ≡ length readers.items }
+    ensures fits { IfOk result (λ nodes. AllFrom (Fits S.Stage) 0 stages.now nodes.items) }
     ensures told { IfOk result (λ nodes. (bytes : ℕ → List ℕ)
-        → AreTold R.remaining bytes 0 (stages_of stages.items) readers.items
-        → AllFrom (Tells R.remaining bytes) 0 stages.items nodes.items) }
+        → AreTold R.remaining bytes 0 (stages_of stages.now) readers.items
+        → AllFrom (Tells R.remaining bytes) 0 stages.now nodes.items) }
 {
-    let mut coming = VecDeque::from(stages);
     let mut left = VecDeque::from(readers);
-    let mut nodes = Vec::new(alloc);
-    'stages: loop {
-        let Some(stage) = coming.pop_front() else {
-            return Ok(nodes);
-        };
+    let mut nodes = Vec::with_capacity(alloc, stages.len())?;
+    for stage in stages {
         let node = plan_node(alloc, nodes.len(), stage, &mut left)?;
         nodes.push(node)?;
     }
+    Ok(nodes)
 }

@@ -38,6 +38,6 @@ impl<R: Source + Drop, W: Sink> Net<R, W> {
         ensures failure { IfOk result (λ net. net.failure ≡ None) }
         ensures err { IfErr result (λ back. back ≡ writer) }
     {
-        Net::of_stages(alloc, plan.into_stages(), readers, writer, link)
+        Net::of_stages(alloc, &plan.into_stages(), readers, writer, link)
     }
 }

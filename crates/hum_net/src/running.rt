@@ -17,14 +17,14 @@ use std::alloc::Global;
 /// that hold so many records. The sink is handed back with how the run ended.
 pub fn run_stages<R: Source + Drop, O: Order, W: Sink + Drop>(
     alloc: Global,
-    stages: Vec<PlanStage>,
+    stages: &[PlanStage],
     readers: Vec<R>,
     link: u16,
     order: &mut O,
     sink: W,
 ) -> (RunResult, W)
-    requires tree { IsTree (stages_of stages.items) }
-    requires readers { readers_of (stages_of stages.items) ≡ length readers.items }
+    requires tree { IsTree (stages_of stages.now) }
+    requires readers { readers_of (stages_of stages.now) ≡ length readers.items }
     requires link { 1 ≤ link }
     requires room { link ≤ 4096 }
 
@@ -32,22 +32,22 @@ pub fn run_stages<R: Source + Drop, O: Order, W: Sink + Drop>(
     // the text of what the stages mean over the scores that the bytes denote, which is valid Humdrum
     // unless interpretations are dropped, and the run ends as they mean; or a failed read or write, or
     // running out of memory, ended it, and a prefix of that text was written.
-    ensures wrote { (bytes : ℕ → List ℕ) → AreTold R.remaining bytes 0 (stages_of stages.items) readers.items
-        → HasWritten bytes (stages_of stages.items) (W.contents sink) (W.contents result.1) (W.flushed result.1)
+    ensures wrote { (bytes : ℕ → List ℕ) → AreTold R.remaining bytes 0 (stages_of stages.now) readers.items
+        → HasWritten bytes (stages_of stages.now) (W.contents sink) (W.contents result.1) (W.flushed result.1)
         result.0 }
 
     // The turns are those that the order picked, to the run's end, and it is left as its picks leave
     // it; where memory runs out before the first, it is not asked.
-    ensures picked { (bytes : ℕ → List ℕ) → AreTold R.remaining bytes 0 (stages_of stages.items) readers.items
-        → HasPicked (order_of O.Order) bytes (stages_of stages.items) link result.0 order.old order.new
+    ensures picked { (bytes : ℕ → List ℕ) → AreTold R.remaining bytes 0 (stages_of stages.now) readers.items
+        → HasPicked (order_of O.Order) bytes (stages_of stages.now) link result.0 order.old order.new
         ⊎ IsUnasked result.0 order.old order.new }
 
     // So they are whether the readers tell their bytes or not, and however these go on; and what was
     // written is what the run had written at its last moment, after a failure too.
-    ensures driven { HasDriven (order_of O.Order) (stages_of stages.items) link result.0 order.old order.new
+    ensures driven { HasDriven (order_of O.Order) (stages_of stages.now) link result.0 order.old order.new
         (W.contents sink) (W.contents result.1) ⊎ IsUnasked result.0 order.old order.new }
-    ensures ended { (bytes : ℕ → List ℕ) → AreTold R.remaining bytes 0 (stages_of stages.items) readers.items
-        → HasEnded (order_of O.Order) bytes (stages_of stages.items) link result.0 order.old order.new
+    ensures ended { (bytes : ℕ → List ℕ) → AreTold R.remaining bytes 0 (stages_of stages.now) readers.items
+        → HasEnded (order_of O.Order) bytes (stages_of stages.now) link result.0 order.old order.new
         (W.contents sink) (W.contents result.1) ⊎ IsUnasked result.0 order.old order.new }
 
     // A failed write or flush is told exactly where one set the sink's mark.

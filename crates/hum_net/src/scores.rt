@@ -125,26 +125,26 @@ fn readers<S: Scores>(
 /// back with how it ended.
 pub fn run_named<S: Scores, O: Order, W: Sink + Drop>(
     alloc: Global,
-    stages: Vec<PlanStage>,
+    stages: &[PlanStage],
     scores: &S,
     link: u16,
     order: &mut O,
     writer: W,
 ) -> (Outcome, W)
-    requires tree { IsTree (stages_of stages.items) }
+    requires tree { IsTree (stages_of stages.now) }
     requires link { 1 ≤ link }
     requires room { link ≤ 4096 }
 
     // Of each text that is the plan of these stages comes what [`run_scores`] says of it.
-    ensures comes { (text : List ℕ) → IsPlanOf text (stages_of stages.items) → S.is_known scores.now ≡ true
+    ensures comes { (text : List ℕ) → IsPlanOf text (stages_of stages.now) → S.is_known scores.now ≡ true
         → Comes text (S.score scores.now) (W.contents writer) (W.contents result.1) (W.flushed result.1) result.0 }
-    ensures picked { (text : List ℕ) → IsPlanOf text (stages_of stages.items) → S.is_known scores.now ≡ true
+    ensures picked { (text : List ℕ) → IsPlanOf text (stages_of stages.now) → S.is_known scores.now ≡ true
         → Picks (order_of O.Order) text (S.score scores.now) link order.old order.new result.0 }
-    ensures ended { (text : List ℕ) → IsPlanOf text (stages_of stages.items) → S.is_known scores.now ≡ true
+    ensures ended { (text : List ℕ) → IsPlanOf text (stages_of stages.now) → S.is_known scores.now ≡ true
         → Ends (order_of O.Order) text (S.score scores.now) link order.old order.new (W.contents writer)
         (W.contents result.1) result.0 }
-    ensures may { (text : List ℕ) → IsPlanOf text (stages_of stages.items) → MayCome text result.0 }
-    ensures drives { (text : List ℕ) → IsPlanOf text (stages_of stages.items)
+    ensures may { (text : List ℕ) → IsPlanOf text (stages_of stages.now) → MayCome text result.0 }
+    ensures drives { (text : List ℕ) → IsPlanOf text (stages_of stages.now)
         → Drives (order_of O.Order) text link order.old order.new (W.contents writer) (W.contents result.1) result.0 }
     ensures marked { W.failed result.1 ≡ (W.failed writer || is_failed_write result.0) }
     ensures flushes { W.flushes result.1 ≤ W.flushes writer + 1 }
@@ -152,7 +152,7 @@ pub fn run_named<S: Scores, O: Order, W: Sink + Drop>(
         → (k : ℕ) → is_read_by k result.0 ≡ false }
     ensures refused { is_refused result.0 ≡ true → (result.1 ≡ writer) × (order.new ≡ order.old) }
 {
-    let readers = match readers(alloc, scores, &stages) {
+    let readers = match readers(alloc, scores, stages) {
         Ok(readers) => readers,
         Err(outcome) => return (outcome, writer),
     };
@@ -211,5 +211,5 @@ pub fn run_scores<S: Scores, O: Order, W: Sink + Drop>(
         Ok(stages) => stages,
         Err(outcome) => return (outcome, writer),
     };
-    run_named(alloc, stages, scores, link, order, writer)
+    run_named(alloc, &stages, scores, link, order, writer)
 }

@@ -9,5 +9,5 @@ returns c = λ plan is_plan scores large all.
     subst (λ o. CaseComes plan scores c.into_bytes-2.result.items o) (sym c.held_outcome.ensures)
     (subst (λ v. CaseComes plan scores v.items (held_outcome ran.result.0)) (sym c.into_bytes-2.ensures)
     (case-comes plan c.new-text.result.bytes.items ran.result.1.bytes.items c.scores.result.scores.now scores ran.result.1.flushed ran.result.0
-    (sym c.if-case.false ∙ large) (c.scores.ensures ∙ all c.if-case.false) c.new-text.ensures (ran.ensures.comes plan (rw c.in-Ok.ensures is_plan) refl)
+    (sym c.if-case.false ∙ large) (c.scores.ensures ∙ all c.if-case.false) c.new-text.ensures (ran.ensures.comes plan is_plan refl)
     (λ h. ap (λ t. t.bytes.items) (ran.ensures.refused h).0)))

@@ -7,7 +7,7 @@ use Rattle.hum_net.proofs.running.run_stages.Goals as goal
 
 pub returns-in-Ok-clause-wrote : goal.returns-in-Ok-clause-wrote
 returns-in-Ok-clause-wrote g c bytes told =
-    let stages = stages_of c.args.stages.items in
+    let stages = stages_of c.args.stages.now in
     let ran = c.run-result.ensures.whole _ (scene_of bytes bytes stages c.args.link) first_now
     (c.in-Ok.ensures.tells bytes told) (c.in-Ok.ensures.opens bytes) in
     let is = means_valid bytes stages c.requires.tree c.in-Ok.ensures.valid in
@@ -15,7 +15,7 @@ returns-in-Ok-clause-wrote g c bytes told =
 
 pub returns-in-Ok-clause-picked : goal.returns-in-Ok-clause-picked
 returns-in-Ok-clause-picked g c bytes told =
-    let stages = stages_of c.args.stages.items in
+    let stages = stages_of c.args.stages.now in
     let ran = c.run-result.ensures.whole _ (scene_of bytes bytes stages c.args.link) first_now
     (c.in-Ok.ensures.tells bytes told) (c.in-Ok.ensures.opens bytes) in
     inl (ended_so {writer = g.W.Sink} {bytes = bytes} {rests = ran.left} {stages = stages} ran.runs).picked
@@ -48,14 +48,14 @@ returns-in-Err-clause-marked g c =
 
 pub returns-in-Ok-clause-ended : goal.returns-in-Ok-clause-ended
 returns-in-Ok-clause-ended g c bytes told =
-    let stages = stages_of c.args.stages.items in
+    let stages = stages_of c.args.stages.now in
     let ran = c.run-result.ensures.whole _ (scene_of bytes bytes stages c.args.link) first_now
     (c.in-Ok.ensures.tells bytes told) (c.in-Ok.ensures.opens bytes) in
     rw c.into_writer.ensures.sink (inl (ended_so {bytes = bytes} {rests = ran.left} {stages = stages} ran.runs))
 
 pub returns-in-Ok-clause-driven : goal.returns-in-Ok-clause-driven
 returns-in-Ok-clause-driven g c =
-    let stages = stages_of c.args.stages.items in
+    let stages = stages_of c.args.stages.now in
     let ran = c.run-result.ensures.ran in
     rw c.into_writer.ensures.sink
     (inl (record {

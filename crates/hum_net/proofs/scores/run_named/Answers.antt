@@ -7,18 +7,18 @@ use Rattle.hum_net.proofs.scores.run_named.Goals as goal
 
 pub returns-clause-comes : goal.returns-clause-comes
 returns-clause-comes g c text plan known =
-    let there = rw c.deref.ensures.value at (c.in-Ok.ensures.there known) in
-    let told = rw c.deref.ensures.value at (c.in-Ok.ensures.told known) in
+    let there = c.in-Ok.ensures.there known in
+    let told = c.in-Ok.ensures.told known in
     run_comes _ _ _ _ _ _ plan there (c.run_stages-end.ensures.wrote _ told)
 
 pub returns-clause-picked : goal.returns-clause-picked
 returns-clause-picked g c text plan known =
-    let told = rw c.deref.ensures.value at (c.in-Ok.ensures.told known) in
+    let told = c.in-Ok.ensures.told known in
     pick_plan _ _ _ _ _ plan (c.run_stages-end.ensures.picked _ told)
 
 pub returns-clause-ended : goal.returns-clause-ended
 returns-clause-ended g c text plan known =
-    let told = rw c.deref.ensures.value at (c.in-Ok.ensures.told known) in
+    let told = c.in-Ok.ensures.told known in
     end_plan _ _ _ _ _ plan (c.run_stages-end.ensures.ended _ told)
 
 pub returns-clause-drives : goal.returns-clause-drives
@@ -28,7 +28,7 @@ returns-clause-drives g c text plan = drive_plan plan c.run_stages-end.ensures.d
 
 pub returns-in-Err-clause-comes : goal.returns-in-Err-clause-comes
 returns-in-Err-clause-comes g c text plan known = lacking_comes _ _ _ _ _ plan
-    (rw c.deref.ensures.value at (c.in-Err.ensures.lacks_now known))
+    (c.in-Err.ensures.lacks_now known)
 
 pub returns-in-Err-clause-picked : goal.returns-in-Err-clause-picked
 returns-in-Err-clause-picked g c text plan known =
@@ -40,7 +40,7 @@ returns-in-Err-clause-ended g c text plan known =
 
 pub returns-in-Err-clause-may : goal.returns-in-Err-clause-may
 returns-in-Err-clause-may g c text plan = lacking_may _ _ plan
-    (rw c.deref.ensures.value at c.in-Err.ensures.lacks)
+    (c.in-Err.ensures.lacks)
 
 pub returns-in-Err-clause-drives : goal.returns-in-Err-clause-drives
 returns-in-Err-clause-drives g c text plan =

@@ -4,20 +4,23 @@ use Rattle.hum_net.proofs.scores.run_scores.Goals as goal
 
 -- It was run.
 
+pub run_named-requires-clause-tree : goal.run_named-requires-clause-tree
+run_named-requires-clause-tree g c = rw c.deref.ensures.value c.in-Ok.ensures.tree
+
 pub returns-clause-comes : goal.returns-clause-comes
-returns-clause-comes g c known = c.run_named.ensures.comes _ c.in-Ok.ensures.plan known
+returns-clause-comes g c known = c.run_named.ensures.comes c.args.text.now (rw c.deref.ensures.value c.in-Ok.ensures.plan) known
 
 pub returns-clause-picked : goal.returns-clause-picked
-returns-clause-picked g c known = c.run_named.ensures.picked _ c.in-Ok.ensures.plan known
+returns-clause-picked g c known = c.run_named.ensures.picked c.args.text.now (rw c.deref.ensures.value c.in-Ok.ensures.plan) known
 
 pub returns-clause-ended : goal.returns-clause-ended
-returns-clause-ended g c known = c.run_named.ensures.ended _ c.in-Ok.ensures.plan known
+returns-clause-ended g c known = c.run_named.ensures.ended c.args.text.now (rw c.deref.ensures.value c.in-Ok.ensures.plan) known
 
 pub returns-clause-may : goal.returns-clause-may
-returns-clause-may g c = c.run_named.ensures.may _ c.in-Ok.ensures.plan
+returns-clause-may g c = c.run_named.ensures.may c.args.text.now (rw c.deref.ensures.value c.in-Ok.ensures.plan)
 
 pub returns-clause-drives : goal.returns-clause-drives
-returns-clause-drives g c = c.run_named.ensures.drives _ c.in-Ok.ensures.plan
+returns-clause-drives g c = c.run_named.ensures.drives c.args.text.now (rw c.deref.ensures.value c.in-Ok.ensures.plan)
 
 -- It is no plan.
 
