@@ -18,4 +18,4 @@ mod stages;
 
 pub use faults::{PlanError, PlanFault, PlanRule};
 pub use plan::{Plan, parse_plan};
-pub use stages::{Options, PlanStage, copied_stages};
+pub use stages::{Options, PlanStage};
