@@ -33,7 +33,8 @@ pub record IsRoomOf {Z : Type 0} (held : Vec ℕ Z) (len : ℕ) : Type 0 where
   pub most : vec_len held ≤ most_bytes len
   pub ended : slice_index held.items len ≡ 10
 
--- A list begins with what it was. It was given room for so many items, and no more than a limit; or where it was given none, it is as long as it was.
+-- A list begins with what it was. It was given room for so many items, and no more than a limit; or where it was
+-- given none, it is as long as it was.
 pub record IsGiven {Z : Type 0} (given : Bool) (old new : Vec ℕ Z) (count limit : ℕ) : Type 0 where
   pub kept : take (vec_len old) new.items ≡ old.items
   pub more : vec_len old ≤ vec_len new
