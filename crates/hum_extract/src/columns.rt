@@ -13,7 +13,7 @@ ghost use Rattle.hum_choices.specs.Extract.{choice_of};
 use crate::choosing::marks;
 use crate::cutting::cut;
 use crate::due::MostlyOne;
-use crate::kept::keep;
+use crate::kept::{keep, put_if};
 use hum_choices::ExtractOptions;
 use hum_columns::ChosenColumns;
 use hum_path::steers;
@@ -95,7 +95,7 @@ impl Decides for ExtractColumns {
 
     fn step(
         &mut self,
-        next: Record,
+        mut next: Record,
         room: u64,
         pool: &mut Spare,
         out: &mut MostlyOne,
@@ -115,7 +115,8 @@ impl Decides for ExtractColumns {
             }
             open(self.alloc, &self.choice, &mut self.columns, &next)?;
         }
-        keep(self.columns.selection(), next, pool, out)?;
+        let stays = keep(self.columns.selection(), &mut next)?;
+        put_if(stays, next, pool, out);
         Ok(())
     }
 }

@@ -1,5 +1,5 @@
 //! Records that are left with their chosen tokens.
-ghost use Rattle.std.specs.Prelude.{◌≡◌, [], OnOk};
+ghost use Rattle.std.specs.Prelude.{◌≡◌, ◌∷◌, [], IfOk, if◌then◌else◌};
 ghost use Rattle.hum_score.specs.{Row.text_of, Spelling.IsTextOf};
 ghost use Rattle.hum_columns.specs.Following.{AsWide};
 ghost use Rattle.hum_extract.specs.Kept.{kept};
@@ -8,29 +8,34 @@ use crate::due::MostlyOne;
 use hum_record::{Record, Selection, Spare};
 use std::alloc::AllocError;
 
-/// Gives what is left of a record with the chosen tokens alone, if there are any. A global comment has
-/// none, and stays. A record of which nothing is left goes to the pool.
+/// Leaves the chosen tokens of a record alone, and tells whether there are any. A global comment has none, and stays.
 ///
 /// # Errors
 /// Out of memory.
-pub fn keep(
-    selection: &Selection,
-    mut row: Record,
-    pool: &mut Spare,
-    out: &mut MostlyOne,
-) -> Result<(), AllocError>
-    requires as_wide { AsWide selection.now row }
-    requires lawful { IsTextOf row (text_of row) }
-    requires empty { out.old ≡ [] }
-    ensures { OnOk result (out.new ≡ kept selection.now row) }
+pub fn keep(selection: &Selection, row: &mut Record) -> Result<bool, AllocError>
+    requires as_wide { AsWide selection.now row.old }
+    requires lawful { IsTextOf row.old (text_of row.old) }
+    ensures { IfOk result
+        (λ stays. (if stays then row.new ∷ [] else []) ≡ kept selection.now row.old) }
 {
-    if row.width() != 0 {
-        if selection.is_none() {
-            pool.keep(row);
-            return Ok(());
-        }
-        row.retain(selection)?;
+    if row.width() == 0 {
+        return Ok(true);
     }
-    out.put(row);
-    Ok(())
+    if selection.is_none() {
+        return Ok(false);
+    }
+    row.retain(selection)?;
+    Ok(true)
+}
+
+/// A record that stays is due; another goes to the pool.
+pub fn put_if(stays: bool, row: Record, pool: &mut Spare, out: &mut MostlyOne)
+    requires { out.old ≡ [] }
+    ensures { out.new ≡ (if stays then row ∷ [] else []) }
+{
+    if stays {
+        out.put(row);
+    } else {
+        pool.keep(row);
+    }
 }

@@ -43,13 +43,14 @@ returns c =
           let on : is_closed c.args.self.now.columns.path ≡ true = sym w.is_unopened.ensures ∙ w.if-not-is_unopened.false in
           let marked : c.selection.result.now ≡ opening_flags choice (tokens_of row) =
           c.selection.ensures ∙ rw w.self-is (ap (λ (m : Memory). m.each) w.in_ok-open.ensures.columns) in
-          rw w.self-is (steps_opening command row past c.args.room c.keep-2.new.out w.open.new.columns None (opening_length choice) follows score is on
-          (gives_opening choice row _ c.keep-2.new.out is w.in_ok-open.ensures.found marked c.in_ok-keep.ensures) w.in_ok-open.ensures.columns)
+          let given = c.put_if.ensures ∙ c.in_ok-stays.ensures in
+          rw w.self-is (steps_opening command row past c.args.room c.put_if.new.out w.open.new.columns None (opening_length choice) follows score is on
+          (gives_opening choice row _ c.put_if.new.out is w.in_ok-open.ensures.found marked given) w.in_ok-open.ensures.columns)
       | else-asks w ↦ λ decide past follows score.
           let still : steers row ≡ false = sym c.asks.ensures.asks ∙ w.if-asks.false in
-          let given = rw (c.selection.ensures, w.self-is) at c.in_ok-keep.ensures in
+          let given = rw (c.selection.ensures, w.self-is) at (c.put_if.ensures ∙ c.in_ok-stays.ensures) in
           rw w.self-is (
-            gives_still choice row past c.keep-2.new.out follows score c.asks.ensures.lawful still given,
+            gives_still choice row past c.put_if.new.out follows score c.asks.ensures.lawful still given,
             follows_still choice row past follows score c.asks.ensures.lawful still,
           )
     ]
@@ -102,5 +103,5 @@ returns-in_err-cut c =
 pub returns-in_err-pass : goal.returns-in_err-pass
 returns-in_err-pass c = told_none c.from_residual-in_err-pass.result _ c.from_residual-in_err-pass.ensures.1
 
-pub returns-in_err-keep : goal.returns-in_err-keep
-returns-in_err-keep c = told_none c.from_residual-in_err-keep.result _ c.from_residual-in_err-keep.ensures.1
+pub returns-in_err-stays : goal.returns-in_err-stays
+returns-in_err-stays c = told_none c.from_residual-in_err-stays.result _ c.from_residual-in_err-stays.ensures.1
