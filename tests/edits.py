@@ -127,8 +127,8 @@ class Edit:
             self.why = 'BAD EDIT: it changes nothing'
 
     def keys(self):
-        """The functions by which it takes its place in a copy; none, where it stands in no function and wants a copy of its own."""
-        return None if None in self.functions else {it.key() for it in self.functions}
+        """The functions by which it takes its place in a copy; none, where it stands outside of all and wants a copy of its own."""
+        return set() if None in self.functions else {it.key() for it in self.functions}
 
     def only(self):
         """What is checked of a copy with it: the functions that it stands in, or else the modules; the whole crate, if that is none."""
@@ -147,7 +147,7 @@ class Edit:
         """Whether this log of a check refuses one of its functions for an error of that function's own."""
         statuses = [(name, said) for name, said in STATUS.findall(log) if said.startswith(OWN)]
         errors = [(path, int(line)) for path, line, _ in ERROR.findall(log)]
-        if self.keys() is None:
+        if not self.keys():
             return bool(statuses)
         for function in self.functions:
             now = moved(function, read(f'{folder}/{function.path}'))
@@ -247,24 +247,27 @@ class Room:
 
 def linked(folder, to):
     """Copies what checks kept. What was proved stands in files that a check replaces and never writes into: these get a second name."""
+
+    def copy(one, other):
+        try:
+            (os.link if one.endswith('.oantt') else shutil.copy2)(one, other)
+        except OSError:
+            shutil.copy2(one, other)
+
     if os.path.isdir(folder):
-        shutil.copytree(folder, to, copy_function=lambda one, other: (os.link if one.endswith('.oantt') else shutil.copy2)(one, other))
+        shutil.copytree(folder, to, copy_function=copy)
 
 
 def copies_of(edits):
     """The edits by the copies that they go into, as few as can be: at most one a function in each; and one alone that stands in none."""
-    copies, alone = [], []
-    for edit in edits:
-        keys = edit.keys()
-        if keys is None:
-            alone.append([edit])
-            continue
-        free = [it for it in copies if not any(other.keys() & keys for other in it)]
-        if not free:
-            copies.append(free := [])
-            free = [free]
-        free[0].append(edit)
-    return copies + alone
+    copies = []
+    for edit in sorted(edits, key=lambda it: not it.keys()):
+        fitting = (it for it in copies if edit.keys() and all(other.keys() and not other.keys() & edit.keys() for other in it))
+        copy = next(fitting, None)
+        if copy is None:
+            copies.append(copy := [])
+        copy.append(edit)
+    return copies
 
 
 class Trial:
