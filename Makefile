@@ -5,7 +5,7 @@
 #   make test       the merge gate: make lint, the rows of tests/ and the examples of the docs by a program that isn't proved, every proof
 #                   from nothing, the edits that must be refused, tests, runs, and by the proved program the rows, make faults, growth, the Python
 #                   package, a release, the recipes and the examples of the docs; what needs a program that isn't there is left out, and told
-#   make edits      tries the edits alone, over what rt check has proved
+#   make edits      tries the edits alone, over what rt ci has proved, or proves here
 #   make bench      times and peak memory beside other programs on the same score
 #   make install    the program, its man page, the manual (docs/) and completions, into PREFIX=/usr/local
 #   make dist       a release in dist/: a tarball, a Debian package, a Python wheel and its source, an extension for Visual Studio Code, and checksums

@@ -4,14 +4,16 @@
 An edit is a file `crates/CRATE/edits/NAME.edit`, in the form of the few that stand in must-fail/ and that `rt ci` tries itself: a line
 `file: src/lib.rt`, and pairs of lines `old: TEXT` and `new: TEXT`, where the old text stands once in that file.
 
-The crate as it stands is proved first. Then its edits go into copies of it, at most one a function in each, and each copy is checked once,
-by `rt check`, over what was proved. An edit is refused where the check says of its own function `not proved` or `no proof: expected answers`, for an
+The crates as they stand are proved first, by `rt ci` in a copy of them: what it has kept of them takes seconds. Over the libraries that it built
+a crate's edits are tried in further copies, at most one a function in each, and of a copy only the functions that the edits stand in are checked, and
+what these call. An edit is refused where the check says of its own function `not proved` or `no proof: expected answers`, for an
 error within that function's lines or its proof files. That the function calls another one that isn't proved says nothing of it: it goes
-into the next copy. An edit outside of all functions has a copy of its own, in which any function may be refused.
+into a later copy. An edit outside of all functions has a copy of its own, in which any function may be refused. A crate's first copy is checked
+from nothing, and the later ones begin with what was proved in it.
 
-Crates are proved side by side, on as many lanes as --lanes says, where the memory that each was seen to take (measured.txt) leaves
-room. What passed is kept on this machine by the sum of all that was read, as rt keeps proofs; --anew tries all. Each edit that isn't refused has a
-line that says why; the last line is `edits: N refused, M not`."""
+Copies are checked side by side, on as many lanes as --lanes says, those of the dearest crates first, where the memory that each was seen to take
+(measured.txt) leaves room. What passed is kept on this machine by the sum of all that was read, as rt keeps proofs; --anew tries all. Each edit that
+isn't refused has a line that says why; the last line is `edits: N refused, M not`."""
 import argparse
 import glob
 import hashlib
@@ -25,6 +27,7 @@ import threading
 from concurrent.futures import FIRST_COMPLETED, ThreadPoolExecutor, wait
 
 HERE = os.path.dirname(os.path.abspath(__file__))
+KIT = os.path.dirname(os.path.dirname(os.path.realpath(shutil.which('rt') or sys.exit('edits.py: no rt on the path'))))
 KEPT = os.path.join(os.environ.get('XDG_CACHE_HOME') or os.path.expanduser('~/.cache'), 'humpipe-edits')
 PARTS = ('src', 'specs', 'proofs')
 FUNCTION = re.compile(r'^( *)(?:pub(?:\([\w:]+\))? )?(?:const )?(?:unsafe )?fn (\w+)', re.M)
@@ -38,8 +41,13 @@ OWN = ('not proved', 'no proof: expected answers')
 class Function:
     """A function of a crate: where it stands, and the last words of the name that a check gives it."""
 
-    def __init__(self, path, name, owner, lines):
-        self.path, self.name, self.owner, self.lines = path, name, owner, lines
+    def __init__(self, path, name, head, lines):
+        self.path, self.name, self.lines = path, name, lines
+        self.owner, self.type = (type_of(head), type_told(head)) if head else ('', '')
+
+    def told(self):
+        """Its name as a check tells it, below the crate; of a method, which stands in its type's module, the end of that name."""
+        return '::'.join([*([self.type] if self.type else module_of(self.path)), self.name])
 
     def key(self):
         return self.path, self.owner, self.name, self.lines[0]
@@ -52,14 +60,17 @@ class Function:
             return False
         if self.owner:
             return len(modules) > 1 and modules[-2].startswith(self.owner)
-        module = re.sub(r'^src/|\.rt$', '', self.path).split('/')
-        module = [it for it in module if it not in ('lib', 'main', 'mod')]
+        module = module_of(self.path)
         return modules[: len(module)] == module
 
     def holds(self, told, path, line):
         """Whether an error at this place is one of this function, whose name in the check is `told`."""
         proofs = 'proofs/' + '/'.join(told.split('::')[1:]) + '/'
         return path.replace('/+', '/').startswith(proofs) or path == self.path and self.lines[0] <= line <= self.lines[1]
+
+
+def module_of(path):
+    return [it for it in re.sub(r'^src/|\.rt$', '', path).split('/') if it not in ('lib', 'main', 'mod')]
 
 
 def function_at(path, text, at):
@@ -77,7 +88,7 @@ def function_at(path, text, at):
     # (an error may be told at the attributes above it)
     while above and above[-1].lstrip().startswith(('#[', '//')):
         above.pop()
-    return Function(path, head[2], owner and type_of(owner[-1][0]) or '', (len(above) + 1, text.count('\n', 0, end.end()) + 1))
+    return Function(path, head[2], owner and owner[-1][0], (len(above) + 1, text.count('\n', 0, end.end()) + 1))
 
 
 def type_of(head):
@@ -85,6 +96,16 @@ def type_of(head):
     head = re.sub(r'\bwhere\b.*|\{.*', '', head)
     head = head.split(' for ')[-1] if ' for ' in head else re.sub(r'.*?\b(?:impl|trait)\b(?:<[^>]*>)?', '', head, count=1)
     return re.split(r'[<:\s]', head.strip().lstrip('&').strip())[0].split('::')[-1]
+
+
+def type_told(head):
+    """`VecFromText` of `impl<T> From<Text> for Vec<T> {`: the type and the trait, without the parameters of the impl, as a check tells them."""
+    parameters = re.search(r'\bimpl<([^>]*)>', head)
+    own = re.findall(r'(?:^|,)\s*(?:const )?(\w+)', parameters[1]) if parameters else []
+    head = re.sub(r'\bwhere\b.*|\{.*|:\s.*', '', re.sub(r'.*?\b(?:impl|trait)\b(?:<[^>]*>)?', '', head, count=1))
+    trait, _, type = head.rpartition(' for ')
+    words = [it for it in re.findall(r"(?<!['\w])\w+\b(?!::)", f'{type} {trait}') if it not in own]
+    return ''.join(words[:-1] if trait.strip() in ('Drop', 'Copy') else words)
 
 
 class Edit:
@@ -106,8 +127,13 @@ class Edit:
             self.why = 'BAD EDIT: it changes nothing'
 
     def keys(self):
-        """The functions by which it takes its place in a copy; none, where it stands in no function and wants a copy of its own."""
-        return None if None in self.functions else {it.key() for it in self.functions}
+        """The functions by which it takes its place in a copy; none, where it stands outside of all and wants a copy of its own."""
+        return set() if None in self.functions else {it.key() for it in self.functions}
+
+    def only(self):
+        """What is checked of a copy with it: the functions that it stands in, or else the modules; the whole crate, if that is none."""
+        modules = {'::'.join(module_of(path)) for path, _, _ in self.pairs if path.startswith('src/')}
+        return [it.told() for it in self.functions if it] or sorted(modules - {''})
 
     def apply(self, folder):
         for path, old, new in self.pairs:
@@ -121,7 +147,7 @@ class Edit:
         """Whether this log of a check refuses one of its functions for an error of that function's own."""
         statuses = [(name, said) for name, said in STATUS.findall(log) if said.startswith(OWN)]
         errors = [(path, int(line)) for path, line, _ in ERROR.findall(log)]
-        if self.keys() is None:
+        if not self.keys():
             return bool(statuses)
         for function in self.functions:
             now = moved(function, read(f'{folder}/{function.path}'))
@@ -151,11 +177,11 @@ def pairs_of(file):
 
 
 class Crate:
-    """A crate of the repository, and those below it, lowest first."""
+    """A crate of the repository: the libraries that it uses, and the crates below it, lowest first."""
 
-    def __init__(self, root, name, below):
-        self.root, self.name, self.below, self.folder = root, name, below, f'{root}/crates/{name}'
-        self.is_program = os.path.exists(f'{self.folder}/src/main.rt')
+    def __init__(self, root, name, uses, below):
+        self.root, self.name, self.uses, self.below, self.folder = root, name, {'std', *uses}, below, f'{root}/crates/{name}'
+        self.top = 'src/main.rt' if os.path.exists(f'{self.folder}/src/main.rt') else 'src/lib.rt'
 
     def edits(self):
         return [Edit(self, it) for it in sorted(glob.glob(f'{self.folder}/edits/*.edit'))]
@@ -176,25 +202,39 @@ class Crate:
 
 
 class Room:
-    """A copy of a crate and those below it, in which `rt` takes over what it proved of them in other rooms of this machine."""
+    """A copy of crates and those below them, in which `rt ci` builds their libraries, or takes what it kept of them on this machine."""
 
-    def __init__(self, crate):
-        self.top = tempfile.mkdtemp(prefix=f'humpipe-edits-{crate.name}-')
-        self.folder = f'{self.top}/crates/{crate.name}'
-        os.mkdir(f'{self.top}/.git')
-        shutil.copyfile(f'{crate.root}/HANDLES', f'{self.top}/HANDLES')
-        names = {it.name for it in [*crate.below, crate]}
-        lines = [it for it in read(f'{crate.root}/crates.txt').splitlines(True) if it.split(':')[0].strip() in names]
-        write(f'{self.top}/crates.txt', ''.join(lines))
-        for it in [*crate.below, crate]:
-            for part in PARTS:
-                if os.path.isdir(f'{it.folder}/{part}'):
-                    shutil.copytree(f'{it.folder}/{part}', f'{self.top}/crates/{it.name}/{part}')
+    def __init__(self, root, crates):
+        self.folder = tempfile.mkdtemp(prefix='humpipe-edits-room-')
+        os.mkdir(f'{self.folder}/.git')
+        shutil.copyfile(f'{root}/HANDLES', f'{self.folder}/HANDLES')
+        names = {it.name for crate in crates for it in [*crate.below, crate]}
+        lines = [it for it in read(f'{root}/crates.txt').splitlines(True) if it.split(':')[0].split()[:1] in [[name] for name in names]]
+        write(f'{self.folder}/crates.txt', ''.join(lines))
+        for name in names:
+            shutil.copytree(f'{root}/crates/{name}', f'{self.folder}/crates/{name}', ignore=shutil.ignore_patterns('out', 'must-fail', 'edits'))
 
-    def run(self, *words):
-        """The status of an rt command in the crate's folder, what it said, the most memory that a process of it took, in MB, and its processor seconds."""
+    def prove(self, lanes):
+        """The names of the crates that are proved as they stand, and what rt said."""
+        how = {'cwd': self.folder, 'env': {**os.environ, 'RT_JOBS': str(lanes)}, 'stdin': subprocess.DEVNULL, 'stdout': subprocess.PIPE}
+        said = subprocess.run(['rt', 'ci'], stderr=subprocess.STDOUT, text=True, errors='replace', check=False, **how).stdout
+        return set(re.findall(r'^rt: (\w+) (?:proved$|is kept: )', said, re.M)), said
+
+    def check(self, crate, folder, begun, only=()):
+        """The status of a check of the crate in this folder over these libraries, what it said, the most memory that it took, in MB, and its processor
+        seconds. What is proved is kept in the folder `begun`."""
+        words = ['--crate-name', crate.name, crate.top, '-L', f'dependency={KIT}/rlibs', '--incremental', begun, '--jobs', '1', '--links', f'{crate.name}=']
+        words += ['--antt-project', f'{KIT}/rattle/logic/antt-project.json', '--logic-built', f'{KIT}/logic_built']
+        below = {it.name: f'{self.folder}/crates/{it.name}/out/rlib' for it in crate.below}
+        for it in sorted(crate.uses):
+            words += ['--extern', f'{it}={below.get(it, KIT + "/rlibs")}/{it}.rlib']
+        for it in below.values():
+            words += ['-L', f'dependency={it}']
+        for it in only:
+            words += ['--only', it]
         with tempfile.TemporaryFile('w+', errors='replace') as said:
-            ran = subprocess.Popen(['rt', *words, '--jobs', '1'], cwd=self.folder, stdin=subprocess.DEVNULL, stdout=said, stderr=subprocess.STDOUT)
+            how = {'cwd': folder, 'stdin': subprocess.DEVNULL, 'stdout': said, 'stderr': subprocess.STDOUT}
+            ran = subprocess.Popen([f'{KIT}/bin/rattle', 'check', *words], **how)
             _, status, usage = os.wait4(ran.pid, 0)
             ran.returncode = os.waitstatus_to_exitcode(status) if hasattr(os, 'waitstatus_to_exitcode') else status >> 8
             said.seek(0)
@@ -202,37 +242,86 @@ class Room:
         return ran.returncode, log, (usage.ru_maxrss // 1024, round(usage.ru_utime + usage.ru_stime))
 
     def clear(self):
-        shutil.rmtree(self.top, ignore_errors=True)
+        shutil.rmtree(self.folder, ignore_errors=True)
 
 
-def rounds_of(edits):
-    """The edits that go into one copy: at most one a function; or one alone that stands in none."""
-    taken, chosen = set(), []
-    for edit in edits:
-        keys = edit.keys()
-        if keys is None:
-            if not chosen:
-                return [edit]
-        elif not keys & taken:
-            taken |= keys
-            chosen.append(edit)
-    return chosen
+def linked(folder, to):
+    """Copies what checks kept. What was proved stands in files that a check replaces and never writes into: these get a second name."""
+
+    def copy(one, other):
+        try:
+            (os.link if one.endswith('.oantt') else shutil.copy2)(one, other)
+        except OSError:
+            shutil.copy2(one, other)
+
+    if os.path.isdir(folder):
+        shutil.copytree(folder, to, copy_function=copy)
 
 
-def try_copy(crate, edits, keep):
-    """Checks one copy with these edits. Gives those that are refused and, for those that aren't, what is told of them where they stand alone."""
-    room = Room(crate)
-    try:
-        applied = [it for it in edits if it.apply(room.folder)]
-        status, log, _ = room.run('check')
-        if keep:
-            write(f'{keep}/{crate.name}-{applied[0].name}.log', log)
-        refused = [it for it in applied if status == 1 and it.is_refused(log, room.folder)]
-    finally:
-        room.clear()
-    if len(applied) == 1 and not refused:
-        applied[0].why = told_of(status, log)
-    return refused
+def copies_of(edits):
+    """The edits by the copies that they go into, as few as can be: at most one a function in each; and one alone that stands in none."""
+    copies = []
+    for edit in sorted(edits, key=lambda it: not it.keys()):
+        fitting = (it for it in copies if edit.keys() and all(other.keys() and not other.keys() & edit.keys() for other in it))
+        copy = next(fitting, None)
+        if copy is None:
+            copies.append(copy := [])
+        copy.append(edit)
+    return copies
+
+
+class Trial:
+    """The trial of a crate's edits: what is to be tried, and the folder of what its first copy proved."""
+
+    def __init__(self, crate, edits, room, options):
+        self.crate, self.edits, self.room, self.options = crate, edits, room, options
+        self.begun, self.lock, self.copies, self.seconds = tempfile.mkdtemp(prefix=f'humpipe-edits-{crate.name}-'), threading.Lock(), 0, 0
+        self.under_way = 0
+
+    def first(self):
+        """The copies that come behind the first."""
+        copies = copies_of([it for it in self.edits if not it.why])
+        if not copies:
+            return []
+        again = self.tried(copies[0], f'{self.begun}/kept')
+        if len(again) != 1:
+            return again + copies[1:]
+        return copies_of([it for copy in again + copies[1:] for it in copy])
+
+    def later(self, edits):
+        with tempfile.TemporaryDirectory(prefix=f'humpipe-edits-{self.crate.name}-') as over:
+            linked(f'{self.begun}/kept', f'{over}/kept')
+            return self.tried(edits, f'{over}/kept')
+
+    def tried(self, edits, kept):
+        """Checks one copy with these edits, and gives the copies that those want which it doesn't refuse. Where one alone isn't, says why."""
+        with tempfile.TemporaryDirectory(prefix=f'humpipe-edits-{self.crate.name}-') as folder:
+            for part in (it for it in PARTS if os.path.isdir(f'{self.crate.folder}/{it}')):
+                shutil.copytree(f'{self.crate.folder}/{part}', f'{folder}/{part}')
+            for it in edits:
+                it.apply(folder)
+            only = sorted({name for it in edits for name in it.only()})
+            refused, status, log = self.check(edits, folder, kept, only)
+            if len(edits) == 1 and not refused and only:
+                # (what it does beyond its own function, or where a name fits none)
+                refused, status, log = self.check(edits, folder, kept, ())
+        left = [it for it in edits if it not in refused]
+        if len(edits) == 1:
+            edits[0].why = None if refused else told_of(status, log)
+            return []
+        # (where none is refused, one of them may not compile, and hides the others)
+        return [left] if refused and left else [[it] for it in left]
+
+    def check(self, edits, folder, kept, only):
+        status, log, (_, seconds) = self.room.check(self.crate, folder, kept, only)
+        with self.lock:
+            self.copies, self.seconds = self.copies + 1, self.seconds + seconds
+        if self.options.keep_logs:
+            write(f'{self.options.keep_logs}/{self.crate.name}-{edits[0].name}.log', log)
+        return [it for it in edits if status == 1 and it.is_refused(log, folder)], status, log
+
+    def clear(self):
+        shutil.rmtree(self.begun, ignore_errors=True)
 
 
 def told_of(status, log):
@@ -245,45 +334,29 @@ def told_of(status, log):
     return f'BAD EDIT: it does not compile, or its check ended with status {status}: {last[0][:200] if last else ""}'
 
 
-def try_edits(crate, edits, keep):
-    """Tries a crate's edits, in as few copies as it takes."""
-    left = [it for it in edits if not it.why]
-    while left:
-        copy = rounds_of(left)
-        refused = try_copy(crate, copy, keep)
-        if not refused and len(copy) > 1:
-            # (one of them may not compile, and hides the others)
-            for it in copy:
-                try_copy(crate, [it], keep)
-            refused = copy
-        elif not refused:
-            refused = copy
-        left = [it for it in left if it not in refused]
-    return edits
-
-
 class Lanes:
-    """Runs tasks side by side: each once those that it waits for have ended, on so many lanes, and as memory allows."""
+    """Runs tasks side by side, as many as there are lanes and as memory allows, those of the most seconds first. A task is the name of a crate, and a call
+    that gives further tasks, which come before others."""
 
-    def __init__(self, lanes, peaks):
-        self.lanes, self.peaks, self.memory = lanes, peaks, 0.9 * available()
+    def __init__(self, lanes, measured):
+        self.lanes, self.measured, self.memory = lanes, measured, 0.9 * available()
 
     def run(self, tasks):
-        """tasks: by their keys what they wait for, the crate whose peak they take, and a call. Gives what each call gave."""
-        left, running, given = list(tasks), {}, {}
+        left, running = sorted(tasks, key=lambda it: -self.takes(it)[1]), {}
         with ThreadPoolExecutor(self.lanes) as pool:
             while left or running:
-                for key in [it for it in left if all(other in given for other in tasks[it][0])]:
-                    used = sum(self.peak(it) for it in running.values())
-                    if len(running) < self.lanes and (not running or used + self.peak(key) <= self.memory):
-                        left.remove(key)
-                        running[pool.submit(tasks[key][2])] = key
+                for task in [*left]:
+                    used = sum(self.takes(it)[0] for it in running.values())
+                    if len(running) < self.lanes and (not running or used + self.takes(task)[0] <= self.memory):
+                        left.remove(task)
+                        running[pool.submit(task[1])] = task
                 for it in wait(running, return_when=FIRST_COMPLETED).done:
-                    given[running.pop(it)] = it.result()
-        return given
+                    running.pop(it)
+                    left[:0] = it.result()
 
-    def peak(self, key):
-        return self.peaks.get(key[1], max(self.peaks.values(), default=3_000))
+    def takes(self, task):
+        """The memory and the seconds of a check of the task's crate from nothing."""
+        return self.measured.get(task[0], max(self.measured.values(), default=(3_000, 300)))
 
 
 def available():
@@ -314,7 +387,7 @@ def crates_of(root):
             below = []
             for it in (it for it in uses[name] if it in uses):
                 below += [other for other in [*add(it).below, crates[it]] if other not in below]
-            crates[name] = Crate(root, name, below)
+            crates[name] = Crate(root, name, uses[name], below)
         return crates[name]
 
     for name in uses:
@@ -326,12 +399,12 @@ class Run:
     """A run over crates: what is told of each edit."""
 
     def __init__(self, root, names, options):
-        self.crates, self.options, self.printing = crates_of(root), options, threading.Lock()
+        self.root, self.crates, self.options, self.printing = root, crates_of(root), options, threading.Lock()
         self.kit = subprocess.run(['rt', 'version'], capture_output=True, text=True, check=True).stdout
         wanted = [self.crates[it] for it in names or self.crates]
         self.edits = {it.name: it.edits() for it in wanted}
         self.sums = {name: self.crates[name].sum(self.kit) for name, edits in self.edits.items() if edits}
-        self.rooms, self.measured = {}, {}
+        self.measured = {}
 
     def is_kept(self, name):
         return not self.options.anew and os.path.exists(f'{KEPT}/{self.sums[name]}')
@@ -340,49 +413,61 @@ class Run:
         with self.printing:
             print(text, flush=True)
 
-    def seed(self, crate):
-        """Proves a crate as it stands, for its edits and for the crates above."""
-        room = self.rooms[crate.name] = Room(crate)
-        status, log, much = room.run('check' if crate.is_program else 'lib')
-        self.measured[crate.name] = much
-        if status:
-            self.say(f'{crate.name} is not proved as it stands, so its edits were not tried:\n' + '\n'.join(log.strip().split('\n')[-12:]))
-            for it in self.edits.get(crate.name, []):
+    def proved(self, room, names):
+        """Those of these crates that are proved as they stand."""
+        proved, said = room.prove(self.options.lanes)
+        for name in (it for it in names if it not in proved):
+            self.say(f'{name} is not proved as it stands, so its edits were not tried:\n' + '\n'.join(said.strip().split('\n')[-12:]))
+            for it in self.edits[name]:
                 it.why = it.why or 'NOT TRIED: its crate is not proved'
-        else:
-            self.say(f'{crate.name}: proved in {much[1]} s of a processor, by at most {much[0]} MB')
-        return status == 0
+        return [it for it in names if it in proved]
 
-    def crate(self, crate):
-        edits = self.edits[crate.name]
-        try_edits(crate, edits, self.options.keep_logs)
-        lost = [it for it in edits if it.why]
-        self.say(f'{crate.name}: {len(edits) - len(lost)} of {len(edits)} edits refused')
+    def task(self, trial, call):
+        """A task for a copy, behind which come those that it gives, and behind the last of a crate what is told of it."""
+        def run():
+            copies = call()
+            with trial.lock:
+                trial.under_way += len(copies) - 1
+                is_last = not trial.under_way
+            if is_last:
+                self.tell(trial)
+            return [self.task(trial, lambda it=it: trial.later(it)) for it in copies]
+
+        return trial.crate.name, run
+
+    def tell(self, trial):
+        trial.clear()
+        name, lost = trial.crate.name, [it for it in trial.edits if it.why]
+        number = len(trial.edits)
+        self.say(f'{name}: {number - len(lost)} of {number} edits refused, in {trial.copies} checks, {trial.seconds} s of a processor')
         for it in lost:
-            self.say(f'{crate.name}/{it.name}: {it.why}')
+            self.say(f'{name}/{it.name}: {it.why}')
         if not lost:
             os.makedirs(KEPT, exist_ok=True)
-            write(f'{KEPT}/{self.sums[crate.name]}', ' '.join(it.name for it in edits) + '\n')
+            write(f'{KEPT}/{self.sums[name]}', ' '.join(it.name for it in trial.edits) + '\n')
 
-    def tasks(self):
-        """What there is to do: crates with edits that weren't kept, and a proof of each crate below them."""
-        asked = [self.crates[name] for name in self.sums if not self.is_kept(name)]
-        seeds = {it.name: it for crate in asked for it in [*crate.below, crate]}
-        found = {}
-        for it in seeds.values():
-            found['seed', it.name] = [('seed', other.name) for other in it.below], it, lambda it=it: self.seed(it)
-        for it in asked:
-            found['edits', it.name] = [('seed', it.name)], it, lambda it=it: self.crate(it)
-        return found
+    def measure(self, room, crate):
+        """Sees what a check of the crate from nothing takes."""
+        with tempfile.TemporaryDirectory(prefix='humpipe-edits-') as kept:
+            _, _, self.measured[crate.name] = room.check(crate, f'{room.folder}/crates/{crate.name}', f'{kept}/kept')
+        return []
 
-    def run(self, peaks):
-        for name in (it for it in self.sums if self.is_kept(it)):
+    def run(self, measured):
+        names = [it for it in self.sums if not self.is_kept(it)]
+        for name in (it for it in self.sums if it not in names):
             self.say(f'{name}: {len(self.edits[name])} edits were refused by an earlier run on this machine, over the same files')
-        tasks = self.tasks()
+        room, trials = Room(self.root, [self.crates[it] for it in names]), []
         try:
-            Lanes(self.options.lanes, peaks).run(tasks)
+            tasks = []
+            for crate in (self.crates[it] for it in (self.proved(room, names) if names else [])):
+                trials.append(Trial(crate, self.edits[crate.name], room, self.options))
+                trials[-1].under_way = 1
+                tasks.append(self.task(trials[-1], trials[-1].first))
+                if self.options.measure:
+                    tasks.append((crate.name, lambda it=crate: self.measure(room, it)))
+            Lanes(self.options.lanes, measured).run(tasks)
         finally:
-            for it in self.rooms.values():
+            for it in [room, *trials]:
                 it.clear()
         lost = sum(1 for edits in self.edits.values() for it in edits if it.why)
         number = sum(len(it) for it in self.edits.values())
@@ -406,11 +491,11 @@ def main():
     parser.add_argument('--lanes', type=int, default=len(os.sched_getaffinity(0)))
     parser.add_argument('--anew', action='store_true')
     parser.add_argument('--keep-logs', metavar='FOLDER')
-    parser.add_argument('--measure', action='store_true', help='writes what each crate took into measured.txt; what rt has kept of a crate takes nothing')
+    parser.add_argument('--measure', action='store_true', help='checks each crate as it stands too, and writes what that took into measured.txt')
     options = parser.parse_args()
     run = Run(options.root, options.crates, options)
     known = measured()
-    lost = run.run({name: memory for name, (memory, _) in known.items()})
+    lost = run.run(known)
     if options.measure:
         lines = [f'{name} {memory} {seconds}' for name, (memory, seconds) in sorted({**known, **run.measured}.items())]
         write(MEASURED, '\n'.join(['# a crate, the MB that a check of it from nothing takes, and the seconds of one processor', *lines, '']))
