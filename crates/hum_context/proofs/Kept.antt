@@ -222,6 +222,7 @@ pub record SameWalk (walk new : Walk) : Type 0 where
   pub at : new.at ≡ walk.at
   pub column : new.column ≡ walk.column
   pub count : new.count ≡ walk.count
+  pub text : new.text ≡ walk.text
   pub enough : new.enough ≡ walk.enough
   pub ended : new.ended ≡ walk.ended
 
@@ -236,6 +237,7 @@ same_stands o path first rows j walk new e s = record {
     column = e.column ∙ s.has.column;
     ended = e.ended ∙ s.has.ended;
     count = λ n first. e.count ∙ s.has.count n first;
+    text = λ n first. rw e.text (s.has.text n first);
     enough = rw e.enough s.has.enough;
   };
 }
