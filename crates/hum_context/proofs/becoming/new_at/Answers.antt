@@ -1,4 +1,4 @@
-use Rattle.std.proofs.Common.{◌∙◌, sym, ◌∷◌, arith}
+use Rattle.std.proofs.Common.{◌∙◌, sym, ◌∷◌}
 use Rattle.hum_score.specs.declared.records.SpinedKind.TheVariants.{Values}
 use Rattle.hum_score.specs.Row.{Spined, token_at}
 use Rattle.hum_context.proofs.Weighing.{kept_at, open_is, passed_stays, shut_is}

@@ -1,10 +1,10 @@
 use lib.Chars.{codes}
-use Rattle.std.proofs.Common.{◌∷◌, arith, refl}
+use Rattle.std.proofs.Common.{◌∷◌, refl}
 use Rattle.std.specs.List.{join_with_byte}
 use Rattle.hum_score.specs.declared.records.SpinedKind.TheVariants.{Values}
 use Rattle.hum_score.specs.Row.{Spined}
 use Rattle.hum_path.proofs.Carry.{on_ok}
-use Rattle.hum_context.proofs.Written.{joined_added, some_held, held_width, held_token, stays_written}
+use Rattle.hum_context.proofs.Written.{joined_added, held_width, held_token, stays_written}
 use Rattle.hum_context.proofs.becoming.write_token.Goals as goal
 
 pub token-requires : goal.token-requires

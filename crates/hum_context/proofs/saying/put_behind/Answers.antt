@@ -1,4 +1,4 @@
-use Rattle.std.proofs.Common.{◌≡◌, ◌∙◌, ◌+◌, ◌∷◌, ◌++◌, ap, arith, refl, length, set, take}
+use Rattle.std.proofs.Common.{◌∙◌, ◌+◌, ap, arith, refl, length, set, take}
 use Rattle.std.proofs.lemmas.Slice.{put_mid-paste}
 use Rattle.hum_context.proofs.Told.{behind_front, pasted}
 use Rattle.hum_context.proofs.saying.put_behind.Goals as goal
