@@ -36,15 +36,6 @@ says_more missing old new t ts h e =
           ∙ ap spaced (sym (drop-append-le missing ts (t ∷ []) most)))),
     )
 
--- none is kept
-pub says_none : (missing : ℕ) (text t : List ℕ) (ts : List (List ℕ)) → missing ≡ length ts + 1
-    → text ≡ [] → (missing ≤ length (ts ++ t ∷ [])) × (text ≡ spaced (drop missing (ts ++ t ∷ [])))
-says_none missing text t ts count none =
-    let sum = length-append ts (t ∷ []) in (
-      omega (arith, count, sum),
-      none ∙ ap spaced (sym (drop_all missing (ts ++ t ∷ []) (omega (arith, count, sum)))),
-    )
-
 -- the first of those that are kept is taken away
 pub says_less : (missing new old first : ℕ) (text t : List ℕ) (ts : List (List ℕ)) → missing ≤ 0
     → first ≡ length t → drop new text ≡ drop (first + 1) (drop old text)
