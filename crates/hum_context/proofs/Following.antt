@@ -154,22 +154,6 @@ follows_linked o path gone walks walks' held held' look past rows h knows stand 
   few = h.few;
 }
 
--- other walks from the first stand
-pub follows_walks : (o : Choice) (path : Path) (gone : ℕ) (walks walks' : List Walk)
-    (held : List Queued) (look : Look) (past rows : List Row)
-    → Follows o path gone walks held look past rows
-    → AllStand o (path_after past) gone rows walks'
-    → Follows o path gone walks' held look past rows
-follows_walks o path gone walks walks' held look past rows h stand = record {
-  command = h.command;
-  some_wanted = h.some_wanted;
-  spines = h.spines;
-  waits = h.waits;
-  stand = stand;
-  counted = h.counted;
-  few = h.few;
-}
-
 pub get_first : {X : Type 0} (xs : List X) (x : X) → x ≡ get_or xs 0 x → 0 < length xs
     → slice_get xs 0 ≡ Some x
 get_first [] x e h = absurd (omega (arith, h))

@@ -67,32 +67,6 @@ longer : (rows front rest behind : List Row) (row : Row) → rows ≡ front ++ r
 longer rows front rest behind row split next =
     split ∙ (ap (λ (xs : List Row). front ++ xs) next ∙ sym (append_assoc front (row ∷ []) behind))
 
--- where its token isn't collected
-pub gathers_pass : (o : Choice) (path : Path) (rows : List Row) (j n c d count : ℕ)
-    (made : List (List ℕ) → Type 0) (held : List Queued) (kept : Queued) → Knows o path held rows
-    → Gathers o path rows j n c count made false → n < length held → kept ≡ get_or held n kept
-    → get_or kept.heard.items c Passed ≡ Passed → column_in kept.row kept.below c ≡ Some d
-    → Gathers o path rows j (n + 1) d count made false
-gathers_pass o path rows j n c d count made held kept knows h below is heard goes =
-    let here = next_at o path rows j n c count made held kept knows h below is in
-    let none : heard_under o here.row c ≡ Passed = sym (here.known.heard c) ∙ heard in
-    let g = grown o path h.front here.row j c (heard_under o here.row c) h.column (here.known.collected c) in
-    let got = collected o path h.front j in
-    let same : collected o path (h.front ++ here.row ∷ []) j ≡ got = g.collected
-    ∙ (ap (λ (x : Heard). got ++ heard_token x (token_at here.row c)) none ∙ append-nil got) in
-    let long = h.long in
-    let sum = length-append h.front (here.row ∷ []) in
-    record {
-      front = h.front ++ here.row ∷ [];
-      rest = here.behind;
-      split = longer rows h.front h.rest here.behind here.row h.split here.split;
-      long = omega (arith, long, sum);
-      column = g.column ∙ (sym (here.known.below c) ∙ goes);
-      count_is = h.count_is ∙ ap length (sym same);
-      enough_are = rw same h.enough_are;
-      made_is = subst made (sym same) h.made_is;
-    }
-
 -- where it is
 pub gathers_take : (o : Choice) (path : Path) (rows : List Row) (j n c count : ℕ)
     (made made' : List (List ℕ) → Type 0) (held : List Queued) (kept : Queued) (wanted : Option ℕ)

@@ -103,8 +103,8 @@ pub has_past : (o : Choice) (path : Path) (front mid : List Row) (j c to : ℕ) 
     → column_after (path_through path front) mid c ≡ Some to
     → filter (is_sought o sought) (chain (path_through path front) mid c) ≡ []
     → new.column ≡ Some to → new.ended ≡ walk.ended → new.count ≡ walk.count
-    → new.enough ≡ false → Has o path (front ++ mid) j new
-has_past o path front mid j c to sought walk new want h at short goes none column ended count enough =
+    → new.text ≡ walk.text → new.enough ≡ false → Has o path (front ++ mid) j new
+has_past o path front mid j c to sought walk new want h at short goes none column ended count text enough =
     let here : column_after path front j ≡ Some c = sym h.column ∙ at in
     let there : column_after path (front ++ mid) j ≡ Some to = column_more path front mid j
     ∙ (ap (option_and_then (column_after (path_through path front) mid)) here ∙ goes) in
@@ -117,6 +117,8 @@ has_past o path front mid j c to sought walk new want h at short goes none colum
       ended = ended ∙ (h.ended ∙ (open_end path front j c here ∙ sym (open_end path (front ++ mid) j to there)));
       count = λ n is. count ∙ (h.count n is ∙ ap length (sym (all
           ∙ (ap (λ (xs : List (List ℕ)). got ++ xs) (p.same n is) ∙ append-nil got))));
+      text = λ n is. rw (text, all ∙ (ap (λ (xs : List (List ℕ)). got ++ xs) (p.same n is) ∙ append-nil got))
+          (h.text n is);
       enough = rw (all, enough) p.few;
     }
 
@@ -127,9 +129,9 @@ pub stands_past : (o : Choice) (path : Path) (gone k : ℕ) (rows : List Row) (j
     → walk.column ≡ Some c → walk.enough ≡ false
     → ((q : Path) (rest : List Row) → Knows o q (drop n held) rest → Leads o sought q rest c (m - n) to)
     → new.column ≡ Some to → new.ended ≡ walk.ended → new.count ≡ walk.count
-    → new.enough ≡ false → Stands o path (gone + k) rows j new
+    → new.text ≡ walk.text → new.enough ≡ false → Stands o path (gone + k) rows j new
 stands_past o path gone k rows j n c m to held sought walk new want knows h at next more col short leads
-    column ended count enough =
+    column ended count text enough =
     let there = h.at in
     let long : k + length h.front ≡ n = omega (arith, there, at) in
     let behind : Knows o (path_through path h.front) (drop n held) h.rest =
@@ -146,7 +148,7 @@ stands_past o path gone k rows j n c m to held sought walk new want knows h at n
           ∙ sym (append_assoc h.front l.front l.rest));
       at = omega (arith, next, there, at, far, sum, more);
       has = has_past o path h.front l.front j c to sought walk new want h.has col short l.column l.none
-          column ended count enough;
+          column ended count text enough;
     }
 
 -- Tokens that are gathered go on past them,

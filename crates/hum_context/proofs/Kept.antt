@@ -184,12 +184,6 @@ knows_set o path (q ∷ qs) (row ∷ rows) (suc n) kept new h within is e put = 
   h.2,
 )
 
-pub data_set : (held : List Queued) (n : ℕ) (kept new : Queued) → kept ≡ get_or held n kept
-    → new ≡ record kept { links = new.links } → FirstIsData held → FirstIsData (set held n new)
-data_set [] n kept new is e h = h
-data_set (q ∷ qs) zero kept new is e h = let row = ap (λ (x : Queued). x.row) e in rw (row, is) h
-data_set (q ∷ qs) (suc n) kept new is e h = h
-
 -- a way that is kept, from one of those that wait
 pub knows_put : (o : Choice) (sought : Sought) (path : Path) (held : List Queued) (rows : List Row)
     (n c m to : ℕ) (kept new : Queued) (link : Link) → LeadsFrom o sought path rows n c m to
@@ -222,6 +216,7 @@ pub record SameWalk (walk new : Walk) : Type 0 where
   pub at : new.at ≡ walk.at
   pub column : new.column ≡ walk.column
   pub count : new.count ≡ walk.count
+  pub text : new.text ≡ walk.text
   pub enough : new.enough ≡ walk.enough
   pub ended : new.ended ≡ walk.ended
 
@@ -236,23 +231,10 @@ same_stands o path first rows j walk new e s = record {
     column = e.column ∙ s.has.column;
     ended = e.ended ∙ s.has.ended;
     count = λ n first. e.count ∙ s.has.count n first;
+    text = λ n first. rw e.text (s.has.text n first);
     enough = rw e.enough s.has.enough;
   };
 }
-
-pub same_halts : (o : Choice) (path : Path) (first : ℕ) (rows : List Row) (j : ℕ) (walk new : Walk)
-    → SameWalk walk new → Halts o path first rows j walk → Halts o path first rows j new
-unfolding same_stands
-same_halts o path first rows j walk new e h = record {
-  stands = same_stands o path first rows j walk new e h.stands;
-  halts = by h.halts;
-}
-  where
-    by : (walk.enough ≡ true) ⊎ ((walk.column ≡ None) ⊎ (h.stands.rest ≡ []))
-        → (new.enough ≡ true) ⊎ ((new.column ≡ None) ⊎ (h.stands.rest ≡ []))
-    by (inl a) = inl (e.enough ∙ a)
-    by (inr (inl a)) = inr (inl (e.column ∙ a))
-    by (inr (inr a)) = inr (inr a)
 
 pub same_stand : (o : Choice) (path : Path) (first : ℕ) (rows : List Row) (walks : List Walk) (j : ℕ)
     (walk new : Walk) → AllStand o path first rows walks → slice_get walks j ≡ Some walk

@@ -17,5 +17,6 @@ pub mod Gathering
 pub mod Standing
 pub mod Lasts
 pub mod Shorter
+pub mod Told
 pub mod Ways
 pub mod Written

@@ -22,7 +22,7 @@ use Rattle.hum_context.specs.Columns.{place_after, column_below, column_after, u
 use Rattle.hum_score.specs.InOrder.{through}
 use Rattle.hum_context.specs.Heard.{heard_of, heard_under, ends, enough_by, wanted_of}
 use Rattle.hum_context.specs.Queue.{Known, column_in, is_last_in, heard_token}
-use Rattle.hum_context.specs.Walking.{Becomes, Has, Halts, Stands, collected, bytes_of}
+use Rattle.hum_context.specs.Walking.{Becomes, Has, Halts, Says, Stands, collected, bytes_of}
 use Rattle.hum_context.specs.declared.becoming.Becoming.{Becoming}
 use Rattle.hum_context.specs.declared.becoming.Becoming.TheVariants.{Collects}
 use Rattle.hum_context.proofs.Growth.{chain_step, chain_push, column_push, ended_none, taken_next}
@@ -111,9 +111,9 @@ pub pass_none : (o : Choice) (path : Path) (rows : List Row) (row : Row) (j c : 
     (walk new : Walk) → Known o (through path rows) row kept → walk.column ≡ Some c
     → walk.enough ≡ false → Has o path rows j walk
     → get_or kept.heard.items c Passed ≡ Passed → new.column ≡ column_in kept.row kept.below c
-    → new.ended ≡ is_last_in kept.row c → new.count ≡ walk.count
+    → new.ended ≡ is_last_in kept.row c → new.count ≡ walk.count → new.text ≡ walk.text
     → new.enough ≡ false → Has o path (rows ++ row ∷ []) j new
-pass_none o path rows row j c kept walk new known at short h heard column ended count enough =
+pass_none o path rows row j c kept walk new known at short h heard column ended count text enough =
     let none : heard_under o row c ≡ Passed = sym (known.heard c) ∙ heard in
     let g = grown_by o path rows row j c kept walk known at h in
     let same : collected o path (rows ++ row ∷ []) j ≡ collected o path rows j = g.collected
@@ -123,6 +123,7 @@ pass_none o path rows row j c kept walk new known at short h heard column ended 
       column = column ∙ (known.below c ∙ sym g.column);
       ended = ended ∙ (known.last c ∙ sym g.ended);
       count = λ n is. count ∙ (h.count n is ∙ ap length (sym same));
+      text = λ n is. rw (text, same) (h.text n is);
       enough = rw (same, enough) (rw short at h.enough);
     }
 
@@ -151,9 +152,12 @@ pub pass_one : (o : Choice) (path : Path) (rows : List Row) (row : Row) (j c : �
     → walk.enough ≡ false → Has o path rows j walk
     → get_or kept.heard.items c Passed ≡ Taken b e → new.column ≡ column_in kept.row kept.below c
     → new.ended ≡ is_last_in kept.row c → new.count ≡ walk.count + 1
-    → new.enough ≡ enough_by wanted (walk.count + 1) e → Has o path (rows ++ row ∷ []) j new
+    → new.enough ≡ enough_by wanted (walk.count + 1) e
+    → ((n : ℕ) → wanted ≡ Some n → (tokens : List (List ℕ)) → walk.count ≡ length tokens
+    → Says walk.text tokens → Says new.text (tokens ++ token_at kept.row c ∷ []))
+    → Has o path (rows ++ row ∷ []) j new
 pass_one o path rows row j c kept walk new wanted b e want known at short h heard column ended count
-    enough =
+    enough says =
     let one : heard_under o row c ≡ Taken b e = sym (known.heard c) ∙ heard in
     let token = token_at row c in
     let got = collected o path rows j in
@@ -171,6 +175,8 @@ pass_one o path rows row j c kept walk new wanted b e want known at short h hear
       column = column ∙ (known.below c ∙ sym g.column);
       ended = ended ∙ (known.last c ∙ sym g.ended);
       count = λ n first. let was = h.count n first in rw more (omega (arith, count, was, sum));
+      text = λ n first. rw (more, ← known.is)
+          (says n (want ∙ ap wanted_of first) got (h.count n first) (h.text n first));
       enough = rw (more, last) (taken_next o.extent got token (rw short at h.enough));
     }
 

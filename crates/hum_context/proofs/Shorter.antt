@@ -21,7 +21,7 @@ use Rattle.hum_context.specs.Context.{chain, through}
 use Rattle.hum_context.specs.Columns.{column_below, column_after, under}
 use Rattle.hum_context.specs.Heard.{heard_under, ends, wanted_of}
 use Rattle.hum_context.specs.Queue.{IsStill, Known, column_in, heard_token}
-use Rattle.hum_context.specs.Walking.{AllStand, Has, IsWithout, Shortens, Stands, collected}
+use Rattle.hum_context.specs.Walking.{AllStand, Has, IsWithout, Says, Shortens, Stands, collected}
 use Rattle.hum_context.proofs.Growth.{chain_push}
 use Rattle.hum_context.proofs.Leading.{same_head}
 use Rattle.hum_context.proofs.Passing.{chain_more, chain_on, open_end, heard_data}
@@ -73,6 +73,7 @@ shorter_none o path row front j i kept walk known below heard h =
       column = h.column ∙ s.column;
       ended = h.ended ∙ s.ended;
       count = λ n is. h.count n is ∙ ap length s.collected;
+      text = λ n is. rw s.collected at h.text n is;
       enough = rw s.collected at h.enough;
     }
 
@@ -133,9 +134,11 @@ pub shorter_one : (o : Choice) (path : Path) (row : Row) (front : List Row) (j i
     (kept : Queued) (walk new : Walk) (wanted : Option ℕ) (b e : Bool)
     → wanted ≡ wanted_of o.extent → Known o path row kept → column_below path row j ≡ Some i
     → get_or kept.heard.items j Passed ≡ Taken b e
-    → Has o path (row ∷ front) j walk → Shortens wanted e walk new → 0 < new.at
+    → Has o path (row ∷ front) j walk → Shortens wanted e walk new
+    → ((n : ℕ) → wanted ≡ Some n → (tokens : List (List ℕ))
+    → Says walk.text (token_at row j ∷ tokens) → Says new.text tokens) → 0 < new.at
     → Has o (after path row) front i new
-shorter_one o path row front j i kept walk new wanted b e want known below heard h short at =
+shorter_one o path row front j i kept walk new wanted b e want known below heard h short says at =
     let one : heard_under o row j ≡ Taken b e = sym (known.heard j) ∙ heard in
     let token = token_at row j in
     let got = collected o (after path row) front i in
@@ -150,6 +153,7 @@ shorter_one o path row front j i kept walk new wanted b e want known below heard
       column = w.column ∙ (h.column ∙ s.column);
       ended = w.ended ∙ (h.ended ∙ s.ended);
       count = λ n first. let was = h.count n first ∙ ap length s.collected in omega (arith, count, was);
+      text = λ n first. says n (want ∙ ap wanted_of first) got (rw s.collected at h.text n first);
       enough = less.1;
     }
 

@@ -54,11 +54,6 @@ pub first_token : (held : List Queued) (kept : Queued) (j : ℕ) → kept ≡ ge
 first_token [] kept j e h below = absurd h
 first_token (q ∷ held) kept j e h below = (h, rw e at below)
 
--- a first record with a token at place j
-pub some_held : (held : List Queued) (j : ℕ) → HasToken held j → 0 < length held
-some_held [] j h = absurd h
-some_held (q ∷ held) j h = omega arith
-
 pub held_width : (held : List Queued) (kept : Queued) (j : ℕ) → kept ≡ get_or held 0 kept
     → HasToken held j → j < width_of kept.row
 held_width [] kept j e h = absurd h

@@ -1,12 +1,13 @@
 -- What a walk down a spine has come to.
 use Rattle.std.specs.Prelude.{◌≡◌, ◌≢◌, ◌⊎◌, ℕ, ◌+◌, ◌-◌, ◌<◌, ◌≤◌}
 use Rattle.std.specs.Prelude.{Bool, true, false}
-use Rattle.std.specs.Prelude.{List, [], ◌∷◌, ◌++◌, filter, length}
+use Rattle.std.specs.Prelude.{List, [], ◌∷◌, ◌++◌, drop, filter, length, take}
 use Rattle.std.specs.Prelude.{if◌then◌else◌, slice_get, Option, Some, None}
 use Rattle.std.specs.List.{list_any, join_with_byte}
 use lib.Chars.{codes}
 use Rattle.hum_score.specs.Row.{Row}
 use Rattle.hum_score.specs.Spines.{Path}
+use Rattle.hum_context.specs.declared.short.ShortText.{ShortText}
 use Rattle.hum_context.specs.declared.walk.Walk.{Walk}
 use Rattle.hum_context.specs.declared.becoming.Becoming.{Becoming}
 use Rattle.hum_context.specs.declared.becoming.Becoming.TheVariants.{Stays, Null, Collects}
@@ -31,11 +32,23 @@ add_token (byte ∷ bytes) token = (byte ∷ bytes) ++ 32 ∷ token
 abbrev pub collected : Choice → Path → List Row → ℕ → List (List ℕ)
 collected o path rows j = filter (is_collectable o) (chain path rows j)
 
--- A walk from the cell at place j has gone through these rows. Tokens are counted where so many are wanted.
+-- some tokens, a space before each
+abbrev pub spaced : List (List ℕ) → List ℕ
+spaced [] = []
+spaced (token ∷ tokens) = 32 ∷ token ++ spaced tokens
+
+-- A text says the last of some tokens.
+abbrev pub Says : ShortText → List (List ℕ) → Type 0
+Says text tokens = (text.missing ≤ length tokens)
+    × (drop text.begin (take text.len text.bytes) ≡ spaced (drop text.missing tokens))
+
+-- A walk from the cell at place j has gone through these rows. Tokens are counted, and their text kept,
+-- where so many are wanted.
 pub record Has (o : Choice) (path : Path) (rows : List Row) (j : ℕ) (walk : Walk) : Type 0 where
   pub column : walk.column ≡ column_after path rows j
   pub ended : walk.ended ≡ list_any is_last (chain path rows j)
   pub count : (n : ℕ) → o.extent ≡ First n → walk.count ≡ length (collected o path rows j)
+  pub text : (n : ℕ) → o.extent ≡ First n → Says walk.text (collected o path rows j)
   pub enough : taken o.extent (collected o path rows j)
       ≡ (if walk.enough then Some (collected o path rows j) else None)
 

@@ -1,10 +1,11 @@
 //! What a record that waits becomes, by those behind it.
 ghost use Rattle.std.specs.Prelude.{◌≡◌, ◌<◌, ◌≤◌, ◌+◌, ◌^◌, ◌∷◌, ℕ, List, [], length};
-ghost use Rattle.std.specs.Prelude.{drop, false, true};
-ghost use Rattle.std.specs.Prelude.{Some, None, IfOk, OnOk};
+ghost use Rattle.std.specs.Prelude.{drop, false, true, slice_index_or};
+ghost use Rattle.std.specs.Prelude.{Some, None, IfOk, IfSome, OnOk};
 ghost use Rattle.hum_score.specs.declared.records.SpinedKind.TheVariants.{Values};
 ghost use Rattle.hum_score.specs.Row.{Row, Spined, token_at};
 ghost use Rattle.hum_record.specs.RecordDraft.{Holds, IsMade};
+ghost use Rattle.hum_score.specs.Spelling.{IsToken};
 ghost use Rattle.hum_score.specs.Spines.{Path};
 ghost use Rattle.hum_context.specs.Context.{Choice, all_some, begins, chain, is_collectable, taken};
 ghost use Rattle.hum_context.specs.Context.{new_tokens};
@@ -68,6 +69,7 @@ fn started(walks: &[Walk], at: u64, j: usize) -> Walk
 }
 
 /// The walk from a cell of the k-th record that waits, down to where it is decided.
+#[inline(never)]
 fn walk_at(
     held: &VecDeque<Queued>,
     k: usize,
@@ -146,6 +148,7 @@ fn becoming_at(
 
 /// What the token at place j becomes of the k-th record that waits.
 fn new_at(
+    kept: &Queued,
     held: &VecDeque<Queued>,
     k: usize,
     gone: u64,
@@ -155,6 +158,7 @@ fn new_at(
 ) -> Option<Becoming>
     requires few { gone + length held.now.items ≤ MOST_RECORDS }
     requires within { k < length held.now.items }
+    requires is { kept.now ≡ slice_index_or held.now.items k kept.now }
     ensures { (o : Choice) (path : Path) (tokens : List (List ℕ)) (rows : List Row)
         → wanted ≡ wanted_of o.extent → taken o.extent [] ≡ None
         → Knows o path (drop k held.now.items) (Spined Values tokens ∷ rows)
@@ -162,7 +166,7 @@ fn new_at(
         → Becomes o (token_at (Spined Values tokens) j)
         (chain path (Spined Values tokens ∷ rows) j) result }
 {
-    match held[k].heard(j) {
+    match kept.heard(j) {
         Heard::Passed => Some(Becoming::Stays),
         Heard::Taken { begins, ends: _ } => {
             if !begins {
@@ -235,7 +239,7 @@ pub(crate) fn weigh(held: &VecDeque<Queued>, k: usize, wanted: Option<u16>) -> W
     let unknown: &[Walk] = &[];
     let mut size: u64 = 0;
     for j in 0..kept.row.width() {
-        let Some(new) = new_at(held, k, 0, unknown, j, wanted) else {
+        let Some(new) = new_at(kept, held, k, 0, unknown, j, wanted) else {
             return Weight::Undecided;
         };
         size = plus(size, new_bytes(held, k, j, wanted, new));
@@ -245,6 +249,7 @@ pub(crate) fn weigh(held: &VecDeque<Queued>, k: usize, wanted: Option<u16>) -> W
 
 /// The text becomes the tokens that are collected from a cell of the first record that waits, until
 /// they are more than a record holds.
+#[inline(never)]
 fn gather(
     text: &mut Text,
     held: &VecDeque<Queued>,
@@ -288,17 +293,43 @@ fn gather(
     Ok(())
 }
 
+/// The tokens that are collected from a cell, joined, where the walk from it has them all.
+fn told_at(walks: &[Walk], at: u64, j: usize, wanted: Option<u16>) -> Option<&[u8]>
+    requires { at ≤ MOST_RECORDS }
+    ensures lawful { IfSome result (λ token. IsToken Values token.now) }
+    ensures joined { IfSome result (λ token. (o : Choice) (path : Path) (rows : List Row)
+        → wanted ≡ wanted_of o.extent → AllStand o path at rows walks.now
+        → (tokens : List (List ℕ)) → taken o.extent (collected o path rows j) ≡ Some tokens
+        → IsJoined token.now tokens) }
+{
+    let Some(_number) = wanted else {
+        return None;
+    };
+    if j >= walks.len() {
+        return None;
+    }
+    let walk = &walks[j];
+    if at < walk.at && walk.enough {
+        return walk.text.token();
+    }
+    None
+}
+
 /// Writes the new token of a cell of the first record that waits.
 fn write_token(
+    kept: &Queued,
     held: &VecDeque<Queued>,
+    gone: u64,
+    walks: &[Walk],
     j: usize,
     wanted: Option<u16>,
     becoming: Becoming,
     text: &mut Text,
     making: &mut RecordDraft,
 ) -> Result<(), AllocError>
-    requires few { length held.now.items ≤ MOST_RECORDS }
+    requires few { gone + length held.now.items ≤ MOST_RECORDS }
     requires kind { making.old.builder.kind ≡ Values }
+    requires first { kept.now ≡ slice_index_or held.now.items 0 kept.now }
     requires token { HasToken held.now.items j }
     ensures kind { making.new.builder.kind ≡ Values }
     ensures grown { OnOk result (HasGrown (Holds Values making.old.builder making.old.is_long)
@@ -306,6 +337,7 @@ fn write_token(
     ensures written { OnOk result ((o : Choice) (path : Path) (tokens : List (List ℕ))
         (rows : List Row) → wanted ≡ wanted_of o.extent → taken o.extent [] ≡ None
         → Knows o path held.now.items (Spined Values tokens ∷ rows)
+        → AllStand o path gone (Spined Values tokens ∷ rows) walks.now
         → Becomes o (token_at (Spined Values tokens) j)
         (chain path (Spined Values tokens ∷ rows) j) (Some becoming)
         → Writes o (token_at (Spined Values tokens) j)
@@ -314,9 +346,12 @@ fn write_token(
         (Holds Values making.new.builder making.new.is_long)) }
 {
     match becoming {
-        Becoming::Stays => making.push(held[0].row.token(j)),
+        Becoming::Stays => making.push(kept.row.token(j)),
         Becoming::Null => making.push(b"."),
         Becoming::Collects => {
+            if let Some(told) = told_at(walks, gone, j, wanted) {
+                return making.push(told);
+            }
             gather(text, held, j, wanted)?;
             making.push(text.token())
         }
@@ -344,15 +379,16 @@ pub(crate) fn write(
         → all_some (new_tokens o path (Spined Values tokens) rows 0 tokens) ≡ Some new
         → IsMade Values new made) }
 {
-    let row = &held[0].row;
+    let kept = &held[0];
+    let row = &kept.row;
     // Its text is lawful.
     let _kind = row.kind();
     let mut making = RecordDraft::new(alloc, SpinedKind::Values, spare);
     for j in 0..row.width() {
-        let Some(new) = new_at(held, 0, gone, walks, j, wanted) else {
+        let Some(new) = new_at(kept, held, 0, gone, walks, j, wanted) else {
             return Ok(None);
         };
-        write_token(held, j, wanted, new, text, &mut making)?;
+        write_token(kept, held, gone, walks, j, wanted, new, text, &mut making)?;
     }
     Ok(making.finish())
 }
@@ -423,6 +459,7 @@ fn advance_walk(
 
 /// What the token at place j becomes of the first record that waits. The walk from it goes on.
 fn advance_at(
+    kept: &Queued,
     held: &VecDeque<Queued>,
     gone: u64,
     walks: &mut Vec<Walk>,
@@ -431,6 +468,7 @@ fn advance_at(
 ) -> Option<Becoming>
     requires few { gone + length held.now.items ≤ MOST_RECORDS }
     requires some { 0 < length held.now.items }
+    requires first { kept.now ≡ slice_index_or held.now.items 0 kept.now }
     requires within { j < length walks.old.items }
     ensures wide { length walks.new.items ≡ length walks.old.items }
     ensures stand { (o : Choice) (path : Path) (rows : List Row)
@@ -443,7 +481,7 @@ fn advance_at(
         → Becomes o (token_at (Spined Values tokens) j)
         (chain path (Spined Values tokens ∷ rows) j) result }
 {
-    match held[0].heard(j) {
+    match kept.heard(j) {
         Heard::Passed => Some(Becoming::Stays),
         Heard::Taken { begins, ends: _ } => {
             if !begins {
@@ -480,7 +518,7 @@ pub(crate) fn advance(
     let width = kept.row.width();
     widen(walks, gone, width)?;
     for j in 0..width {
-        let Some(_new) = advance_at(held, gone, walks, j, wanted) else {
+        let Some(_new) = advance_at(kept, held, gone, walks, j, wanted) else {
             return Ok(false);
         };
     }

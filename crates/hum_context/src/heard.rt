@@ -25,7 +25,7 @@ pub(crate) enum Heard {
 }
 
 /// Whether a token is data, by its first byte.
-fn is_data(token: &[u8]) -> bool
+pub(crate) fn is_data(token: &[u8]) -> bool
     ensures { result ≡ is_data token.now }
 {
     match token {
@@ -94,6 +94,7 @@ impl SpareHeard {
     }
 
     /// Keeps a list that isn't empty, whatever stands in it, if there is room for it.
+    #[inline(always)]
     pub(crate) fn keep(&mut self, heard: Vec<Heard>) {
         if heard.is_empty() || self.lists.len() >= MOST_SPARE {
             return;

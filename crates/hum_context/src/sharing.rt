@@ -1,10 +1,10 @@
 //! Walks from the cells below, once a record is gone.
-ghost use Rattle.std.specs.Prelude.{◌≡◌, ◌⊎◌, ◌<◌, ◌+◌, ◌-◌, ℕ, List, [], ◌∷◌, Some, OnOk};
+ghost use Rattle.std.specs.Prelude.{◌≡◌, ◌⊎◌, ◌<◌, ◌+◌, ◌-◌, ℕ, List, [], ◌∷◌, Some, OnOk, length};
 ghost use Rattle.hum_score.specs.Row.{Row};
 ghost use Rattle.hum_score.specs.Spines.{Path, after};
 ghost use Rattle.hum_context.specs.{Columns.column_below, Context.Choice, Heard.wanted_of};
 ghost use Rattle.hum_context.specs.{Queue.Known, Queue.column_in};
-ghost use Rattle.hum_context.specs.Walking.{AllStand, Has, Shortens, Stands};
+ghost use Rattle.hum_context.specs.Walking.{AllStand, Has, Says, Shortens, Stands};
 
 use crate::heard::Heard;
 use crate::queued::Queued;
@@ -18,19 +18,26 @@ impl Walk {
         ensures column { (self.new.column ≡ self.old.column) × (self.new.ended ≡ self.old.ended) }
         ensures less { self.new.count ≡ self.old.count - 1 }
         ensures enough { self.new.enough ≡ enough }
+        ensures text { self.new.text ≡ self.old.text }
     {
         self.count = self.count.saturating_sub(1);
         self.enough = enough;
     }
 
-    /// The same of a token that is collected, which ends a group or doesn't; a walk that ended with it
+    /// The same of a token that is collected, has so many bytes, and ends a group or doesn't; a walk that ended with it
     /// is made anew.
-    fn lose_taken(&mut self, wanted: Option<u16>, ends: bool)
+    fn lose_taken(&mut self, wanted: Option<u16>, ends: bool, first: usize)
         ensures at { (self.new.at ≡ self.old.at) ⊎ (self.new.at ≡ 0) }
         ensures has { Shortens wanted ends self.old self.new }
+        ensures says { (n : ℕ) → wanted ≡ Some n → (token : List ℕ) (tokens : List (List ℕ))
+            → first ≡ length token → Says self.old.text (token ∷ tokens)
+            → Says self.new.text tokens }
     {
         match wanted {
-            Some(_) => self.lose_first(false),
+            Some(_) => {
+                self.text.lose(first);
+                self.lose_first(false);
+            }
             None => {
                 if ends {
                     *self = Walk::from(0, 0);
@@ -52,7 +59,10 @@ impl Walk {
     {
         match kept.heard(j) {
             Heard::Passed => {}
-            Heard::Taken { begins: _, ends } => self.lose_taken(wanted, ends),
+            Heard::Taken { begins: _, ends } => {
+                let first = kept.token(j).len();
+                self.lose_taken(wanted, ends, first);
+            }
         }
     }
 }

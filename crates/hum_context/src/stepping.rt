@@ -1,18 +1,19 @@
 //! Walks down a spine, through the records that wait.
 ghost use Rattle.std.specs.Prelude.{◌≡◌, ◌≢◌, ◌+◌, ◌≤◌, ◌<◌, ℕ, List, [], ◌∷◌, ◌++◌, length, drop};
 ghost use Rattle.std.specs.Prelude.{false, Some, None, slice_index_or};
-ghost use Rattle.hum_score.specs.Row.{Row};
+ghost use Rattle.hum_score.specs.Row.{Row, token_at};
 ghost use Rattle.hum_score.specs.Spines.{Path};
 ghost use Rattle.hum_context.specs.{Context.Choice, Heard.wanted_of, Heard.enough_by};
 ghost use Rattle.hum_context.specs.Leads.{sought_of};
 ghost use Rattle.hum_context.specs.Queue.{Known, Knows, column_in, is_last_in};
-ghost use Rattle.hum_context.specs.Walking.{Has, Stands, Halts};
+ghost use Rattle.hum_context.specs.Walking.{Has, Says, Stands, Halts};
 ghost use Rattle.hum_context.specs.declared.heard.Heard.TheVariants.{Passed};
 ghost use Rattle.hum_score.specs.InOrder.{through};
 
 use crate::heard::Heard;
 use crate::links::Sought;
 use crate::queued::Queued;
+use crate::short::ShortText;
 use crate::skipping::Place;
 use crate::walk::Walk;
 use hum_stage::MOST_RECORDS;
@@ -45,12 +46,14 @@ impl Walk {
         ensures at { result.at ≡ at }
         ensures column { result.column ≡ Some column }
         ensures none { result.count ≡ 0 }
+        ensures says { Says result.text [] }
         ensures open { (result.enough ≡ false) × (result.ended ≡ false) }
     {
         Walk {
             at,
             column: Some(column),
             count: 0,
+            text: ShortText::none(),
             enough: false,
             ended: false,
             seen: at as u32,
@@ -64,6 +67,7 @@ impl Walk {
         ensures column { self.new.column ≡ column_in next.now.row next.now.below c }
         ensures ended { self.new.ended ≡ is_last_in next.now.row c }
         ensures same { self.new.count ≡ self.old.count }
+        ensures text { self.new.text ≡ self.old.text }
         ensures short { self.new.enough ≡ false }
     {
         let column = next.column_below(c);
@@ -84,7 +88,13 @@ impl Walk {
         ensures ended { self.new.ended ≡ is_last_in next.now.row c }
         ensures count { self.new.count ≡ self.old.count + 1 }
         ensures enough { self.new.enough ≡ enough_by wanted (self.old.count + 1) ends }
+        ensures says { (n : ℕ) → wanted ≡ Some n → (tokens : List (List ℕ))
+            → self.old.count ≡ length tokens → Says self.old.text tokens
+            → Says self.new.text (tokens ++ token_at next.now.row c ∷ []) }
     {
+        if wanted.is_some() {
+            self.text.add(self.count, next.token(c));
+        }
         self.at += 1;
         self.column = Some(c);
         self.count += 1;
@@ -109,6 +119,7 @@ impl Walk {
 
     /// It goes on from a cell of those that wait: past records in which nothing is found, or through
     /// one.
+    #[inline(always)]
     fn move_on(&mut self, held: &VecDeque<Queued>, gone: u64, here: Place, wanted: Option<u16>)
         requires few { gone + length held.now.items ≤ MOST_RECORDS }
         requires at { self.old.at ≡ gone + here.n }
@@ -132,6 +143,7 @@ impl Walk {
 
     /// It goes on until its tokens are enough, its column ends or no more records wait, of which so
     /// many are gone.
+    #[inline(always)]
     pub(crate) fn go_on(&mut self, held: &VecDeque<Queued>, gone: u64, wanted: Option<u16>)
         requires behind { gone ≤ self.old.at }
         requires few { gone + length held.now.items ≤ MOST_RECORDS }

@@ -2,6 +2,7 @@
 ghost use Rattle.std.specs.Prelude.{◌≤◌};
 ghost use Rattle.hum_stage.specs.declared.TheConstants.{MOST_RECORDS};
 
+use crate::short::ShortText;
 use hum_stage::MOST_RECORDS;
 
 /// What a walk from a cell down its spine has come to.
@@ -13,6 +14,8 @@ pub(crate) struct Walk {
     pub(crate) column: Option<usize>,
     /// How many tokens are collected.
     pub(crate) count: u64,
+    /// Their text, where so many are wanted.
+    pub(crate) text: ShortText,
     /// Whether they are enough.
     pub(crate) enough: bool,
     /// Whether the future is ended.

@@ -1,4 +1,4 @@
-use Rattle.std.proofs.Common.{◌∙◌, sym, ◌∷◌, arith}
+use Rattle.std.proofs.Common.{◌∙◌, sym, ◌∷◌}
 use Rattle.hum_score.specs.declared.records.SpinedKind.TheVariants.{Values}
 use Rattle.hum_score.specs.Row.{Spined, token_at}
 use Rattle.hum_context.proofs.Weighing.{kept_at, open_is, passed_stays, shut_is}
@@ -7,36 +7,30 @@ use Rattle.hum_context.proofs.becoming.advance_at.Goals as goal
 pub returns-in-Some-clause-becomes : goal.returns-in-Some-clause-becomes
 returns-in-Some-clause-becomes c o path tokens rows want none knows stand =
     let known = kept_at o path c.args.held.now.items 0 (Spined Values tokens) rows
-    c.index.result.now knows c.requires.some c.index.ensures in
-    let is = open_is o path tokens c.index.result.now c.args.j c.in-Taken.begins c.in-Taken.ends known
+    c.args.kept.now knows c.requires.some c.requires.first in
+    let is = open_is o path tokens c.args.kept.now c.args.j c.in-Taken.begins c.in-Taken.ends known
     (sym c.heard.ensures ∙ c.in-Taken.is) c.if-not-begins.false in
     c.enough_at.ensures o path (Spined Values tokens ∷ rows) none (rw c.deref.ensures.value stand) c.in-Some.known c.in-Some.is
     (token_at (Spined Values tokens) c.args.j) is.0 is.1
 
-pub index-requires : goal.index-requires
-index-requires c =
-    let size = c.args.held.now.ok.0 in
-    let some = c.requires.some in
-    omega (arith, size, some)
-
 pub returns-in-Passed-clause-becomes : goal.returns-in-Passed-clause-becomes
 returns-in-Passed-clause-becomes c o path tokens rows want none knows stand =
     let known = kept_at o path c.args.held.now.items 0 (Spined Values tokens) rows
-    c.index.result.now knows c.requires.some c.index.ensures in
-    passed_stays o path tokens c.index.result.now c.args.j rows known (sym c.heard.ensures ∙ c.in-Passed.is)
+    c.args.kept.now knows c.requires.some c.requires.first in
+    passed_stays o path tokens c.args.kept.now c.args.j rows known (sym c.heard.ensures ∙ c.in-Passed.is)
 
 pub returns-then-not-begins-clause-becomes : goal.returns-then-not-begins-clause-becomes
 returns-then-not-begins-clause-becomes c o path tokens rows want none knows stand =
     let known = kept_at o path c.args.held.now.items 0 (Spined Values tokens) rows
-    c.index.result.now knows c.requires.some c.index.ensures in
-    shut_is o path tokens c.index.result.now c.args.j c.in-Taken.begins c.in-Taken.ends rows known
+    c.args.kept.now knows c.requires.some c.requires.first in
+    shut_is o path tokens c.args.kept.now c.args.j c.in-Taken.begins c.in-Taken.ends rows known
     (sym c.heard.ensures ∙ c.in-Taken.is) c.if-not-begins.true
 
 pub returns-in_default-clause-becomes : goal.returns-in_default-clause-becomes
 returns-in_default-clause-becomes c o path tokens rows want none knows stand =
     let known = kept_at o path c.args.held.now.items 0 (Spined Values tokens) rows
-    c.index.result.now knows c.requires.some c.index.ensures in
-    let is = open_is o path tokens c.index.result.now c.args.j c.in-Taken.begins c.in-Taken.ends known
+    c.args.kept.now knows c.requires.some c.requires.first in
+    let is = open_is o path tokens c.args.kept.now c.args.j c.in-Taken.begins c.in-Taken.ends known
     (sym c.heard.ensures ∙ c.in-Taken.is) c.if-not-begins.false in
     c.advance_walk.ensures.becomes o path (Spined Values tokens ∷ rows) want none knows stand
     (token_at (Spined Values tokens) c.args.j) is.0 is.1

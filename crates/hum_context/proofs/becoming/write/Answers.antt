@@ -18,7 +18,7 @@ pub returns-in_default : goal.returns-in_default
 returns-in_default c o path tokens new rows want none knows stand are =
     let s = c.loop-j.invariant.made o path tokens rows want none knows stand in
     let known = kept_at o path c.args.held.now.items 0 (Spined Values tokens) rows
-    c.index.result.now knows c.requires.within c.index.ensures in
+    c.index-kept.result.now knows c.requires.within c.index-kept.ensures in
     let wide = ap (λ (r : Row). length (tokens_of r)) known.is in
     let test = c.loop-j-test.true in
     let end = c.width-j-end.ensures in
@@ -33,7 +33,7 @@ pub write_token-requires-clause-token : goal.write_token-requires-clause-token
 write_token-requires-clause-token c =
     let test = c.loop-j-test.true in
     let end = c.width-j-end.ensures in
-    first_token c.args.held.now.items c.index.result.now c.loop-j.j c.index.ensures c.requires.data
+    first_token c.args.held.now.items c.index-kept.result.now c.loop-j.j c.index-kept.ensures c.requires.data
     (omega (arith, test, end))
 
 pub loop-j-preserved : goal.loop-j-preserved
@@ -48,13 +48,13 @@ loop-j-preserved c = record {
   made = λ o path tokens rows want none knows stand.
       let s = c.loop-j.invariant.made o path tokens rows want none knows stand in
       let known = kept_at o path c.args.held.now.items 0 (Spined Values tokens) rows
-      c.index.result.now knows c.requires.within c.index.ensures in
+      c.index-kept.result.now knows c.requires.within c.index-kept.ensures in
       let wide = ap (λ (r : Row). length (tokens_of r)) known.is in
       let test = c.loop-j-test.true in
       let end = c.width-j-end.ensures in
       let zero : c.args.gone + 0 ≡ c.args.gone = omega arith in
       written_more o path tokens rows c.loop-j.j _ _ _ _ s (omega (arith, wide, test, end))
-      (c.in_ok-write_token.ensures.written o path tokens rows want none knows
+      (c.in_ok-write_token.ensures.written o path tokens rows want none knows stand
       (rw c.in-Some.is at (c.new_at.ensures o path tokens rows want none knows
       (rw zero stand))));
 }
@@ -65,8 +65,8 @@ finish-requires c =
     let over = c.loop-j-test.false in
     let end = c.width-j-end.ensures in
     let count = held.2 in
-    let some = data_width c.index.result.now.row
-    (first_kind c.args.held.now.items c.index.result.now c.index.ensures c.requires.data)
+    let some = data_width c.index-kept.result.now.row
+    (first_kind c.args.held.now.items c.index-kept.result.now c.index-kept.ensures c.requires.data)
     c.kind-kind.ensures.lawful in
     (Values, held.0, held.1, some_made held.0 (omega (arith, over, end, count, some)))
 
@@ -74,7 +74,7 @@ pub returns : goal.returns
 returns c o path tokens new rows want none knows stand are =
     let s = c.loop-j.invariant.made o path tokens rows want none knows stand in
     let known = kept_at o path c.args.held.now.items 0 (Spined Values tokens) rows
-    c.index.result.now knows c.requires.within c.index.ensures in
+    c.index-kept.result.now knows c.requires.within c.index-kept.ensures in
     let wide = ap (λ (r : Row). length (tokens_of r)) known.is in
     let over = c.loop-j-test.false in
     let end = c.width-j-end.ensures in

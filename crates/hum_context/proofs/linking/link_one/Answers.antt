@@ -12,7 +12,7 @@ returns-clause-stand c o path first rows h =
     let at : slice_get walks c.args.j ≡ Some old =
     get_there walks c.args.j old c.requires.within ∙ ap (λ (w : Walk). Some w) (sym c.index_mut.ensures.value) in
     same_stand o path first rows walks c.args.j old _ h at
-    (record { at = refl; column = refl; count = refl; enough = refl; ended = refl })
+    (record { at = refl; column = refl; count = refl; text = refl; enough = refl; ended = refl })
 
 pub returns-then-saturating_sub-clause-stand : goal.returns-then-saturating_sub-clause-stand
 returns-then-saturating_sub-clause-stand c o path first rows h =
@@ -21,4 +21,4 @@ returns-then-saturating_sub-clause-stand c o path first rows h =
     let at : slice_get walks c.args.j ≡ Some old =
     get_there walks c.args.j old c.requires.within ∙ ap (λ (w : Walk). Some w) (sym c.index_mut.ensures.value) in
     same_stand o path first rows walks c.args.j old _ h at
-    (record { at = refl; column = refl; count = refl; enough = refl; ended = refl })
+    (record { at = refl; column = refl; count = refl; text = refl; enough = refl; ended = refl })

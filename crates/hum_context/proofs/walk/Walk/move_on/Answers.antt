@@ -19,7 +19,7 @@ returns-in-Some-clause-stands c o path k rows j want knows at short s =
     (skips_here o c.sought.result c.args.held.now.items here.n here.c to.n to.c kept c.requires.within
     c.index-next.ensures (ap (is_found c.sought.result) (sym c.heard.ensures ∙ c.in-Passed.is))
     (λ q row more known linked none. e.leads o q row more known linked none to c.in-Some.is))
-    refl refl refl short
+    refl refl refl refl short
 
 pub returns-clause-stands : goal.returns-clause-stands
 returns-clause-stands c o path k rows j want knows at short s =
