@@ -69,7 +69,6 @@ fn started(walks: &[Walk], at: u64, j: usize) -> Walk
 }
 
 /// The walk from a cell of the k-th record that waits, down to where it is decided.
-#[inline(never)]
 fn walk_at(
     held: &VecDeque<Queued>,
     k: usize,
@@ -249,7 +248,6 @@ pub(crate) fn weigh(held: &VecDeque<Queued>, k: usize, wanted: Option<u16>) -> W
 
 /// The text becomes the tokens that are collected from a cell of the first record that waits, until
 /// they are more than a record holds.
-#[inline(never)]
 fn gather(
     text: &mut Text,
     held: &VecDeque<Queued>,
