@@ -1,5 +1,5 @@
 -- One step behind another.
-use Rattle.std.proofs.Common.{◌≡◌, ◌∙◌, ℕ, Bool, false, List, [], ◌++◌, Option, None, refl, sym, ap, subst, append_assoc, arith, length-append}
+use Rattle.std.proofs.Common.{◌≡◌, ◌∙◌, ◌≤◌, ℕ, Bool, false, List, [], ◌++◌, Option, None, refl, sym, ap, subst, append_assoc, arith, length-append}
 use Rattle.std.proofs.Math.Path.{fun_ext}
 use Rattle.std.specs.Prelude.{is_some, length}
 use Rattle.hum_text.specs.declared.calls.Source.{Ghosts as Source}
@@ -124,6 +124,12 @@ module _ {S R W O : Type 0} {stage : Stage S} {reader : Source R}
           g.1,
         );
   }
+
+-- It counts no turn less.
+pub no_fewer : {S R W O : Type 0} {stage : Stage S} {reader : Source R} {writer : Sink W} {order : Order O} {o p : O}
+    {before after : Look} {old new : Net S R W} {is_over : Bool} → MayStep stage writer before old
+    → HasAdvanced stage reader writer order o p before after old new is_over → old.turns ≤ new.turns
+no_fewer {new = new} may h = omega (arith, (led_on may h.stepped (λ i. []) (no_rests new)).0.counted)
 
 -- A step in which nobody has had a turn; the flags may be others, and more may be known.
 module _ {S R W O : Type 0} {stage : Stage S} {reader : Source R} {writer : Sink W} {order : Order O} {o : O}

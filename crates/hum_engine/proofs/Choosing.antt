@@ -18,14 +18,15 @@ use Rattle.hum_turns.proofs.States.{sink_state, last_less}
 use Rattle.hum_turns.proofs.Writing.{still}
 use Rattle.hum_nodes.proofs.Standing.{source_bytes}
 use Rattle.hum_engine.specs.declared.net.Net.{Net}
-use Rattle.hum_engine.specs.Looks.{Look, FromLeft, Beside, FromRight, Unseen, Sees, leaning}
-use Rattle.hum_engine.specs.Scene.{Scene, plan_of, moved, before_all, IsFull}
+use Rattle.hum_engine.specs.Looks.{Look, FromLeft, Beside, Along, FromRight, Unseen, Sees, leaning}
+use Rattle.hum_engine.specs.Scene.{Scene, plan_of, moved, before_all, IsFull, IsNetPlan}
 use Rattle.hum_engine.specs.Nets.{NetAt, AtEach, AreOver, GoesTo, MayAsk, MayGo, MayStep, HasPicked, HasRested}
 use Rattle.hum_engine.specs.Nets.{HasGone, HasWorked, HasAdvanced}
 use Rattle.hum_engine.proofs.Advancing.{pick_now, rested_on, then_at}
 use Rattle.hum_engine.proofs.Feeding.{room_same}
 use Rattle.hum_engine.proofs.Leaning.{left_choice, right_choice}
 use Rattle.hum_engine.proofs.Looking.{IsTurn, IsTaker, touched_below, took, left_moved, left_passed, took_beside, filled_beside}
+use Rattle.hum_engine.proofs.Looking.{along_left, along_moved, along_passed, beside_along}
 use Rattle.hum_engine.proofs.Looking.{right_moved, right_passed, right_more}
 use Rattle.hum_engine.proofs.Netting.{is_at, not_over, ready_at}
 use Rattle.hum_engine.proofs.Running.{any_ready, no_rests, now_unfailed, picked, relisted, seen, some_ready, unfailed_at}
@@ -291,50 +292,48 @@ module _ {S R W : Type 0} {stage : Stage S} {reader : Source R} {writer : Sink W
   left_rested h = rested_on may (rw h.same refl) (rw h.same refl) (λ start s now at none sees.
       left_passed (h.idle start s now at none sees.0) (any_ready at none) sees)
 
-  pub left_waits : behind ≡ net
-      → HasAdvanced stage reader writer (leaning side.Left) tt tt (FromLeft k) (FromLeft k) net behind false
-  left_waits same = rested_on may (rw same refl) (rw same refl) (λ start s now at none sees. sees)
-
--- and of an actor from which another has just taken:
-beside_left : (s : Scene) (now : Now Row) {k by : ℕ} → Sees (Beside k by) s now → Sees (FromLeft k) s now
-beside_left s now sees =
-    (omega (arith, sees.0, sees.1), λ j less. sees.3 j (omega (arith, less, sees.0)) (λ e. omega (arith, less, e)))
-
-module _ {S R W : Type 0} {stage : Stage S} {writer : Sink W} {k by : ℕ} {net : Net S R W}
-    (may : MayStep stage writer (Beside k by) net) where
-  pub beside_may : MayStep stage writer (FromLeft k) net
-  beside_may = record {
+-- or of those that may be ready to its right as well,
+module _ {S R W : Type 0} {stage : Stage S} {writer : Sink W} {look : Look} {k : ℕ} {net : Net S R W}
+    (left : (s : Scene) (now : Now Row) → IsNetPlan s.count s.kinds s.size → Sees look s now → Sees (FromLeft k) s now)
+    (may : MayStep stage writer look net) where
+  may_left : MayStep stage writer (FromLeft k) net
+  may_left = record {
     start = may.start;
     scene = may.scene;
     now = may.now;
     rests = may.rests;
     at = may.at;
     going = may.going;
-    sees = λ rests over. beside_left (may.scene rests over) (may.now rests over) (may.sees rests over);
+    sees = λ rests over. left (may.scene rests over) (may.now rests over) (may.at rests over).plan (may.sees rests over);
   }
 
-  beside_asked : Asked stage writer (leaning side.Left) (Beside k by) k tt tt net
-  beside_asked =
-      let a = left_asked beside_may in record {
+  next_asked : Asked stage writer (leaning side.Left) look k tt tt net
+  next_asked =
+      let a = left_asked may_left in record {
         may = may;
         ask = a.ask;
-        picks = λ start s now h none sees ready. a.picks start s now h none (beside_left s now sees) ready;
+        picks = λ start s now h none sees ready. a.picks start s now h none (left s now h.plan sees) ready;
       }
+
+-- as of a stage from which another has just taken,
+beside_left : {k by : ℕ} (s : Scene) (now : Now Row) → IsNetPlan s.count s.kinds s.size → Sees (Beside k by) s now
+    → Sees (FromLeft k) s now
+beside_left s now plan sees =
+    (omega (arith, sees.0, sees.1), λ j less. sees.3 j (omega (arith, less, sees.0)) (λ e. omega (arith, less, e)))
+
+module _ {S R W : Type 0} {stage : Stage S} {writer : Sink W} {k by : ℕ} {net : Net S R W}
+    (may : MayStep stage writer (Beside k by) net) where
+  pub beside_asked : Asked stage writer (leaning side.Left) (Beside k by) k tt tt net
+  beside_asked = next_asked beside_left may
+
+  pub beside_less : k < by
+  beside_less = (pick_now may).sees.0
 
 module _ {S R W : Type 0} {stage : Stage S} {reader : Source R} {writer : Sink W} {k by : ℕ} {net behind : Net S R W}
     (may : MayStep stage writer (Beside k by) net) where
-  pub beside_on : {after : Look} {is_over : Bool}
-      → HasAdvanced stage reader writer (leaning side.Left) tt tt (FromLeft k) after net behind is_over
-      → HasAdvanced stage reader writer (leaning side.Left) tt tt (Beside k by) after net behind is_over
-  beside_on h = record {
-    stepped = record {
-      reads = h.stepped.reads;
-      read = h.stepped.read;
-      goes = λ start s now over at none sees. h.stepped.goes start s now over at none (beside_left s now sees);
-    };
-    marks = h.marks;
-    flushes = h.flushes;
-  }
+  pub beside_over : {link : ℕ} → HasWorked stage reader writer k link net behind true
+      → HasAdvanced stage reader writer (leaning side.Left) tt tt (Beside k by) Unseen net behind true
+  beside_over w = moved_on (beside_asked may) w.ready w.gone (λ start s now n goes. tt)
 
   pub beside_filled : HasWorked stage reader writer k k net behind false → IsFull k behind.web
       → HasAdvanced stage reader writer (leaning side.Left) tt tt (Beside k by) (FromLeft by) net behind false
@@ -343,6 +342,88 @@ module _ {S R W : Type 0} {stage : Stage S} {reader : Source R} {writer : Sink W
       moved_on a w.ready w.gone (λ start s now n goes.
       filled_beside (turn_of a w n goes) (taker_of a w n goes (some_taker a w n goes)) refl
       (full_unready n.goes.at goes full) n.sees)
+
+  pub beside_gave : HasWorked stage reader writer k k net behind false
+      → HasAdvanced stage reader writer (leaning side.Left) tt tt (Beside k by) (Along k by) net behind false
+  beside_gave w =
+      let a = beside_asked may in
+      moved_on a w.ready w.gone (λ start s now n goes.
+      along_moved (turn_of a w n goes) (taker_of a w n goes (some_taker a w n goes)) (beside_along s now n.sees))
+
+  pub beside_waits : behind ≡ net
+      → HasAdvanced stage reader writer (leaning side.Left) tt tt (Beside k by) (Along k by) net behind false
+  beside_waits same = rested_on may (rw same refl) (rw same refl) (λ start s now at none sees. beside_along s now sees)
+
+-- and of those whom a stage reaches.
+along_first : {k by : ℕ} → k ≤ by → (s : Scene) (now : Now Row) → IsNetPlan s.count s.kinds s.size → Sees (Along k by) s now
+    → Sees (FromLeft k) s now
+along_first less s now plan sees = along_left s now plan (omega arith) less sees
+
+module _ {S R W : Type 0} {stage : Stage S} {writer : Sink W} {k by : ℕ} {net : Net S R W}
+    (may : MayStep stage writer (Along k by) net) where
+  pub along_asked : k ≤ by → Asked stage writer (leaning side.Left) (Along k by) k tt tt net
+  along_asked less = next_asked (along_first less) may
+
+  module _ {behind : Net S R W} (h : HasRested stage writer k net behind) where
+    pub along_within : k < by → k < length behind.takers.items
+    along_within more =
+        let m = pick_now may in
+        omega (arith, more, m.sees.1, m.running.at.takers.many, ap (λ n. length n.takers.items) h.same)
+
+    module _ {taker : ℕ} (is : slice_get behind.takers.items k ≡ Some taker) where
+      was_taker : slice_get net.takers.items k ≡ Some taker
+      was_taker = ap (λ n. slice_get n.takers.items k) (sym h.same) ∙ is
+
+      pub along_rested : {reader : Source R}
+          → HasAdvanced stage reader writer (leaning side.Left) tt tt (Along k by) (Along taker by) net behind false
+      along_rested = rested_on may (rw h.same refl) (rw h.same refl) (λ start s now at none sees.
+          let most = at.takers.behind k taker was_taker in
+          along_passed s now (h.idle start s now at none sees.0)
+          (record { alone = λ j takes. at.takers.alone k taker j was_taker takes; behind = most.0; most = most.1 }) sees)
+
+      pub along_closer : 256 - taker < 256 - k
+      along_closer =
+          let r = (pick_now may).running in
+          omega (arith, r.at.takers.behind k taker was_taker, r.at.plan.few, (pick_now may).sees.0)
+
+module _ {S R W : Type 0} {stage : Stage S} {reader : Source R} {writer : Sink W} {k by : ℕ} {net behind : Net S R W}
+    (may : MayStep stage writer (Along k by) net) (less : k ≤ by) where
+  pub along_few : HasWorked stage reader writer k k net behind false → k < length behind.takers.items
+  along_few w = link_few (along_asked may less) w
+
+  pub along_over : {link : ℕ} → HasWorked stage reader writer k link net behind true
+      → HasAdvanced stage reader writer (leaning side.Left) tt tt (Along k by) Unseen net behind true
+  along_over w = moved_on (along_asked may less) w.ready w.gone (λ start s now n goes. tt)
+
+  pub along_on : {link : ℕ} → HasWorked stage reader writer k link net behind false
+      → HasAdvanced stage reader writer (leaning side.Left) tt tt (Along k by) (Along link by) net behind false
+  along_on w =
+      let a = along_asked may less in
+      moved_on a w.ready w.gone (λ start s now n goes.
+      along_moved (turn_of a w n goes) (taker_of a w n goes (some_taker a w n goes)) n.sees)
+
+  pub along_filled : {taker : ℕ} → HasWorked stage reader writer k k net behind false → IsFull k behind.web
+      → slice_get behind.takers.items k ≡ Some taker
+      → HasAdvanced stage reader writer (leaning side.Left) tt tt (Along k by) (Along taker by) net behind false
+  along_filled w full is =
+      let a = along_asked may less in
+      moved_on a w.ready w.gone (λ start s now n goes.
+      let u = taker_of a w n goes is in
+      along_passed s n.goes.to (full_unready n.goes.at goes full) u (along_moved (turn_of a w n goes) u n.sees))
+
+  pub along_waits : behind ≡ net
+      → HasAdvanced stage reader writer (leaning side.Left) tt tt (Along k by) (Along k by) net behind false
+  along_waits same = rested_on may (rw same refl) (rw same refl) (λ start s now at none sees. sees)
+
+module _ {S R W : Type 0} {stage : Stage S} {reader : Source R} {writer : Sink W} {k by : ℕ} {net : Net S R W}
+    (may : MayStep stage writer (Along k by) net) where
+  pub along_here : k ≤ by → HasAdvanced stage reader writer (leaning side.Left) tt tt (Along k by) (FromLeft k) net net false
+  along_here less = rested_on may refl refl (λ start s now at none sees. along_first less s now at.plan sees)
+
+  -- nobody is left of these
+  pub along_none : by ≤ k
+      → HasAdvanced stage reader writer (leaning side.Left) tt tt (Along k by) (FromLeft by) net net false
+  along_none more = rested_on may refl refl (λ start s now at none sees. along_left s now at.plan more (omega arith) sees)
 
 -- from the right:
 module _ {S R W : Type 0} {stage : Stage S} {reader : Source R} {writer : Sink W} {k : ℕ} {net behind : Net S R W}

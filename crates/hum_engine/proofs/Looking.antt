@@ -2,15 +2,17 @@
 use Rattle.std.proofs.Common.{◌≡◌, ◌≢◌, ◌∙◌, ◌⊎◌, ℕ, zero, suc, ◌+◌, ◌-◌, ◌<◌, ◌≤◌, true, false, List, [], ◌∷◌, Some, None}
 use Rattle.std.proofs.Common.{is_none, ◌&&◌, refl, sym, ap, subst, arith, inl, inr, ⊎_elim, slice_get}
 use Rattle.std.specs.List.{AllByRecursion}
-use Rattle.std.proofs.lemmas.Bool.{false≢true, cases_eq, cases_lt}
+use Rattle.std.proofs.lemmas.Bool.{false≢true, false_from_ne_true, cases_eq, cases_lt}
 use Rattle.std.proofs.lemmas.Option.{none-some, same_Some}
 use Rattle.hum_score.specs.Row.{Row, text_of}
 use Rattle.hum_turns.specs.Turns.{State, Gives, Reads, Takes, Ends, state, ready, Step}
 use Rattle.hum_turns.specs.Failures.{Now, Turn, is_ready, result}
-use Rattle.hum_turns.specs.Near.{touched, LooksAt}
+use Rattle.hum_turns.specs.Near.{touched, LooksAt, IsOneOf}
+use Rattle.hum_turns.specs.Plan.{last}
 use Rattle.hum_turns.proofs.Near.{ready_untouched}
 use Rattle.hum_turns.proofs.States.{taker, last_next}
-use Rattle.hum_engine.specs.Looks.{Sees, FromLeft, Beside, FromRight}
+use Rattle.hum_engine.specs.Looks.{Sees, FromLeft, Beside, Along, FromRight, Reaches}
+use Rattle.hum_engine.specs.Looks.Reaches.{Itself, Through}
 use Rattle.hum_engine.specs.Scene.{Scene, plan_of, TakesFrom, IsNetPlan}
 
 -- Who takes from a link, and which links there are.
@@ -20,6 +22,41 @@ pub index_all : (P : ℕ → Type 0) (ss : List ℕ) (place t : ℕ) → AllByRe
 index_all P [] place t h e = absurd (none-some t e)
 index_all P (x ∷ ss) zero t h e = subst P (same_Some x t e) h.0
 index_all P (x ∷ ss) (suc place) t h e = index_all P ss place t h.1 e
+
+one_of : (ss : List ℕ) (t : ℕ) → IsOneOf ss t ⊎ (IsOneOf ss t → ⊥)
+one_of [] t = inr (λ one. none-some t one.1)
+one_of (x ∷ ss) t = elim (cases_eq x t) [
+  | inl here ↦ inl (zero, ap Some here)
+  | inr apart ↦ ⊎_elim (λ one. inl (suc one.0, one.1)) (λ none. inr (λ one. behind one.0 apart none one.1)) (one_of ss t)
+]
+  where
+    behind : (place : ℕ) → x ≢ t → (IsOneOf ss t → ⊥) → slice_get (x ∷ ss) place ≡ Some t → ⊥
+    behind zero apart none e = apart (same_Some x t e)
+    behind (suc place) apart none e = none (place, e)
+
+-- Who takes from a link is told.
+takes_or : (s : Scene) (r t : ℕ) → TakesFrom s.count s.kinds r t ⊎ (TakesFrom s.count s.kinds r t → ⊥)
+takes_or s r t = elim (cases_lt r s.count) [
+  | inl less ↦ ⊎_elim (λ one. inl (inl (less, one)))
+      (λ none. inr (⊎_elim (λ w. none w.1) (λ w. omega (arith, less, w.0))))
+      (one_of (s.kinds r).stage.sources t)
+  | inr more ↦ elim (cases_eq r s.count) [
+    | inl sink ↦ ⊎_elim (λ at. inl (inr (sink, at)))
+        (λ apart. inr (⊎_elim (λ w. omega (arith, more, w.0)) (λ w. apart w.1)))
+        (cases_eq t (last (plan_of s)))
+    | inr apart ↦ inr (⊎_elim (λ w. omega (arith, more, w.0)) (λ w. apart w.0))
+  ]
+]
+
+-- It stands behind that, and so does each actor that a stage reaches.
+takes_above : (s : Scene) → IsNetPlan s.count s.kinds s.size → (r t : ℕ) → TakesFrom s.count s.kinds r t → t < r
+takes_above s plan r t = ⊎_elim
+    (λ w. index_all (λ i. i < r) (s.kinds r).stage.sources w.1.0 t (plan.ok.below r w.0) w.1.1)
+    (λ w. omega (arith, w.0, w.1, last_next s.count plan.ok.some))
+
+reaches_up : (s : Scene) → IsNetPlan s.count s.kinds s.size → {k j : ℕ} → Reaches s.count s.kinds k j → k ≤ j
+reaches_up s plan Itself = omega arith
+reaches_up s plan (Through takes on) = omega (arith, takes_above s plan _ _ takes, reaches_up s plan on)
 
 -- A turn of an actor, which changes this link and doesn't end the run.
 pub record IsTurn (s : Scene) (k link : ℕ) (old new : Now Row) : Type 0 where
@@ -47,10 +84,7 @@ module _ {s : Scene} {k link : ℕ} {old new : Now Row} (t : IsTurn s k link old
   pub touched_below : link ≤ k
   touched_below = ⊎_elim
       (λ (is : k ≡ link). omega (arith, is))
-      (λ (apart : k ≢ link). ⊎_elim
-      (λ w. omega (arith, index_all (λ i. i < k) (s.kinds k).stage.sources w.1.0 link (t.plan.ok.below k w.0) w.1.1))
-      (λ w. omega (arith, w.0, w.1, last_next s.count t.plan.ok.some))
-      (took apart))
+      (λ (apart : k ≢ link). omega (arith, takes_above s t.plan k link (took apart)))
       (cases_eq k link)
 
   pub moves : Step (plan_of s) s.size k old.links new.links
@@ -130,6 +164,26 @@ module _ {s : Scene} {k link taker : ℕ} {old new : Now Row} (t : IsTurn s k li
             (cases_eq j link),
       )
 
+  -- Where those alone may be ready whom a stage reaches, those may be whom the owner of that link reaches.
+  pub along_moved : {by : ℕ} → Sees (Along k by) s old → Sees (Along link by) s new
+  along_moved sees = (
+    omega (arith, touched_below t, sees.0),
+    sees.1,
+    λ j less ready. ⊎_elim
+        (λ (here : j ≡ link). subst (Reaches s.count s.kinds link) (sym here) Itself)
+        (λ apart. ⊎_elim
+        (λ takes. Through takes Itself)
+        (λ other. from (sees.2 j less (sym (apart_as_ready j (omega (arith, less, sees.1)) apart other) ∙ ready)))
+        (takes_or s j link))
+        (cases_eq j link),
+  )
+    where
+      from : {j : ℕ} → Reaches s.count s.kinds k j → Reaches s.count s.kinds link j
+      from {j} on = ⊎_elim
+          (λ (is : k ≡ link). subst (λ i. Reaches s.count s.kinds i j) is on)
+          (λ apart. Through (took t apart) on)
+          (cases_eq k link)
+
   -- From the right: nobody who stands to the right of who takes from it.
   pub right_moved : Sees (FromRight k) s old → Sees (FromRight taker) s new
   right_moved sees = (
@@ -138,6 +192,37 @@ module _ {s : Scene} {k link taker : ℕ} {old new : Now Row} (t : IsTurn s k li
         ((λ e. absurd (omega (arith, more, e, u.behind))), (λ e. absurd (omega (arith, more, e))))
         (sees.1 j (omega (arith, more, u.behind, one)) less),
   )
+
+-- Those whom a stage reaches stand behind it; and where it isn't ready its taker reaches them.
+pub along_left : (s : Scene) (now : Now Row) {k by m : ℕ} → IsNetPlan s.count s.kinds s.size → m ≤ k → m ≤ by
+    → Sees (Along k by) s now → Sees (FromLeft m) s now
+along_left s now plan below within sees = (
+  omega (arith, within, sees.1),
+  λ j less. false_from_ne_true _ (λ set.
+      omega (arith, less, below, reaches_up s plan (sees.2 j (omega (arith, less, within)) set))),
+)
+
+pub along_passed : (s : Scene) (now : Now Row) {k by next : ℕ} → is_ready (plan_of s) s.size now k ≡ false → IsTaker s k next
+    → Sees (Along k by) s now → Sees (Along next by) s now
+along_passed s now {k} {next = next} isnt u sees = (
+  u.most,
+  sees.1,
+  λ j less is. passed (sees.2 j less is) is,
+)
+  where
+    passed : {j : ℕ} → Reaches s.count s.kinds k j → is_ready (plan_of s) s.size now j ≡ true → Reaches s.count s.kinds next j
+    passed Itself is = absurd (false≢true (sym isnt ∙ is))
+    passed {j} (Through {taker = r} takes on) is = subst (λ i. Reaches s.count s.kinds i j) (u.alone r takes) on
+
+pub beside_along : (s : Scene) (now : Now Row) {k by : ℕ} → Sees (Beside k by) s now → Sees (Along k by) s now
+beside_along s now {k} sees = (
+  omega (arith, sees.0, sees.1),
+  sees.1,
+  λ j less ready. ⊎_elim
+      (λ (here : j ≡ k). subst (Reaches s.count s.kinds k) (sym here) Itself)
+      (λ apart. absurd (false≢true (sym (sees.3 j less apart) ∙ ready)))
+      (cases_eq j k),
+)
 
 -- Who is ready is no actor of which it is known that it isn't.
 not_it : {s : Scene} {now : Now Row} (some : AnyReady s now) → is_ready (plan_of s) s.size now some.actor ≡ false → ⊥

@@ -26,7 +26,7 @@ use Rattle.hum_turns.proofs.Ending.{every_end}
 use Rattle.hum_turns.proofs.Against.{meaning_fine}
 use Rattle.hum_nodes.proofs.Fining.{fine_is}
 use Rattle.hum_engine.specs.declared.net.Net.{Net}
-use Rattle.hum_engine.specs.Looks.{Look, FromLeft, Beside, FromRight, Unseen, Sees}
+use Rattle.hum_engine.specs.Looks.{Look, FromLeft, Beside, Along, FromRight, Unseen, Sees}
 use Rattle.hum_engine.specs.Scene.{Scene, plan_of, moved, Stands}
 use Rattle.hum_engine.specs.Nets.{NetAt, AtEach, AreOver, IsRunning, IsNet, Leads, RunsTo, Outcome, WroteFront, WroteAll}
 use Rattle.hum_engine.proofs.Netting.{unfailed_now}
@@ -56,6 +56,7 @@ pub seen : (look : Look) (s : Scene) (rests : ℕ → List ℕ) (now : Now Row) 
     → Sees look (record s { rests = rests }) now
 seen (FromLeft k) s rests now sees = sees
 seen (Beside k taker) s rests now sees = sees
+seen (Along k taker) s rests now sees = sees
 seen (FromRight k) s rests now sees = sees
 seen Unseen s rests now sees = tt
 

@@ -19,7 +19,7 @@ use Rattle.hum_nodes.specs.Nodes.{StandsAs, is_source}
 use Rattle.hum_nodes.proofs.Followed.{read_none}
 use Rattle.hum_nodes.proofs.Standing.{any_rest, reads_few}
 use Rattle.hum_engine.specs.declared.net.Net.{Net}
-use Rattle.hum_engine.specs.Looks.{Look, FromLeft, Beside, FromRight, Unseen, leaning, still_to_ask}
+use Rattle.hum_engine.specs.Looks.{Look, FromLeft, Beside, Along, FromRight, Unseen, leaning, still_to_ask}
 use Rattle.hum_engine.specs.Readers.{ended_at}
 use Rattle.hum_engine.specs.Scene.{Scene, plan_of, at_of, before_all}
 use Rattle.hum_engine.specs.Nets.{NetAt, AtEach, IsNet, IsRunning, MayStep, HasAdvanced, MarksFailures, IsCloser}
@@ -35,6 +35,7 @@ use Rattle.hum_engine.proofs.Running.{no_rests}
 few_still : (look : Look) → still_to_ask look ≤ 256
 few_still (FromLeft k) = omega arith
 few_still (Beside k taker) = omega arith
+few_still (Along k taker) = omega arith
 few_still (FromRight k) = omega arith
 few_still Unseen = omega arith
 
@@ -97,25 +98,25 @@ module _ {S R W : Type 0} {stage : Stage S} {writer : Sink W} where
           (rested (λ i n at src. ap (λ (r : ℕ → List ℕ). r i) is ∙ (left_at i).1 n at src) h);
     }
 
--- A run goes on, from where nothing was known of who is ready: it has come to this net, and so much is known.
+-- A run goes on: it has come to this net, and so much was known of who is ready and is known now.
 pub record Ran {S R W O : Type 0} (stage : Stage S) (reader : Source R)
-    (writer : Sink W) (order : Order O) (o p : O) (look : Look) (old new : Net S R W) : Type 0 where
-  pub may : MayStep stage writer Unseen old
-  pub advanced : HasAdvanced stage reader writer order o p Unseen look old new false
+    (writer : Sink W) (order : Order O) (o p : O) (first look : Look) (old new : Net S R W) : Type 0 where
+  pub may : MayStep stage writer first old
+  pub advanced : HasAdvanced stage reader writer order o p first look old new false
 
 module _ {S R W O : Type 0} {stage : Stage S} {reader : Source R} {writer : Sink W} {order : Order O} {o : O}
     {old : Net S R W} where
-  pub ran_first : MayStep stage writer Unseen old → Ran stage reader writer order o o Unseen old old
-  ran_first may = record { may = may; advanced = rested_on may refl refl (λ start s now h none sees. tt) }
+  pub ran_first : {first : Look} → MayStep stage writer first old → Ran stage reader writer order o o first first old old
+  ran_first may = record { may = may; advanced = rested_on may refl refl (λ start s now h none sees. sees) }
 
-  pub ran_left : MayStep stage writer Unseen old → Ran stage reader writer order o o (FromLeft 0) old old
+  pub ran_left : MayStep stage writer Unseen old → Ran stage reader writer order o o Unseen (FromLeft 0) old old
   ran_left may = record {
     may = may;
     advanced = rested_on may refl refl (λ start s now h none sees. (omega arith, λ j less. absurd (omega (arith, less))));
   }
 
   pub ran_right : {sink : ℕ} → MayStep stage writer Unseen old → sink ≡ length old.web.nodes.items
-      → Ran stage reader writer order o o (FromRight sink) old old
+      → Ran stage reader writer order o o Unseen (FromRight sink) old old
   ran_right {sink} may is = record {
     may = may;
     advanced = rested_on may refl refl (λ start s now h none sees.
@@ -123,24 +124,24 @@ module _ {S R W O : Type 0} {stage : Stage S} {reader : Source R} {writer : Sink
         (omega (arith, at), λ j more less. absurd (omega (arith, more, less, at))));
   }
 
-  module _ {p : O} {look : Look} {net : Net S R W} (ran : Ran stage reader writer order o p look old net) where
+  module _ {p : O} {first look : Look} {net : Net S R W} (ran : Ran stage reader writer order o p first look old net) where
     pub may_go : MayStep stage writer look net
     may_go = may_then ran.may ran.advanced
 
     -- A step more.
     module _ {q : O} {after : Look} {new : Net S R W} {is_over : Bool}
         (more : HasAdvanced stage reader writer order p q look after net new is_over) where
-      all : HasAdvanced stage reader writer order o q Unseen after old new is_over
-      all = advanced_twice ran.may ran.advanced more
+      pub ran_all : HasAdvanced stage reader writer order o q first after old new is_over
+      ran_all = advanced_twice ran.may ran.advanced more
 
-      pub ran_on : is_over ≡ false → Ran stage reader writer order o q after old new
+      pub ran_on : is_over ≡ false → Ran stage reader writer order o q first after old new
       ran_on on = record {
         may = ran.may;
-        advanced = subst (HasAdvanced stage reader writer order o q Unseen after old new) on all;
+        advanced = subst (HasAdvanced stage reader writer order o q first after old new) on ran_all;
       }
 
-      pub ran_out : is_over ≡ true → HasAdvanced stage reader writer order o q Unseen after old new true
-      ran_out over = subst (HasAdvanced stage reader writer order o q Unseen after old new) over all
+      pub ran_out : is_over ≡ true → HasAdvanced stage reader writer order o q first after old new true
+      ran_out over = subst (HasAdvanced stage reader writer order o q first after old new) over ran_all
 
       -- The turns that are left become fewer.
       pub fewer_left : is_over ≡ false → IsCloser look after net new is_over

@@ -1,6 +1,6 @@
 //! A web whose last stage is written.
 ghost use Rattle.std.specs.Prelude.{◌≡◌, ◌≤◌, ◌<◌, ◌+◌, ◌-◌, ◌^◌, ℕ, true};
-ghost use Rattle.std.specs.Prelude.{List, length, Option, None, Some, is_some, is_none};
+ghost use Rattle.std.specs.Prelude.{List, length, Option, None, Some, is_some, is_none, slice_get};
 ghost use Rattle.std.specs.Prelude.{MatchOption, IfOk, IfErr};
 ghost use Rattle.hum_score.specs.Row.{Row};
 ghost use Rattle.hum_turns.specs.Plan.{last};
@@ -14,7 +14,7 @@ ghost use Rattle.hum_engine.specs.Scene.{Scene, plan_of, Somewhere, IsAt, IsNetP
 ghost use Rattle.hum_engine.specs.Scene.{held_of, rooms_of, HoldsFew, HasRoom};
 ghost use Rattle.hum_turns.specs.declared.order.Side.TheVariants as side;
 ghost use Rattle.hum_engine.specs.Looks as looks;
-ghost use Rattle.hum_engine.specs.Looks.{leaning, left_at, right_at};
+ghost use Rattle.hum_engine.specs.Looks.{leaning, left_at, along_at, right_at};
 ghost use Rattle.hum_engine.specs.Nets.{HasSent, SinkWaited, SinkActed, MayGo, IsRunning, IsAmong};
 ghost use Rattle.hum_engine.specs.Nets.{HadFewEach, IsLinked};
 ghost use Rattle.hum_engine.specs.Nets.{NetAt, AtEach, AreBegun, IsNet, RunsBy, WroteFront};
@@ -268,10 +268,26 @@ impl<S: Stage + Drop, R: Source + Drop, W: Sink> Net<S, R, W> {
             looks.Unseen self.old self.new true }
     {
         match order.side() {
-            Some(Side::Left) => self.run_from_left(),
+            Some(Side::Left) => {
+                if self.is_row() {
+                    self.run_from_left()
+                } else {
+                    self.run_tree_from_left()
+                }
+            }
             Some(Side::Right) => self.run_from_right(),
             None => self.run_by(order),
         }
+    }
+
+    // Whether each stage's link is read by the next actor.
+    fn is_row(&self) -> bool {
+        for (k, taker) in self.takers.iter().enumerate() {
+            if *taker != k + 1 {
+                return false;
+            }
+        }
+        true
     }
 
     // Makes the turns of the leftmost actor that is ready: nobody to the left of the one that is asked is.
@@ -283,7 +299,20 @@ impl<S: Stage + Drop, R: Source + Drop, W: Sink> Net<S, R, W> {
             self.new true }
     {
         let mut k = 0;
-        while let Some(next) = self.step_left(k) {
+        while let Some(next) = self.step_left(k, false) {
+            k = next;
+        }
+    }
+
+    // The same of a tree, in which nobody asks another branch in vain.
+    #[inline(never)]
+    fn run_tree_from_left(&mut self)
+        requires { MayStep S.Stage W.Sink looks.Unseen self.old }
+        ensures { HasAdvanced S.Stage R.Source W.Sink (leaning side.Left) tt tt looks.Unseen looks.Unseen self.old
+            self.new true }
+    {
+        let mut k = 0;
+        while let Some(next) = self.step_left(k, true) {
             k = next;
         }
     }
@@ -291,14 +320,14 @@ impl<S: Stage + Drop, R: Source + Drop, W: Sink> Net<S, R, W> {
     // Asks an actor, and tells who is asked next; nobody, where the run is over.
     // Each arm counts its turn, so that what a turn has come to is looked at once.
     #[inline(always)]
-    fn step_left(&mut self, k: usize) -> Option<usize>
+    fn step_left(&mut self, k: usize, is_tree: bool) -> Option<usize>
         requires { MayStep S.Stage W.Sink (looks.FromLeft k) self.old }
         ensures advanced { HasAdvanced S.Stage R.Source W.Sink (leaning side.Left) tt tt (looks.FromLeft k)
             (left_at result) self.old self.new (is_none result) }
         ensures closer { IsCloser (looks.FromLeft k) (left_at result) self.old self.new (is_none result) }
     {
         if k == self.web.count() {
-            return self.sink_left(k);
+            return self.sink_left(k, is_tree);
         }
         match self.web.turn(k) {
             Moved::Waits => Some(k + 1),
@@ -317,7 +346,7 @@ impl<S: Stage + Drop, R: Source + Drop, W: Sink> Net<S, R, W> {
             // room has come on that link: most often its stage gives at once
             Moved::Took(link) => {
                 self.turns += 1;
-                self.give_left(link, k)
+                self.give_left(link, k, is_tree)
             }
             Moved::Failed(error) => {
                 self.turns += 1;
@@ -330,7 +359,7 @@ impl<S: Stage + Drop, R: Source + Drop, W: Sink> Net<S, R, W> {
 
     // The same of the sink.
     #[inline(always)]
-    fn sink_left(&mut self, k: usize) -> Option<usize>
+    fn sink_left(&mut self, k: usize, is_tree: bool) -> Option<usize>
         requires may { MayStep S.Stage W.Sink (looks.FromLeft k) self.old }
         requires sink { k ≡ length self.old.web.nodes.items }
         ensures advanced { HasAdvanced S.Stage R.Source W.Sink (leaning side.Left) tt tt (looks.FromLeft k)
@@ -342,7 +371,7 @@ impl<S: Stage + Drop, R: Source + Drop, W: Sink> Net<S, R, W> {
             Moved::Filled => Some(k + 1),
             Moved::Gave => Some(k),
             Moved::Heard(link) => Some(link),
-            Moved::Took(link) => self.give_left(link, k),
+            Moved::Took(link) => self.give_left(link, k, is_tree),
             Moved::Failed(_) => None,
             Moved::Over => None,
         }
@@ -351,15 +380,95 @@ impl<S: Stage + Drop, R: Source + Drop, W: Sink> Net<S, R, W> {
     // The turn of a stage onto whose link room has come, if it gives at once: it was to be asked next. Where it has filled
     // its link again, nobody is ready to the left of who has taken from it.
     #[inline(always)]
-    fn give_left(&mut self, k: usize, taker: usize) -> Option<usize>
+    fn give_left(&mut self, k: usize, taker: usize, is_tree: bool) -> Option<usize>
         requires may { MayStep S.Stage W.Sink (looks.Beside k taker) self.old }
         requires room { HasRoom k self.old.web }
-        ensures advanced { HasAdvanced S.Stage R.Source W.Sink (leaning side.Left) tt tt (looks.Beside k taker)
+        ensures { HasAdvanced S.Stage R.Source W.Sink (leaning side.Left) tt tt (looks.Beside k taker)
             (left_at result) self.old self.new (is_none result) }
-        ensures turns { self.old.turns ≤ self.new.turns }
     {
         match self.give_on(k) {
             Moved::Filled => Some(taker),
+            Moved::Failed(_) => None,
+            Moved::Over => None,
+            Moved::Waits => self.go_along(k, taker, is_tree),
+            Moved::Gave => self.go_along(k, taker, is_tree),
+            Moved::Took(_) => self.go_along(k, taker, is_tree),
+            Moved::Heard(_) => self.go_along(k, taker, is_tree),
+        }
+    }
+
+    // Tells who is asked next, where to the left of the taker only those may be ready whom what this stage gives reaches. Where others
+    // stand between, these have their turns first.
+    #[inline(always)]
+    fn go_along(&mut self, k: usize, taker: usize, is_tree: bool) -> Option<usize>
+        requires may { MayStep S.Stage W.Sink (looks.Along k taker) self.old }
+        requires less { k < taker }
+        ensures { HasAdvanced S.Stage R.Source W.Sink (leaning side.Left) tt tt (looks.Along k taker)
+            (left_at result) self.old self.new (is_none result) }
+    {
+        if is_tree && k + 1 < taker {
+            return self.feed(k, taker);
+        }
+        Some(k)
+    }
+
+    // Makes the turns of these and of those from whom they take, until none of them is ready. The taker is asked next. All that
+    // a stage's turn calls stands here once more, so that it costs a row nothing.
+    #[inline(never)]
+    fn feed(&mut self, from: usize, taker: usize) -> Option<usize>
+        requires { MayStep S.Stage W.Sink (looks.Along from taker) self.old }
+        ensures { HasAdvanced S.Stage R.Source W.Sink (leaning side.Left) tt tt (looks.Along from taker)
+            (left_at result) self.old self.new (is_none result) }
+    {
+        let mut k = from;
+        while k < taker {
+            match self.step_along(k, taker) {
+                Some(next) => k = next,
+                None => return None,
+            }
+        }
+        Some(taker)
+    }
+
+    // Who takes from the link of a stage.
+    fn taker(&self, k: usize) -> usize
+        requires { k < length self.now.takers.items }
+        ensures { slice_get self.now.takers.items k ≡ Some result }
+    {
+        self.takers[k]
+    }
+
+    // Asks one of these, and tells which is asked next.
+    #[inline(always)]
+    fn step_along(&mut self, k: usize, taker: usize) -> Option<usize>
+        requires may { MayStep S.Stage W.Sink (looks.Along k taker) self.old }
+        requires less { k < taker }
+        ensures advanced { HasAdvanced S.Stage R.Source W.Sink (leaning side.Left) tt tt (looks.Along k taker)
+            (along_at taker result) self.old self.new (is_none result) }
+        ensures closer { IsCloser (looks.Along k taker) (along_at taker result) self.old self.new (is_none result) }
+    {
+        match self.act(k) {
+            Moved::Waits => Some(self.taker(k)),
+            Moved::Filled => Some(self.taker(k)),
+            Moved::Gave => Some(k),
+            Moved::Heard(link) => Some(link),
+            Moved::Took(link) => self.give_along(link, taker),
+            Moved::Failed(_) => None,
+            Moved::Over => None,
+        }
+    }
+
+    // The turn of a stage onto whose link room has come, if it gives at once: it was to be asked next.
+    #[inline(always)]
+    fn give_along(&mut self, k: usize, taker: usize) -> Option<usize>
+        requires may { MayStep S.Stage W.Sink (looks.Along k taker) self.old }
+        requires less { k < taker }
+        requires room { HasRoom k self.old.web }
+        ensures { HasAdvanced S.Stage R.Source W.Sink (leaning side.Left) tt tt (looks.Along k taker)
+            (along_at taker result) self.old self.new (is_none result) }
+    {
+        match self.give_on(k) {
+            Moved::Filled => Some(self.taker(k)),
             Moved::Failed(_) => None,
             Moved::Over => None,
             Moved::Waits => Some(k),

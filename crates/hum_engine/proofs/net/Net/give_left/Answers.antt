@@ -1,39 +1,48 @@
-use Rattle.std.proofs.Common.{ap, arith}
-use Rattle.hum_engine.proofs.Choosing.{beside_filled, beside_may, beside_on, left_asked, left_on, left_over, left_waits}
+use Rattle.hum_engine.proofs.Advancing.{advanced_twice, may_then}
+use Rattle.hum_engine.proofs.Choosing.{beside_asked, beside_filled, beside_gave, beside_less, beside_over, beside_waits}
 use Rattle.hum_engine.proofs.net.Net.give_left.Goals as goal
 
 pub give_on-requires-clause-ask : goal.give_on-requires-clause-ask
-give_on-requires-clause-ask g c = (left_asked (beside_may c.requires.may)).ask
+give_on-requires-clause-ask g c = (beside_asked c.requires.may).ask
 
-pub returns-in-Filled-clause-advanced : goal.returns-in-Filled-clause-advanced
-returns-in-Filled-clause-advanced g c = beside_filled c.requires.may c.in-Filled.ensures.0 c.in-Filled.ensures.1
+pub returns-in-Filled : goal.returns-in-Filled
+returns-in-Filled g c = beside_filled c.requires.may c.in-Filled.ensures.0 c.in-Filled.ensures.1
 
-pub returns-in-Filled-clause-turns : goal.returns-in-Filled-clause-turns
-returns-in-Filled-clause-turns g c = omega (arith, c.in-Filled.ensures.0.gone.turns)
+pub returns-in-Failed : goal.returns-in-Failed
+returns-in-Failed g c = beside_over c.requires.may c.in-Failed.ensures.1
 
-pub returns-in-Failed-clause-advanced : goal.returns-in-Failed-clause-advanced
-returns-in-Failed-clause-advanced g c =
-    beside_on c.requires.may (left_over (beside_may c.requires.may) c.in-Failed.ensures.1)
+pub go_along-requires-clause-may : goal.go_along-requires-clause-may
+go_along-requires-clause-may g c = may_then {reader = g.R.Source} c.requires.may (beside_waits c.requires.may c.in-Waits.ensures)
 
-pub returns-in-Failed-clause-turns : goal.returns-in-Failed-clause-turns
-returns-in-Failed-clause-turns g c = omega (arith, c.in-Failed.ensures.1.gone.turns)
+pub go_along-requires-clause-less : goal.go_along-requires-clause-less
+go_along-requires-clause-less g c = beside_less c.requires.may
 
-pub returns-in-Waits-clause-advanced : goal.returns-in-Waits-clause-advanced
-returns-in-Waits-clause-advanced g c =
-    beside_on c.requires.may (left_waits (beside_may c.requires.may) c.in-Waits.ensures)
+pub returns-in-Waits : goal.returns-in-Waits
+returns-in-Waits g c = advanced_twice c.requires.may (beside_waits c.requires.may c.in-Waits.ensures) c.go_along.ensures
 
-pub returns-in-Waits-clause-turns : goal.returns-in-Waits-clause-turns
-returns-in-Waits-clause-turns g c = omega (arith, ap (λ n. n.turns) c.in-Waits.ensures)
+pub go_along-requires-in-Gave-clause-may : goal.go_along-requires-in-Gave-clause-may
+go_along-requires-in-Gave-clause-may g c = may_then c.requires.may (beside_gave c.requires.may c.in-Gave.ensures)
 
-pub returns-in-Gave-clause-advanced : goal.returns-in-Gave-clause-advanced
-returns-in-Gave-clause-advanced g c =
-    beside_on c.requires.may (left_on (beside_may c.requires.may) c.in-Gave.ensures)
+pub go_along-requires-in-Gave-clause-less : goal.go_along-requires-in-Gave-clause-less
+go_along-requires-in-Gave-clause-less g c = beside_less c.requires.may
 
-pub returns-in-Gave-clause-turns : goal.returns-in-Gave-clause-turns
-returns-in-Gave-clause-turns g c = omega (arith, c.in-Gave.ensures.gone.turns)
+pub returns-in-Gave : goal.returns-in-Gave
+returns-in-Gave g c = advanced_twice c.requires.may (beside_gave c.requires.may c.in-Gave.ensures) c.go_along-in-Gave.ensures
+
+pub go_along-requires-in-Took-clause-may : goal.go_along-requires-in-Took-clause-may
+go_along-requires-in-Took-clause-may g c = absurd c.in-Took.ensures
+
+pub go_along-requires-in-Took-clause-less : goal.go_along-requires-in-Took-clause-less
+go_along-requires-in-Took-clause-less g c = absurd c.in-Took.ensures
 
 pub returns-in-Took : goal.returns-in-Took
 returns-in-Took g c = absurd c.in-Took.ensures
+
+pub go_along-requires-in-Heard-clause-may : goal.go_along-requires-in-Heard-clause-may
+go_along-requires-in-Heard-clause-may g c = absurd c.in-Heard.ensures
+
+pub go_along-requires-in-Heard-clause-less : goal.go_along-requires-in-Heard-clause-less
+go_along-requires-in-Heard-clause-less g c = absurd c.in-Heard.ensures
 
 pub returns-in-Heard : goal.returns-in-Heard
 returns-in-Heard g c = absurd c.in-Heard.ensures

@@ -1,5 +1,5 @@
 use Rattle.std.proofs.Common.{refl, ap, arith, inl, inr}
-use Rattle.hum_engine.proofs.Advancing.{advanced_twice, may_on}
+use Rattle.hum_engine.proofs.Advancing.{advanced_twice, may_on, no_fewer}
 use Rattle.hum_engine.proofs.Choosing.{left_asked, left_few, left_filled, left_on, left_over, left_rested, left_took}
 use Rattle.hum_engine.proofs.net.Net.sink_left.Goals as goal
 
@@ -39,11 +39,12 @@ give_left-requires-clause-room g c = c.in-Took.ensures.2
 
 pub returns-in-Took-clause-advanced : goal.returns-in-Took-clause-advanced
 returns-in-Took-clause-advanced g c =
-    advanced_twice c.requires.may (left_took c.requires.may c.in-Took.ensures.0 c.in-Took.ensures.1) c.give_left.ensures.advanced
+    advanced_twice c.requires.may (left_took c.requires.may c.in-Took.ensures.0 c.in-Took.ensures.1) c.give_left.ensures
 
 pub returns-in-Took-clause-closer : goal.returns-in-Took-clause-closer
 returns-in-Took-clause-closer g c =
-    inr (inl (omega (arith, c.in-Took.ensures.0.gone.turns, c.give_left.ensures.turns)))
+    let may = may_on (left_took c.requires.may c.in-Took.ensures.0 c.in-Took.ensures.1).stepped c.requires.may in
+    inr (inl (omega (arith, c.in-Took.ensures.0.gone.turns, no_fewer may c.give_left.ensures)))
 
 pub returns-in-Over-clause-advanced : goal.returns-in-Over-clause-advanced
 returns-in-Over-clause-advanced g c = left_over c.requires.may c.in-Over.ensures.1

@@ -1,6 +1,6 @@
-use Rattle.std.proofs.Common.{◌∙◌, refl, sym, arith, inr}
+use Rattle.std.proofs.Common.{◌∙◌, refl, sym, arith, inl, inr}
 use Rattle.hum_engine.specs.declared.web.Moved.TheVariants as moves
-use Rattle.hum_engine.proofs.Advancing.{advanced_twice, may_on}
+use Rattle.hum_engine.proofs.Advancing.{advanced_twice, may_on, no_fewer}
 use Rattle.hum_engine.proofs.Choosing.{left_asked, left_few, left_filled, left_on, left_over, left_rested, left_took}
 use Rattle.hum_engine.proofs.Settling.{asked_few, asked_number, asked_stage, came}
 use Rattle.hum_engine.proofs.net.Net.step_left.Goals as goal
@@ -61,7 +61,13 @@ give_left-requires-clause-may g c =
 pub returns-in-Took-clause-advanced : goal.returns-in-Took-clause-advanced
 returns-in-Took-clause-advanced g c =
     let w = came g.R.Source (λ here. c.if-k-count.false (here ∙ sym c.count.ensures)) (left_asked c.requires).ask (moves.Took c.in-Took.link) c.in-Took.ensures refl in
-    advanced_twice c.requires (left_took c.requires w.0 w.1) c.give_left.ensures.advanced
+    advanced_twice c.requires (left_took c.requires w.0 w.1) c.give_left.ensures
+
+pub returns-in-Took-clause-closer : goal.returns-in-Took-clause-closer
+returns-in-Took-clause-closer g c =
+    let w = came g.R.Source (λ here. c.if-k-count.false (here ∙ sym c.count.ensures)) (left_asked c.requires).ask (moves.Took c.in-Took.link) c.in-Took.ensures refl in
+    let may = may_on (left_took c.requires w.0 w.1).stepped c.requires in
+    inr (inl (omega (arith, w.0.gone.turns, no_fewer may c.give_left.ensures)))
 
 pub fail-requires : goal.fail-requires
 fail-requires g c =
