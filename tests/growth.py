@@ -29,8 +29,8 @@ SECONDS = 600
 
 
 class Case:
-    """A plan over a score `a` that `made` makes of a size, by four sizes for instructions and four for memory, or for one of them; the bound of
-    its memory in MiB by the size; and whether each read moves one byte."""
+    """A plan, or one that is made of a size, over a score `a` that `made` makes of a size, by four sizes for instructions and four for memory, or for
+    one of them; the bound of its memory in MiB by the size; and whether each read moves one byte."""
 
     def __init__(self, name, plan, made, counted=None, held=None, bound=lambda size: SMALL, of_bytes=False):
         self.name, self.plan, self.made, self.bound, self.of_bytes = name, plan, made, bound, of_bytes
@@ -70,10 +70,10 @@ def long_notes(size):
     return '**kern\n' + ('4c ' * (size // 3) + '4c\n') * 4 + '*-\n'
 
 
-def beside(width):
-    """A plan that puts a column of each of so many branches side by side."""
+def beside(width, commands=''):
+    """A plan that puts a column of each of so many branches side by side, behind these commands."""
     names = [f'b{k}' for k in range(width)]
-    return '\n'.join([f'{name}: read a | extract -f {k % 4 + 1}' for k, name in enumerate(names)] + ['out: assemble ' + ' '.join(names)])
+    return '\n'.join([f'{name}: read a{commands} | extract -f {k % 4 + 1}' for k, name in enumerate(names)] + ['out: assemble ' + ' '.join(names)])
 
 
 COMMANDS = ['rid -G', 'extract -f 1,3', "cleave -i '**kern' -o '**chord'", "yank -n '^=' -r 2-$", 'ditto', 'trans -d 1 -c 2', 'semits -x', 'recip',
@@ -88,6 +88,7 @@ def of_commands():
     yield Case('five in a row', 'out: read a | rid -G | extract -f 1,3 | ditto | semits -x | rid -L', notes, 320, 4000)
     for width in (2, 15):
         yield Case(f'a tree of {width}', beside(width), notes, 160, 4000, lambda size: 2 * SMALL)
+    yield Case('the branches of a tree', lambda size: beside(size, ' | rid -L' * 3), lambda size: notes(400), 1)
     # (each bar and record of the four columns waits for the end)
     yield Case('yank from the end', "out: read a | yank -l -r '$-60000-$'", notes, 320, 4000, lambda size: waiting(size * 9 / 8, 20, 4))
 
@@ -137,7 +138,8 @@ def of_time():
 
 def run(case, size, room, program, library, before=()):
     """Runs a case over a score of a size, behind the words of a program before it: what is told on standard error."""
-    write(f'{room}/plan', case.plan.encode() + b'\n')
+    plan = case.plan(size) if callable(case.plan) else case.plan
+    write(f'{room}/plan', plan.encode() + b'\n')
     write(f'{room}/a', case.made(size).encode())
     loaded = {'LD_PRELOAD': library, 'COUNTS': f'{room}/said'} if library and (case.of_bytes or not before) else {}
     fault = {'FAULT': 'read 0 0'} if case.of_bytes else {}
