@@ -280,10 +280,10 @@ impl<S: Stage + Drop, R: Source + Drop, W: Sink> Net<S, R, W> {
         }
     }
 
-    // Whether each stage's link is read by the next actor.
+    // Whether each stage but those that read gives to the next actor.
     fn is_row(&self) -> bool {
         for (k, taker) in self.takers.iter().enumerate() {
-            if *taker != k + 1 {
+            if *taker != k + 1 && !self.web.reads(k) {
                 return false;
             }
         }

@@ -337,6 +337,16 @@ impl<S: Stage + Drop, R: Source + Drop> Web<S, R> {
         self.links.len() - 1
     }
 
+    /// Whether a stage reads bytes; not where there is no such stage.
+    pub fn reads(&self, k: usize) -> bool
+        ensures { IsKind result k self.now }
+    {
+        if k >= self.nodes.len() {
+            return false;
+        }
+        self.nodes[k].is_source()
+    }
+
     /// How many records lie on the link of a stage; none where there is no such stage.
     pub fn linked(&self, k: usize) -> usize
         ensures stage { (s : Scene) → HasStage S.Stage k self.now s
