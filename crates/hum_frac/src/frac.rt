@@ -125,6 +125,20 @@ impl Frac {
         }
     }
 
+    /// Its number above the bar, in lowest terms.
+    pub fn numerator(self) -> u64
+        ensures { result ≡ self.top }
+    {
+        self.numerator
+    }
+
+    /// Its number below the bar, in lowest terms.
+    pub fn denominator(self) -> u64
+        ensures { result ≡ self.bottom }
+    {
+        self.denominator
+    }
+
     /// Whether both numbers are small.
     fn is_small(self) -> bool
         ensures { result ≡ (nat_lt self.top 2147483648 && nat_lt self.bottom 2147483648) }

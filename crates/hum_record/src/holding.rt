@@ -9,7 +9,7 @@ ghost use Rattle.hum_record.specs.Room.{IsRoomOf, most_places};
 ghost use Rattle.hum_score.specs.Spelling.{has_byte, reading, Fails};
 
 use crate::RecordFault;
-use crate::near::NEAR;
+use crate::near::{FEW, NEAR};
 use crate::reading::cut;
 use crate::room::{
     LEAST_BYTES, LEAST_PLACES, SHORT_BYTES, SHORT_PLACES, fill_bytes, fill_places, give_bytes,
@@ -28,7 +28,7 @@ fn hold(held: &mut Vec<u8>, text: &[u8]) -> Result<(), AllocError>
     }
     held.clear();
     held.extend_from_slice(text)?;
-    fill_bytes(held, text.len() + 1)?;
+    fill_bytes(held, text.len() + NEAR)?;
     held[text.len()] = b'\n';
     Ok(())
 }
@@ -137,7 +137,7 @@ pub fn hold_copy(
     }
     places.clear();
     places.extend_from_slice(ends)?;
-    fill_places(places, ends.len())
+    fill_places(places, ends.len() + FEW)
 }
 
 /// Moves a text and the places to memory of their own, where there is too much room for them.

@@ -31,6 +31,7 @@ pub use contents::{is_barline, is_data, is_filled, is_null};
 pub use growing::GrowingText;
 pub use hum_score::{Kind, RecordFault, SpinedKind};
 pub use nulls::{null_of, null_record};
+pub use putting::put_token;
 pub use reading::{Record, ShortLine};
 pub use record_draft::RecordDraft;
 pub use selection::Selection;
