@@ -399,7 +399,6 @@ impl<S: Stage + Drop, R: Source + Drop, W: Sink> Net<S, R, W> {
 
     // Tells who is asked next, where to the left of the taker only those may be ready whom what this stage gives reaches. Where others
     // stand between, these have their turns first.
-    #[inline(always)]
     fn go_along(&mut self, k: usize, taker: usize, is_tree: bool) -> Option<usize>
         requires may { MayStep S.Stage W.Sink (looks.Along k taker) self.old }
         requires less { k < taker }
@@ -439,7 +438,6 @@ impl<S: Stage + Drop, R: Source + Drop, W: Sink> Net<S, R, W> {
     }
 
     // Asks one of these, and tells which is asked next.
-    #[inline(always)]
     fn step_along(&mut self, k: usize, taker: usize) -> Option<usize>
         requires may { MayStep S.Stage W.Sink (looks.Along k taker) self.old }
         requires less { k < taker }
@@ -459,7 +457,6 @@ impl<S: Stage + Drop, R: Source + Drop, W: Sink> Net<S, R, W> {
     }
 
     // The turn of a stage onto whose link room has come, if it gives at once: it was to be asked next.
-    #[inline(always)]
     fn give_along(&mut self, k: usize, taker: usize) -> Option<usize>
         requires may { MayStep S.Stage W.Sink (looks.Along k taker) self.old }
         requires less { k < taker }
