@@ -9,21 +9,20 @@ the files are written into the crate.
 It tells how many calls of each kind were admitted, and before and after the lemmas, the lines, and the processor's seconds of a check of all these
 files. Where those grew by more than two percent of the crate's seconds in `tests/measured.txt` the crate stays as it was, but for --slower. A
 call may take few steps while it is tried, so that none gets in that takes long. --quick tries bodies and clauses alone, and no lemma of a `where`
-block; --keep leaves the scratch copy. Before it and after it: `rt check` in the crate.
+block; --keep leaves the scratch copy. It begins with what `rt ci` has proved of the crates below. After it: `rt ci` of the crate.
 """
 import collections
 import os
 import re
-import resource
-import shutil
 import subprocess
 import sys
-import tempfile
 import time
 from pathlib import Path
 
 ROOT = Path(__file__).resolve().parent.parent
 CRATES = ROOT / 'crates'
+sys.path.insert(0, str(ROOT / 'tests'))
+from edits import Room, crates_of  # noqa: E402
 # steps that a call may take while it is tried: some hundredths of a second
 STEPS = 20000
 WIDTH = 110
@@ -509,13 +508,22 @@ def without(lines, lemmas):
 
 # ---- checks
 
-def check(folder, log):
-    """What a check of a crate says, and the seconds of the processor that it took."""
-    before = resource.getrusage(resource.RUSAGE_CHILDREN)
-    done = subprocess.run(['nice', '-n', '5', 'rt', 'check', '--jobs', '1'], cwd=folder, stdout=subprocess.PIPE, stderr=subprocess.STDOUT)
-    after = resource.getrusage(resource.RUSAGE_CHILDREN)
-    log.write_text(done.stdout.decode())
-    return done.stdout.decode(), after.ru_utime + after.ru_stime - before.ru_utime - before.ru_stime
+class Scratch:
+    """A copy of a crate, over the libraries of those that it stands on."""
+
+    def __init__(self, crate):
+        self.crate = crates_of(ROOT)[crate]
+        self.room = Room(ROOT, [self.crate])
+        self.folder, self.log = Path(self.room.folder) / 'crates' / crate, Path(self.room.folder) / 'log'
+        missing = {it.name for it in self.crate.below} - self.room.prove(1)[0]
+        if missing:
+            sys.exit(f'{crate}: not proved below: {" ".join(sorted(missing))}')
+
+    def check(self):
+        """What a check of the copy says, and the seconds of the processor that it took."""
+        _, said, (_, seconds) = self.room.check(self.crate, self.folder, f'{self.room.folder}/kept')
+        self.log.write_text(said)
+        return said, seconds
 
 
 def proved(said):
@@ -537,11 +545,11 @@ def read_from(folder, names):
     return {file: (folder / 'proofs' / file).read_text().rstrip('\n').split('\n') for file in names}
 
 
-def measured(folder, files, log):
+def measured(scratch, files):
     """A check of all of these files, though they were checked before."""
-    written_to(folder, files, [f'-- {os.urandom(8).hex()}'])
-    said, seconds = check(folder, log)
-    written_to(folder, files)
+    written_to(scratch.folder, files, [f'-- {os.urandom(8).hex()}'])
+    said, seconds = scratch.check()
+    written_to(scratch.folder, files)
     return proved(said), seconds
 
 
@@ -549,30 +557,6 @@ def share_of(crate):
     """Two percent of the seconds that a check of the crate takes."""
     lines = [line.split() for line in (ROOT / 'tests' / 'measured.txt').read_text().split('\n')]
     return next((int(line[2]) for line in lines if line[:1] == [crate]), 0) * 0.02
-
-
-def below(crate):
-    """The crate and those that it stands on."""
-    lines = [line.split('#')[0] for line in (ROOT / 'crates.txt').read_text().split('\n')]
-    stands = {line.split(':')[0].split()[0]: line.split(':')[1].split() for line in lines if ':' in line}
-    found, ahead = set(), [crate]
-    while ahead:
-        it = ahead.pop()
-        if it in stands and it not in found:
-            found.add(it)
-            ahead += stands[it]
-    return found
-
-
-def scratch_of(crate):
-    """A copy of the crate and of those that it stands on, with what their checks have kept."""
-    scratch, kept = Path(tempfile.mkdtemp(prefix='sweep-')), below(crate)
-    (scratch / 'crates').mkdir()
-    lines = (ROOT / 'crates.txt').read_text().split('\n')
-    (scratch / 'crates.txt').write_text('\n'.join(line for line in lines if line.split(':')[0] in kept) + '\n')
-    for it in kept:
-        subprocess.run(['cp', '-a', CRATES / it, scratch / 'crates' / it], check=True)
-    return scratch
 
 
 # ---- a sweep
@@ -628,19 +612,19 @@ def take_back(files, forms, said, again):
     return count
 
 
-def in_place(crate, folder, files, forms, log):
+def in_place(scratch, files, forms):
     """The files with what was admitted in place, once that is proved."""
     for turn in range(ROUNDS):
         new = {file: applied(lines, choice(forms[file])) for file, lines in files.items()}
-        written_to(folder, {file: lines for file, (lines, _) in new.items()})
-        said, _ = check(folder, log)
+        written_to(scratch.folder, {file: lines for file, (lines, _) in new.items()})
+        said, _ = scratch.check()
         if proved(said):
             return {file: lines for file, (lines, _) in new.items()}
         count = take_back(new, forms, said, turn > 0)
         print(f'  taken back: {count}', flush=True)
         if not count:
             break
-    sys.exit(f'{crate}: not proved, see {log}')
+    sys.exit(f'{scratch.crate.name}: not proved, see {scratch.log}')
 
 
 def pruned(files, new, others, crate):
@@ -671,34 +655,34 @@ def told(labels):
 
 
 def sweep(crate):
-    scratch = scratch_of(crate)
-    folder, log = scratch / 'crates' / crate, scratch / 'log'
+    scratch = Scratch(crate)
+    folder = scratch.folder
     files = read_from(folder, [str(it.relative_to(folder / 'proofs')) for it in sorted((folder / 'proofs').glob('**/*.antt')) if is_swept(it)])
     swept = {CRATES / crate / 'proofs' / file for file in files}
     others = [path.read_text() for path in CRATES.glob('*/**/*') if path.suffix in ('.antt', '.rt') and 'out' not in path.parts and path not in swept]
-    holds, before = measured(folder, files, log)
+    holds, before = measured(scratch, files)
     if not holds:
-        sys.exit(f'{crate}: not proved before, see {log}')
+        sys.exit(f'{crate}: not proved before, see {scratch.log}')
     forms, copies = {}, {}
     for file, lines in files.items():
         forms[file], copies[file] = tried(lines)
     written_to(folder, copies)
-    said, trying = check(folder, log)
+    said, trying = scratch.check()
     for file in files:
         mark(forms[file], said, file)
     tries = collections.Counter(form.label for its in forms.values() for form in its)
     admitted = collections.Counter(form.label for its in forms.values() for form in its if not form.failed)
     print(f'  {trying:.0f} s to try: ' + ', '.join(f'{label} {admitted[label]} of {tries[label]}' for label in tries), flush=True)
-    new = in_place(crate, folder, files, forms, log)
+    new = in_place(scratch, files, forms)
     taken = [form for its in forms.values() for form in choice(its)]
     written_to(folder, pruned(files, new, others, crate))
     subprocess.run(['rt', 'fmt'], cwd=folder, stdout=subprocess.DEVNULL)
     less = read_from(folder, new)
-    if proved(check(folder, log)[0]):
+    if proved(scratch.check()[0]):
         new = less
     else:
-        print(f'  not proved without what nothing names: {[it for it in errors(log.read_text())][:3]}'[:300])
-    _, after = measured(folder, new, log)
+        print(f'  not proved without what nothing names: {[it for it in errors(scratch.log.read_text())][:3]}'[:300])
+    _, after = measured(scratch, new)
     lemmas = [lemma for lines in files.values() for lemma in lemmas_of(lines)]
     print(f'{crate}: {len({form.lemma for form in taken})} lemmas of {len(lemmas)}, {len(lemmas) - sum(len(lemmas_of(it)) for it in new.values())} gone, '
           f'lines {count(files)} to {count(new)}, seconds {before:.1f} to {after:.1f} ({told(collections.Counter(form.label for form in taken))})', flush=True)
@@ -707,7 +691,7 @@ def sweep(crate):
     else:
         written_to(CRATES / crate, {file: lines for file, lines in new.items() if lines != files[file]})
     if '--keep' not in sys.argv:
-        shutil.rmtree(scratch)
+        scratch.room.clear()
 
 
 def main():
