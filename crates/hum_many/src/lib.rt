@@ -9,8 +9,6 @@ mod cases;
 mod end;
 mod held;
 mod many;
-#[cfg(test)]
-mod tests;
 
 pub use end::ManyEnd;
 pub use many::run_many;

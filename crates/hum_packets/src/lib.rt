@@ -8,8 +8,6 @@ mod answers;
 pub mod laws;
 mod packets;
 mod stop;
-#[cfg(test)]
-mod tests;
 mod texts;
 mod writing;
 

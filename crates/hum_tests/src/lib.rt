@@ -9,6 +9,7 @@
 mod chosen;
 #[cfg(test)]
 mod compared;
+pub mod example;
 #[cfg(test)]
 mod faults;
 #[cfg(test)]
@@ -26,6 +27,8 @@ mod lines;
 #[cfg(test)]
 mod links;
 #[cfg(test)]
+mod many;
+#[cfg(test)]
 mod memory;
 #[cfg(test)]
 mod nets;
@@ -33,6 +36,8 @@ mod nets;
 mod nodes;
 #[cfg(test)]
 mod origins;
+#[cfg(test)]
+mod packets;
 #[cfg(test)]
 mod path;
 #[cfg(test)]

@@ -1,8 +1,5 @@
 //! Packets that are read and written, in pieces and where calls fail.
-use crate::answers::Answers;
-use crate::packets::Packets;
-use crate::stop::Stop;
-use crate::texts::read_text;
+use hum_packets::{Answers, Packets, Stop, read_text};
 use hum_text::calls::Marked;
 use std::process::Abort;
 

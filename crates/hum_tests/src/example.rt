@@ -1,6 +1,4 @@
 //! The pipeline called as a library: a bundle is run, and a net is moved turn by turn.
-#![tactic(auto)]
-
 ghost use Rattle.std.specs.Prelude.{◌≡◌, ◌||◌, ℕ, false, List, Option, length, nat_lt};
 ghost use Rattle.hum_words.specs.Bundle.{largest, plan_of as plan_of_text, score_of};
 ghost use Rattle.hum_score.specs.Row.{Row};

@@ -1,6 +1,5 @@
 //! Cases that are run in one process: their answers, streams that are cut, and calls that fail.
-use crate::end::ManyEnd;
-use crate::many::run_many;
+use hum_many::{ManyEnd, run_many};
 use hum_text::calls::Marked;
 use std::io::{self, Error, ErrorKind, Read, Write};
 use std::process::Abort;
