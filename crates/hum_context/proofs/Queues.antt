@@ -1,5 +1,5 @@
 -- Records that wait, one by one.
-use Rattle.std.proofs.Common.{◌≡◌, ◌∙◌, refl, sym, ap, ℕ, zero, suc, ◌+◌, ◌-◌, ◌≤◌, ◌<◌, Bool}
+use Rattle.std.proofs.Common.{◌≡◌, ◌≢◌, ◌∙◌, refl, sym, ap, ℕ, zero, suc, ◌+◌, ◌-◌, ◌≤◌, ◌<◌, Bool}
 use Rattle.std.proofs.Common.{true, false, ◌||◌, List, [], ◌∷◌, ◌++◌, length, filter, drop, get_or}
 use Rattle.std.proofs.Common.{append_assoc, length-append, arith, cond, Option, Some, None, inl, inr}
 use Rattle.std.specs.List.{position}
@@ -12,6 +12,7 @@ use Rattle.hum_score.specs.Spelling.{IsTextOf}
 use Rattle.hum_score.specs.declared.spines.Move.{Move}
 use Rattle.hum_score.specs.Spines.{Path, after, moves}
 use Rattle.hum_path.specs.Chains.{goes_on}
+use Rattle.hum_context.specs.declared.below.Below.{Below}
 use Rattle.hum_context.specs.declared.heard.Heard.TheVariants.{Passed, Taken}
 use Rattle.hum_context.specs.declared.queued.Queued.{Queued}
 use Rattle.hum_context.specs.declared.walk.Walk.{Walk}
@@ -26,6 +27,14 @@ use Rattle.hum_context.specs.Walking.{Has, Stands}
 use Rattle.hum_context.proofs.Leading.{linked_more, linked_none}
 use Rattle.hum_context.proofs.Tokens.{all_at, no_data, no_data_last, no_star_data, bang_no_data}
 use Rattle.hum_context.proofs.Tokens.{bang_no_last, LawfulAt}
+
+-- Only an interpretation moves spines.
+pub stays_below : (row : Row) (below : Below) (c : ℕ) → kind_of row ≢ AnyInterpretation
+    → column_in row below c ≡ Some c
+stays_below (Comment text) below c h = refl
+stays_below (Spined Local tokens) below c h = refl
+stays_below (Spined Values tokens) below c h = refl
+stays_below (Spined Interpretation tokens) below c h = absurd (h refl)
 
 none_collected : (o : Choice) (t : List ℕ) → is_collectable o t ≡ false
     → filter (is_collectable o) (t ∷ []) ≡ []

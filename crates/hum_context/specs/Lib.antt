@@ -2,6 +2,7 @@ pub mod Context
 pub mod Options
 pub mod Columns
 pub mod Heard
+pub mod HeardForm
 pub mod Leads
 pub mod Held
 pub mod Queue

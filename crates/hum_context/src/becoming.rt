@@ -495,6 +495,7 @@ fn advance_at(
 
 /// Whether the new tokens of the first record that waits are known. The walks from it go on, to the
 /// first that isn't decided.
+#[inline(never)]
 pub(crate) fn advance(
     held: &VecDeque<Queued>,
     gone: u64,

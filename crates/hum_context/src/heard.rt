@@ -7,7 +7,8 @@ ghost use Rattle.hum_score.specs.Row.{kind_of, tokens_of, width_of};
 ghost use Rattle.hum_context.specs.Context.{is_data, begins};
 ghost use Rattle.hum_context.specs.Options.{choice_of, extent_of};
 ghost use Rattle.hum_context.specs.Heard.{heard_of, heard_under, is_taken, ends, wanted_of};
-ghost use Rattle.hum_context.specs.declared.heard.Heard.TheVariants.{Passed};
+ghost use Rattle.hum_context.specs.declared.heard.Heard.TheVariants.{Passed, Taken};
+ghost use Rattle.hum_context.specs.HeardForm.{heard_in};
 
 use hum_choices::{ContextOptions, Span};
 use hum_pattern::is_matched;
@@ -22,6 +23,81 @@ pub(crate) enum Heard {
     Passed,
     /// It is collected. Others may be from it on, and it may be the last of them.
     Taken { begins: bool, ends: bool },
+}
+
+/// The same in one byte.
+#[derive(Clone, Copy)]
+enum HeardForm {
+    Passed,
+    Within,
+    Begins,
+    Ends,
+    Alone,
+}
+
+/// What is heard of a token, in one byte.
+#[derive(Drop)]
+pub struct KeptHeard {
+    form: HeardForm,
+}
+
+impl Model for KeptHeard {
+    ghost use Rattle.hum_context.specs.declared.heard.Heard.{Heard};
+    ghost use Rattle.hum_context.specs.HeardForm.{heard_in};
+
+    ghost Value = { Heard };
+
+    ghost view = { λ k. heard_in k.form };
+}
+
+impl KeptHeard {
+    /// What was heard.
+    fn of(heard: Heard) -> KeptHeard
+        ensures { result ≡ heard }
+    {
+        let form = match heard {
+            Heard::Passed => HeardForm::Passed,
+            Heard::Taken { begins, ends } => taken_form(begins, ends),
+        };
+        KeptHeard { form }
+    }
+
+    /// What was heard.
+    pub(crate) fn heard(&self) -> Heard
+        ensures { result ≡ self.now }
+    {
+        match self.form {
+            HeardForm::Passed => Heard::Passed,
+            HeardForm::Within => Heard::Taken {
+                begins: false,
+                ends: false,
+            },
+            HeardForm::Begins => Heard::Taken {
+                begins: true,
+                ends: false,
+            },
+            HeardForm::Ends => Heard::Taken {
+                begins: false,
+                ends: true,
+            },
+            HeardForm::Alone => Heard::Taken {
+                begins: true,
+                ends: true,
+            },
+        }
+    }
+}
+
+/// What is kept of a token that is collected.
+fn taken_form(begins: bool, ends: bool) -> HeardForm
+    ensures { heard_in result ≡ Taken begins ends }
+{
+    match (begins, ends) {
+        (false, false) => HeardForm::Within,
+        (true, false) => HeardForm::Begins,
+        (false, true) => HeardForm::Ends,
+        (true, true) => HeardForm::Alone,
+    }
 }
 
 /// Whether a token is data, by its first byte.
@@ -74,7 +150,7 @@ const MOST_SPARE: usize = 16;
 /// Nothing of what stood in them shows, so one is like another.
 #[derive(Drop)]
 pub(crate) struct SpareHeard {
-    lists: Vec<Vec<Heard>>,
+    lists: Vec<Vec<KeptHeard>>,
 }
 
 impl Model for SpareHeard {
@@ -95,7 +171,7 @@ impl SpareHeard {
 
     /// Keeps a list that isn't empty, whatever stands in it, if there is room for it.
     #[inline(always)]
-    pub(crate) fn keep(&mut self, heard: Vec<Heard>) {
+    pub(crate) fn keep(&mut self, heard: Vec<KeptHeard>) {
         if heard.is_empty() || self.lists.len() >= MOST_SPARE {
             return;
         }
@@ -103,7 +179,7 @@ impl SpareHeard {
     }
 
     /// Hands out a list, empty.
-    fn take(&mut self, alloc: Global) -> Vec<Heard>
+    fn take(&mut self, alloc: Global) -> Vec<KeptHeard>
         ensures { result.items ≡ [] }
     {
         let mut heard = self.lists.pop().unwrap_or(Vec::new(alloc));
@@ -132,7 +208,7 @@ fn hear(options: &mut ContextOptions, token: &[u8]) -> Heard
 fn hear_all(
     options: &mut ContextOptions,
     row: &Record,
-    heard: &mut Vec<Heard>,
+    heard: &mut Vec<KeptHeard>,
 ) -> Result<bool, AllocError>
     requires { heard.old.items ≡ [] }
     ensures heard { OnOk result
@@ -146,7 +222,7 @@ fn hear_all(
         if one != Heard::Passed {
             any = true;
         }
-        heard.push(one)?;
+        heard.push(KeptHeard::of(one))?;
     }
     Ok(any)
 }
@@ -157,7 +233,7 @@ fn hear_values(
     options: &mut ContextOptions,
     row: &Record,
     spare: &mut SpareHeard,
-) -> Result<Vec<Heard>, AllocError>
+) -> Result<Vec<KeptHeard>, AllocError>
     requires { kind_of row.now ≡ AnyValues }
     ensures heard { IfOk result (λ heard. (c : ℕ) → slice_index_or heard.items c Passed
         ≡ heard_under (choice_of options.old) row.now c) }
@@ -178,7 +254,7 @@ pub(crate) fn hear_row(
     options: &mut ContextOptions,
     row: &Record,
     spare: &mut SpareHeard,
-) -> Result<Vec<Heard>, AllocError>
+) -> Result<Vec<KeptHeard>, AllocError>
     ensures heard { IfOk result (λ heard. (c : ℕ) → slice_index_or heard.items c Passed
         ≡ heard_under (choice_of options.old) row.now c) }
     ensures valued { IfOk result (λ heard. heard.items ≢ [] → kind_of row.now ≡ AnyValues) }

@@ -1,10 +1,11 @@
 //! A record that waits.
 ghost use Rattle.std.specs.Prelude.{◌≡◌, ◌≢◌, ◌≤◌, [], length};
-ghost use Rattle.hum_score.specs.declared.records.Kind.TheVariants.{Values as AnyValues};
+ghost use Rattle.hum_score.specs.declared.records.Kind.TheVariants.{Interpretation as AnyInterpretation, Values as AnyValues};
 ghost use Rattle.hum_score.specs.Row.{kind_of, width_of};
+ghost use Rattle.hum_context.specs.declared.below.Below.TheVariants.{Stays};
 
 use crate::below::Below;
-use crate::heard::Heard;
+use crate::heard::KeptHeard;
 use crate::held::HeldRecord;
 use crate::links::Links;
 
@@ -13,10 +14,12 @@ use crate::links::Links;
 pub struct Queued {
     pub(crate) row: HeldRecord,
     // of each token, or nothing where none is collected
-    pub(crate) heard: Vec<Heard>,
+    pub(crate) heard: Vec<KeptHeard>,
     pub(crate) below: Below,
     pub(crate) links: Links,
     // only data is heard
     pub ghost valued: { heard.items ≢ [] → kind_of row ≡ AnyValues },
     pub ghost narrow: { length heard.items ≤ width_of row },
+    // only interpretations move spines
+    pub ghost stays: { below ≡ Stays → kind_of row ≢ AnyInterpretation },
 }

@@ -7,6 +7,7 @@ ghost use Rattle.hum_context.specs.Walking.{Says};
 
 use crate::heard::is_data;
 use crate::short::{MOST_KEPT, ShortText};
+use hum_record::put_token;
 use hum_stage::MOST_RECORDS;
 
 /// Puts a token behind the first `len` bytes of a text, a space before it.
@@ -17,7 +18,7 @@ fn put_behind(text: &mut [u8], len: usize, token: &[u8])
         ≡ drop begin (take len text.old) ++ 32 ∷ token.now }
 {
     text[len] = b' ';
-    text[len + 1..len + 1 + token.len()].copy_from_slice(token);
+    put_token(text, len + 1, token);
 }
 
 /// Moves what stands between two places to the front.

@@ -103,6 +103,7 @@ impl Walk {
     }
 
     /// One record more, on which it stands in a column.
+    #[inline(always)]
     pub(crate) fn pass(&mut self, c: usize, next: &Queued, wanted: Option<u16>)
         requires few { self.old.at < MOST_RECORDS }
         ensures at { self.new.at ≡ self.old.at + 1 }
@@ -119,6 +120,7 @@ impl Walk {
 
     /// It goes on from a cell of those that wait: past records in which nothing is found, or through
     /// one.
+    #[inline(always)]
     fn move_on(&mut self, held: &VecDeque<Queued>, gone: u64, here: Place, wanted: Option<u16>)
         requires few { gone + length held.now.items ≤ MOST_RECORDS }
         requires at { self.old.at ≡ gone + here.n }
@@ -142,6 +144,7 @@ impl Walk {
 
     /// It goes on until its tokens are enough, its column ends or no more records wait, of which so
     /// many are gone.
+    #[inline(always)]
     pub(crate) fn go_on(&mut self, held: &VecDeque<Queued>, gone: u64, wanted: Option<u16>)
         requires behind { gone ≤ self.old.at }
         requires few { gone + length held.now.items ≤ MOST_RECORDS }

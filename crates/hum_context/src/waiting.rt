@@ -8,6 +8,7 @@ ghost use Rattle.hum_score.specs.Spines.{Path};
 ghost use Rattle.hum_context.specs.{Context.is_last, Options.choice_of};
 ghost use Rattle.hum_context.specs.Leads.{link_in, no_link};
 ghost use Rattle.hum_context.specs.Queue.{IsStill, Known, LeadsBelow, column_in, is_last_in};
+ghost use Rattle.hum_context.specs.declared.below.Below.TheVariants.{Stays};
 ghost use Rattle.hum_context.specs.declared.heard.Heard.TheVariants.{Passed};
 ghost use Rattle.hum_context.specs.declared.links.Sought.{Sought};
 
@@ -44,6 +45,7 @@ impl Queued {
         below: Below,
         spare: &mut SpareHeard,
     ) -> Result<Queued, AllocError>
+        requires stays { below ≡ Stays → kind_of row ≢ AnyInterpretation }
         ensures kept { options.new ≡ options.old }
         ensures known { IfOk result (λ queued. (path : Path) → LeadsBelow path row below
             → Known (choice_of options.old) path row queued) }
@@ -68,7 +70,7 @@ impl Queued {
         ensures { result ≡ slice_index_or self.now.heard.items c Passed }
     {
         if c < self.heard.len() {
-            self.heard[c]
+            self.heard[c].heard()
         } else {
             Heard::Passed
         }
@@ -94,23 +96,17 @@ impl Queued {
     pub(crate) fn is_still(&self) -> bool
         ensures { result ≡ true → IsStill self.now }
     {
-        match self.row.kind() {
-            Kind::Interpretation => false,
-            Kind::Values => self.heard.is_empty(),
-            Kind::Local => self.heard.is_empty(),
-            Kind::Global => self.heard.is_empty(),
-        }
+        self.heard.is_empty() && self.keeps_columns()
     }
 
     /// Whether each spine stays where it is under it.
     pub(crate) fn keeps_columns(&self) -> bool
         ensures { result ≡ true → (c : ℕ) → column_in self.now.row self.now.below c ≡ Some c }
     {
-        match self.row.kind() {
-            Kind::Interpretation => false,
-            Kind::Values => true,
-            Kind::Local => true,
-            Kind::Global => true,
+        match &self.below {
+            Below::Stays => true,
+            Below::Same(_) => false,
+            Below::Listed(_) => false,
         }
     }
 
@@ -147,8 +143,21 @@ impl Queued {
         self.below.of(c)
     }
 
-    /// The same, by what the record is.
+    /// The same, by where the spines go.
+    #[inline(always)]
     pub(crate) fn column_below(&self, c: usize) -> Option<usize>
+        ensures { result ≡ column_in self.now.row self.now.below c }
+    {
+        match &self.below {
+            Below::Stays => Some(c),
+            Below::Same(_) => self.column_by_kind(c),
+            Below::Listed(_) => self.column_by_kind(c),
+        }
+    }
+
+    /// The same, by what the record is.
+    #[inline(never)]
+    fn column_by_kind(&self, c: usize) -> Option<usize>
         ensures { result ≡ column_in self.now.row self.now.below c }
     {
         match self.row.kind() {

@@ -1,5 +1,6 @@
-use Rattle.std.proofs.Common.{◌≡◌, ◌∙◌, sym, ap, refl, false, true}
+use Rattle.std.proofs.Common.{◌≡◌, ◌∙◌, sym, ap, refl, false, true, [], ◌∷◌, ◌++◌}
 use Rattle.hum_score.specs.Row.{tokens_of}
+use Rattle.hum_context.specs.declared.heard.Heard.{Heard}
 use Rattle.hum_context.specs.Heard.{heard_of}
 use Rattle.hum_context.specs.Options.{choice_of}
 use Rattle.hum_choices.specs.declared.context.ContextOptions.{ContextOptions}
@@ -17,7 +18,7 @@ loop-token-init c = record {
 pub loop-token-preserved : goal.loop-token-preserved
 loop-token-preserved c =
     let kept = c.loop-token.invariant.kept in
-    let items = c.in_ok-push.ensures.items in
+    let items = c.in_ok-push.ensures.items ∙ ap (λ (h : Heard). c.loop-token.heard.items ++ h ∷ []) c.of.ensures in
     let one = c.hear-one.ensures.heard ∙ ap (λ (s : ContextOptions). heard_of (choice_of s) c.in-Some.token.now) kept in
     record {
       kept = c.hear-one.ensures.kept ∙ kept;

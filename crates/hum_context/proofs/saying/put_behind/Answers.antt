@@ -1,17 +1,13 @@
-use Rattle.std.proofs.Common.{◌∙◌, ◌+◌, ap, arith, refl, length, set, take}
-use Rattle.std.proofs.lemmas.Slice.{put_mid-paste}
+use Rattle.std.proofs.Common.{◌∙◌, ◌+◌, ap, arith, length, take}
 use Rattle.hum_context.proofs.Told.{behind_front, pasted}
 use Rattle.hum_context.proofs.saying.put_behind.Goals as goal
 
 pub returns-clause-text : goal.returns-clause-text
 returns-clause-text c =
-    let text = c.args.text.now in
     let token = c.args.token.now in
     let len = c.args.len in
-    ap (take (len + 1 + length token))
-    (put_mid-paste (len + 1) _ (set text len 32) c.copy_from_slice.new.self token (length token)
-    c.copy_from_slice.ensures.after (omega arith) refl)
-    ∙ pasted text token len c.requires
+    ap (take (len + 1 + length token)) c.put_token.ensures.text
+    ∙ pasted c.args.text.now token len c.requires
 
 pub returns-clause-behind : goal.returns-clause-behind
 unfolding returns-clause-text
