@@ -9,7 +9,7 @@ use Rattle.hum_score.specs.Row.{Row, Spined, kind_of, text_of, token_at, width_o
 use Rattle.hum_score.specs.Spines.{Path, after, moves}
 use Rattle.hum_path.specs.Chains.{goes_on}
 use Rattle.hum_context.specs.declared.below.Below.{Below}
-use Rattle.hum_context.specs.declared.below.Below.TheVariants.{Stays, Same, Listed}
+use Rattle.hum_context.specs.declared.below.Below.TheVariants.{Same, Listed}
 use Rattle.hum_context.specs.declared.heard.Heard.{Heard}
 use Rattle.hum_context.specs.declared.heard.Heard.TheVariants.{Passed, Taken}
 use Rattle.hum_context.specs.declared.queued.Queued.{Queued}
@@ -21,7 +21,6 @@ use Rattle.hum_record.specs.declared.TheConstants.{MOST_BYTES}
 
 -- the place at which the spine at place c goes on
 abbrev pub place_in : Below → ℕ → Option ℕ
-place_in Stays c = Some c
 place_in (Same width) c = if nat_lt c width then Some c else None
 place_in (Listed places) c = slice_index_or places.items c None
 

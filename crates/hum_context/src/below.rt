@@ -1,10 +1,9 @@
 //! Where the spines under a record go.
-ghost use Rattle.std.specs.Prelude.{◌≡◌, ◌≢◌, ◌==◌, ◌≤◌, length, if◌then◌else◌, slice_index_or, Some, None};
+ghost use Rattle.std.specs.Prelude.{◌≡◌, ◌==◌, ◌≤◌, length, if◌then◌else◌, slice_index_or, Some, None};
 ghost use Rattle.std.specs.Prelude.{◌&&◌, ℕ, nat_le, IfOk, OnOk};
 ghost use Rattle.std.specs.List.{position};
 ghost use Rattle.hum_path.specs.Chains.{goes_on};
 ghost use Rattle.hum_context.specs.Queue.{place_in};
-ghost use Rattle.hum_context.specs.declared.below.Below.TheVariants.{Stays};
 
 use hum_path::{MOST_SPINES, Move, Moves};
 use std::alloc::{AllocError, Global};
@@ -12,8 +11,6 @@ use std::alloc::{AllocError, Global};
 /// For each spine under a record the place of the one that goes on from it.
 #[derive(Drop)]
 pub(crate) enum Below {
-    /// Each spine goes on at its place, since nothing there moves them.
-    Stays,
     /// Each of so many spines goes on at its place.
     Same(usize),
     /// They go on at these places, if they do.
@@ -94,9 +91,8 @@ impl Below {
     /// By these moves.
     pub(crate) fn by(alloc: Global, found: &Moves) -> Result<Below, AllocError>
         requires { length found.now ≤ MOST_SPINES }
-        ensures places { IfOk result (λ below. (c : ℕ) → place_in below c
+        ensures { IfOk result (λ below. (c : ℕ) → place_in below c
             ≡ position (goes_on c) found.now) }
-        ensures moves { IfOk result (λ below. below ≢ Stays) }
     {
         match found.as_listed() {
             None => Ok(Below::Same(found.len())),
@@ -112,7 +108,6 @@ impl Below {
         ensures { result ≡ place_in self.now c }
     {
         match self {
-            Below::Stays => Some(c),
             Below::Same(width) => { if c < *width { Some(c) } else { None } }
             Below::Listed(places) => {
                 if c >= places.len() {

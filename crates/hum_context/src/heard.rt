@@ -25,13 +25,14 @@ pub(crate) enum Heard {
     Taken { begins: bool, ends: bool },
 }
 
-/// The same in one byte.
+/// Each of them.
+// Those from which others are collected come last, so that one comparison tells them.
 #[derive(Clone, Copy)]
 enum HeardForm {
     Passed,
     Within,
-    Begins,
     Ends,
+    Begins,
     Alone,
 }
 

@@ -1,10 +1,12 @@
 //! A record that waits, or what it takes to make it again.
-ghost use Rattle.std.specs.Prelude.{◌≡◌, ◌<◌, ◌≤◌, true, length, Some, IfOk};
+ghost use Rattle.std.specs.Prelude.{◌≡◌, ◌≢◌, ◌<◌, ◌≤◌, false, true, length, Some, IfOk};
 ghost use Rattle.std.specs.List.{list_all};
 ghost use Rattle.hum_score.specs.declared.records.SpinedKind.TheVariants.{Values};
 ghost use Rattle.hum_record.specs.{Contents.is_null, Nulls.null_row, Room.room_for};
 ghost use Rattle.hum_score.specs.Row.{Row, kind_of, row_of, text_of, token_at, tokens_of, width_of};
 ghost use Rattle.hum_score.specs.Spelling.{IsTextOf, IsTokenOf};
+ghost use Rattle.hum_score.specs.declared.records.Kind.TheVariants.{Interpretation};
+ghost use Rattle.hum_context.specs.Held.{held_row, MayHold};
 
 use hum_record::{Kind, MOST_BYTES, Record, is_null, null_record};
 use std::alloc::{AllocError, Global};
@@ -16,7 +18,11 @@ const FEW_COLUMNS: usize = 64;
 /// What is held of a record.
 #[derive(Drop)]
 enum HeldForm {
+    /// One that moves no spines.
     Whole(Record),
+    /// One that may.
+    Interpretation(Record),
+    /// So many null tokens.
     Nulls(usize),
 }
 
@@ -63,6 +69,19 @@ fn is_null_data(row: &Record) -> bool
     }
 }
 
+/// What is held of a record, which may be any.
+fn whole_form(row: Record) -> HeldForm
+    ensures row { held_row result ≡ row }
+    ensures may_hold { MayHold result }
+{
+    match row.kind() {
+        Kind::Interpretation => HeldForm::Interpretation(row),
+        Kind::Values => HeldForm::Whole(row),
+        Kind::Local => HeldForm::Whole(row),
+        Kind::Global => HeldForm::Whole(row),
+    }
+}
+
 impl HeldRecord {
     /// What is held of a record, of which something is collected or nothing.
     pub(crate) fn of(row: Record, is_quiet: bool) -> HeldRecord
@@ -72,7 +91,7 @@ impl HeldRecord {
         let holding = if is_quiet && width > FEW_COLUMNS && is_null_data(&row) {
             HeldForm::Nulls(width)
         } else {
-            HeldForm::Whole(row)
+            whole_form(row)
         };
         HeldRecord { holding }
     }
@@ -86,7 +105,20 @@ impl HeldRecord {
     {
         match &self.holding {
             HeldForm::Whole(row) => row.kind(),
+            HeldForm::Interpretation(row) => row.kind(),
             HeldForm::Nulls(_) => Kind::Values,
+        }
+    }
+
+    /// Whether it is an interpretation.
+    pub(crate) fn is_interpretation(&self) -> bool
+        ensures is { result ≡ true → kind_of self.now ≡ Interpretation }
+        ensures other { result ≡ false → kind_of self.now ≢ Interpretation }
+    {
+        match &self.holding {
+            HeldForm::Whole(_) => false,
+            HeldForm::Interpretation(_) => true,
+            HeldForm::Nulls(_) => false,
         }
     }
 
@@ -96,6 +128,7 @@ impl HeldRecord {
     {
         match &self.holding {
             HeldForm::Whole(row) => row.width(),
+            HeldForm::Interpretation(row) => row.width(),
             HeldForm::Nulls(width) => *width,
         }
     }
@@ -108,6 +141,7 @@ impl HeldRecord {
     {
         match &self.holding {
             HeldForm::Whole(row) => row.token(j),
+            HeldForm::Interpretation(row) => row.token(j),
             HeldForm::Nulls(_) => b".",
         }
     }
@@ -118,6 +152,7 @@ impl HeldRecord {
     {
         match &self.holding {
             HeldForm::Whole(row) => row.room(),
+            HeldForm::Interpretation(row) => row.room(),
             HeldForm::Nulls(_) => 0,
         }
     }
@@ -129,6 +164,7 @@ impl HeldRecord {
         let HeldRecord { holding } = self;
         match holding {
             HeldForm::Whole(row) => Some(row),
+            HeldForm::Interpretation(row) => Some(row),
             HeldForm::Nulls(_) => None,
         }
     }
@@ -143,6 +179,7 @@ impl HeldRecord {
         let HeldRecord { holding } = self;
         match holding {
             HeldForm::Whole(row) => Ok(row),
+            HeldForm::Interpretation(row) => Ok(row),
             HeldForm::Nulls(width) => null_record(alloc, width),
         }
     }

@@ -29,7 +29,6 @@ impl Queued {
     /// Whether it leads to other columns.
     fn moves(&self) -> bool {
         match &self.below {
-            Below::Stays => false,
             Below::Same(_) => false,
             Below::Listed(_) => true,
         }

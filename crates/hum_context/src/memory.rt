@@ -1,15 +1,13 @@
 //! What context remembers of the records that wait.
-ghost use Rattle.std.specs.Prelude.{◌≡◌, ◌≢◌, ◌+◌, ◌<◌, ◌≤◌, [], ◌∷◌, List, drop, slice_get, Some, None};
+ghost use Rattle.std.specs.Prelude.{◌≡◌, ◌+◌, ◌<◌, ◌≤◌, [], ◌∷◌, List, drop, slice_get, Some, None};
 ghost use Rattle.std.specs.Prelude.{IfOk, OnOk};
 ghost use Rattle.std.specs.VecDeque.{deque_len};
-ghost use Rattle.hum_score.specs.Row.{Row, kind_of};
+ghost use Rattle.hum_score.specs.Row.{Row};
 ghost use Rattle.hum_score.specs.Spines.{Path, Unopened, after, width};
 ghost use Rattle.hum_score.specs.Rules.{fault_of};
 ghost use Rattle.hum_context.specs.{Options.choice_of, Walking.AllStand};
 ghost use Rattle.hum_context.specs.Queue.{Known, Knows, LeadsBelow};
-ghost use Rattle.hum_context.specs.declared.below.Below.TheVariants.{Stays};
 ghost use Rattle.hum_context.specs.declared.queued.Queued.{Queued};
-ghost use Rattle.hum_score.specs.declared.records.Kind.TheVariants.{Interpretation as AnyInterpretation};
 
 use crate::becoming::{advance, write};
 use crate::below::Below;
@@ -54,7 +52,6 @@ fn below_row(alloc: Global, paths: &mut Paths, row: &Record) -> Result<Below, Al
     requires narrow { width (after paths.old.path row.now) ≤ MOST_SPINES }
     ensures after { OnOk result (paths.new.path ≡ after paths.old.path row.now) }
     ensures below { IfOk result (LeadsBelow paths.old.path row.now) }
-    ensures stays { IfOk result (λ below. below ≡ Stays → kind_of row.now ≢ AnyInterpretation) }
 {
     match row.kind() {
         Kind::Interpretation => {
@@ -62,9 +59,9 @@ fn below_row(alloc: Global, paths: &mut Paths, row: &Record) -> Result<Below, Al
             let below = Below::by(alloc, &found)?;
             Ok(below)
         }
-        Kind::Values => Ok(Below::Stays),
-        Kind::Local => Ok(Below::Stays),
-        Kind::Global => Ok(Below::Stays),
+        Kind::Values => Ok(Below::Same(0)),
+        Kind::Local => Ok(Below::Same(0)),
+        Kind::Global => Ok(Below::Same(0)),
     }
 }
 

@@ -1,8 +1,7 @@
 //! A record that waits.
 ghost use Rattle.std.specs.Prelude.{◌≡◌, ◌≢◌, ◌≤◌, [], length};
-ghost use Rattle.hum_score.specs.declared.records.Kind.TheVariants.{Interpretation as AnyInterpretation, Values as AnyValues};
+ghost use Rattle.hum_score.specs.declared.records.Kind.TheVariants.{Values as AnyValues};
 ghost use Rattle.hum_score.specs.Row.{kind_of, width_of};
-ghost use Rattle.hum_context.specs.declared.below.Below.TheVariants.{Stays};
 
 use crate::below::Below;
 use crate::heard::KeptHeard;
@@ -20,6 +19,4 @@ pub struct Queued {
     // only data is heard
     pub ghost valued: { heard.items ≢ [] → kind_of row ≡ AnyValues },
     pub ghost narrow: { length heard.items ≤ width_of row },
-    // only interpretations move spines
-    pub ghost stays: { below ≡ Stays → kind_of row ≢ AnyInterpretation },
 }

@@ -80,6 +80,7 @@ impl Walk {
 
     /// One record more, whose token in its column is collected, and ends a group or doesn't. It is
     /// data, so that the column goes on.
+    #[inline(always)]
     fn collect(&mut self, c: usize, next: &Queued, wanted: Option<u16>, ends: bool)
         requires few { self.old.at < MOST_RECORDS }
         requires taken { slice_index_or next.now.heard.items c Passed ≢ Passed }

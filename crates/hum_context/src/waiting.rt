@@ -8,7 +8,6 @@ ghost use Rattle.hum_score.specs.Spines.{Path};
 ghost use Rattle.hum_context.specs.{Context.is_last, Options.choice_of};
 ghost use Rattle.hum_context.specs.Leads.{link_in, no_link};
 ghost use Rattle.hum_context.specs.Queue.{IsStill, Known, LeadsBelow, column_in, is_last_in};
-ghost use Rattle.hum_context.specs.declared.below.Below.TheVariants.{Stays};
 ghost use Rattle.hum_context.specs.declared.heard.Heard.TheVariants.{Passed};
 ghost use Rattle.hum_context.specs.declared.links.Sought.{Sought};
 
@@ -45,7 +44,6 @@ impl Queued {
         below: Below,
         spare: &mut SpareHeard,
     ) -> Result<Queued, AllocError>
-        requires stays { below ≡ Stays → kind_of row ≢ AnyInterpretation }
         ensures kept { options.new ≡ options.old }
         ensures known { IfOk result (λ queued. (path : Path) → LeadsBelow path row below
             → Known (choice_of options.old) path row queued) }
@@ -103,11 +101,7 @@ impl Queued {
     pub(crate) fn keeps_columns(&self) -> bool
         ensures { result ≡ true → (c : ℕ) → column_in self.now.row self.now.below c ≡ Some c }
     {
-        match &self.below {
-            Below::Stays => true,
-            Below::Same(_) => false,
-            Below::Listed(_) => false,
-        }
+        !self.row.is_interpretation()
     }
 
     /// Whether a column's future is ended at its token.
@@ -133,6 +127,7 @@ impl Queued {
     }
 
     /// The same under an interpretation.
+    #[inline(never)]
     fn column_under(&self, c: usize) -> Option<usize>
         requires { kind_of self.now.row ≡ AnyInterpretation }
         ensures { result ≡ column_in self.now.row self.now.below c }
@@ -143,28 +138,15 @@ impl Queued {
         self.below.of(c)
     }
 
-    /// The same, by where the spines go.
+    /// The same, by what the record is.
     #[inline(always)]
     pub(crate) fn column_below(&self, c: usize) -> Option<usize>
         ensures { result ≡ column_in self.now.row self.now.below c }
     {
-        match &self.below {
-            Below::Stays => Some(c),
-            Below::Same(_) => self.column_by_kind(c),
-            Below::Listed(_) => self.column_by_kind(c),
-        }
-    }
-
-    /// The same, by what the record is.
-    #[inline(never)]
-    fn column_by_kind(&self, c: usize) -> Option<usize>
-        ensures { result ≡ column_in self.now.row self.now.below c }
-    {
-        match self.row.kind() {
-            Kind::Interpretation => self.column_under(c),
-            Kind::Values => Some(c),
-            Kind::Local => Some(c),
-            Kind::Global => Some(c),
+        if self.row.is_interpretation() {
+            self.column_under(c)
+        } else {
+            Some(c)
         }
     }
 

@@ -1,7 +1,10 @@
+use Rattle.std.proofs.Common.{◌≡◌, arith, false}
+use Rattle.std.proofs.lemmas.Grind.{common_steps}
 use Rattle.hum_context.proofs.Queues.{stays_below}
 use Rattle.hum_context.proofs.queued.Queued.keeps_columns.Goals as goal
 
-pub returns-in-Stays : goal.returns-in-Stays
-returns-in-Stays c is column =
+pub returns : goal.returns
+returns c is column =
     let kept = c.args.self.now in
-    stays_below kept.row kept.below column (kept.stays c.in-Stays.is)
+    let other : c.is_interpretation.result ≡ false = grind (arith, common_steps, is) in
+    stays_below kept.row kept.below column (c.is_interpretation.ensures.other other)
