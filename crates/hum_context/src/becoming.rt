@@ -125,6 +125,7 @@ fn enough_at(walks: &[Walk], at: u64, j: usize) -> Option<Becoming>
 }
 
 /// What the token of a cell of the k-th record that waits becomes, from which others are collected.
+#[inline(never)]
 fn becoming_at(
     held: &VecDeque<Queued>,
     k: usize,
@@ -248,6 +249,7 @@ pub(crate) fn weigh(held: &VecDeque<Queued>, k: usize, wanted: Option<u16>) -> W
 
 /// The text becomes the tokens that are collected from a cell of the first record that waits, until
 /// they are more than a record holds.
+#[inline(never)]
 fn gather(
     text: &mut Text,
     held: &VecDeque<Queued>,

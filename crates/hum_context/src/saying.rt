@@ -66,6 +66,7 @@ impl ShortText {
     }
 
     /// A token behind so many, or none of them is kept.
+    #[inline(always)]
     pub(crate) fn add(&mut self, count: u64, token: &[u8])
         requires few { count ≤ MOST_RECORDS }
         requires lawful { IsToken Values token.now }
