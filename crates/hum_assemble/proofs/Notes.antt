@@ -5,7 +5,8 @@ use Rattle.std.specs.Prelude.{◌==◌, Option}
 use Rattle.std.specs.List.{list_all, list_any, AllByRecursion}
 use Rattle.std.proofs.lemmas.Bool.{le-ltb, lt-leb}
 use Rattle.hum_score.specs.declared.records.SpinedKind.TheVariants.{Local, Interpretation, Values}
-use Rattle.hum_score.specs.Row.{Row, Comment, Spined}
+use Rattle.hum_score.specs.declared.records.Kind.TheVariants.{Global}
+use Rattle.hum_score.specs.Row.{Row, Comment, Spined, kind_of}
 use Rattle.hum_score.specs.Spines.{Path, Unopened, Spines, after}
 use Rattle.hum_stage.specs.declared.faults.End as end
 use Rattle.hum_assemble.specs.declared.places.Place.{Place}
@@ -71,6 +72,13 @@ note_stays (Spines (name ∷ names)) (Comment text) h = grind (arith, h)
 note_stays (Spines (name ∷ names)) (Spined Local tokens) h = grind (arith, h)
 note_stays (Spines (name ∷ names)) (Spined Interpretation tokens) h = grind (arith, h)
 note_stays (Spines (name ∷ names)) (Spined Values tokens) h = grind (arith, h)
+
+-- Data is no global comment.
+pub note_spined : (path : Path) (row : Row) → place path row ≡ Note → kind_of row ≡ Global → ⊥
+note_spined Unopened (Comment text) h k = cc
+note_spined (Spines []) (Comment text) h k = cc
+note_spined (Spines (name ∷ names)) (Comment text) h k = grind (arith, h)
+note_spined path (Spined kind tokens) h k = grind (arith, k)
 
 pub note_moved : (going : Bool) (p : Place) (path : Path) (due : Bool) (row : Row) (ended : Option end.End) → place path row ≡ Note
     → record { path = path; due = false; coming = []; ended = ended }

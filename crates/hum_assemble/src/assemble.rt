@@ -77,6 +77,7 @@ fn inputs_end(sources: &[SourceHead]) -> Option<End>
 }
 
 /// The leftmost source that hasn't ended.
+#[inline(never)]
 fn first_open(sources: &[SourceHead]) -> Option<usize>
     ensures { result ≡ position_from is_none 0 (map (λ s. s.ended) sources.now) }
 {
@@ -249,6 +250,7 @@ impl Assemble {
     ///
     /// # Errors
     /// Out of memory, which each later call that takes memory answers again.
+    #[inline(always)]
     pub fn put_with(&mut self, next: Record, pool: &mut Spare) -> Result<Readiness, AllocError>
         requires { self.old.spent ≡ true ⊎ ((source : ℕ) × MayPut (Stands self.old) source next) }
         ensures ok { OnOk result ((source : ℕ) → MayPut (Stands self.old) source next
@@ -268,7 +270,7 @@ impl Assemble {
             return Ok(self.readiness());
         };
         // the others show what they did, and those before it all that is asked
-        self.sources[source].put(next);
+        self.sources[source].put(next, pool);
         self.next = ahead_open(&self.sources, self.given, self.going, source + 1);
         Ok(self.readiness())
     }

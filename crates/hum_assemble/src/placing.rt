@@ -148,7 +148,8 @@ fn width_after(opened: bool, paths: &Paths, row: &Record) -> usize
     }
 }
 
-fn is_data(row: &Record) -> bool
+/// Whether a record is one of data.
+pub fn is_data(row: &Record) -> bool
     ensures data { result ≡ true → kind_of row.now ≡ Values }
     ensures lawful { IsTextOf row.now (text_of row.now) }
 {

@@ -182,10 +182,19 @@ fn ahead_known(sources: &[SourceHead], given: u64, going: bool) -> Next
     ahead_at(sources, given, going, earliest(sources, going))
 }
 
-/// What can be done next where all that is asked can still be known, and is known of the first
-/// sources, so many.
-#[inline(always)]
-pub fn ahead_open(sources: &[SourceHead], given: u64, going: bool, known: usize) -> Next
+/// Whether a record, or the end, of the first source is needed.
+fn is_first_missing(sources: &[SourceHead], going: bool) -> bool
+    ensures { result ≡ true → position_from (is_missing going) 0 sources.now ≡ Some 0 }
+{
+    match sources {
+        [] => false,
+        [source, ..] => is_missing(source, going),
+    }
+}
+
+/// The same as [`ahead_open`], where the first source of which nothing is known isn't the next one.
+#[inline(never)]
+fn ahead_behind(sources: &[SourceHead], given: u64, going: bool, known: usize) -> Next
     requires within { known ≤ length sources.now }
     requires known { AllKnown going (take known sources.now) }
     ensures { result ≡ ahead_open going sources.now given }
@@ -195,6 +204,21 @@ pub fn ahead_open(sources: &[SourceHead], given: u64, going: bool, known: usize)
         Some(j) => Next::Wants(known + j),
         None => ahead_known(sources, given, going),
     }
+}
+
+/// What can be done next where all that is asked can still be known, and is known of the first
+/// sources, so many. Mostly the next source is asked then.
+#[inline(always)]
+pub fn ahead_open(sources: &[SourceHead], given: u64, going: bool, known: usize) -> Next
+    requires within { known ≤ length sources.now }
+    requires known { AllKnown going (take known sources.now) }
+    ensures { result ≡ ahead_open going sources.now given }
+{
+    let (_, rest) = sources.split_at(known);
+    if is_first_missing(rest, going) {
+        return Next::Wants(known);
+    }
+    ahead_behind(sources, given, going, known)
 }
 
 /// What can be done next, after so many records were given.
@@ -311,6 +335,7 @@ fn give_alone(
 
 /// Gives the one record of the records at this place, in the buffers of one that was done with. Those that it is
 /// made of are done with then.
+#[inline(always)]
 fn give_side_by_side(
     alloc: Global,
     kind: SpinedKind,
@@ -333,10 +358,30 @@ fn give_side_by_side(
         free = still_free(free, p, taken);
         source.push_part(taken, p, &mut builder)?;
         if let Some(row) = source.go_on(taken, going, p)? {
-            pool.keep(row);
+            source.lay_by(row, pool);
         }
     }
     Ok(builder.finish())
+}
+
+/// The same at any place, and not as often as of data.
+#[inline(never)]
+fn give_any(
+    alloc: Global,
+    kind: SpinedKind,
+    sources: &mut [SourceHead],
+    going: bool,
+    p: Place,
+    pool: &mut Spare,
+) -> Result<Record, AllocError>
+    requires kind { kind_at p ≡ Some kind }
+    requires giving { IsGiving going p sources.old }
+    requires lawful { AllLawful sources.old }
+    requires fits { length (text_of (made going p sources.old)) ≤ MOST_BYTES }
+    ensures row { IfOk result (λ row. row ≡ made going p sources.old) }
+    ensures sources { OnOk result (sources.new ≡ all_moved true going p sources.old) }
+{
+    give_side_by_side(alloc, kind, sources, going, p, pool)
 }
 
 /// Gives the record at this place. One that needs no null tokens is moved, but of data it is seldom the only part.
@@ -356,11 +401,12 @@ fn give_at(
     match p.kind() {
         None => give_alone(sources, going, p, pool),
         Some(kind) => {
-            let may_be_alone = !matches!(p, Place::Note) || sources.len() == 1;
-            if may_be_alone && are_few_parts(sources, true, going, p, 1) {
+            if matches!(p, Place::Note) && !going && sources.len() != 1 {
+                give_side_by_side(alloc, kind, sources, going, p, pool)
+            } else if are_few_parts(sources, true, going, p, 1) {
                 give_alone(sources, going, p, pool)
             } else {
-                give_side_by_side(alloc, kind, sources, going, p, pool)
+                give_any(alloc, kind, sources, going, p, pool)
             }
         }
     }

@@ -3,7 +3,9 @@ ghost use Rattle.std.specs.Prelude.{◌≡◌, ◌++◌, ◌∷◌, ◌≤◌, [
 ghost use Rattle.std.specs.Prelude.{length, if◌then◌else◌};
 ghost use Rattle.std.specs.List.{AllByRecursion};
 ghost use Rattle.hum_record.specs.{Building.spelled, Room.rooms_for};
-ghost use Rattle.hum_score.specs.{Spelling.IsToken, Row.tokens_of, Row.Spined};
+ghost use Rattle.std.specs.Prelude.{◌≢◌};
+ghost use Rattle.hum_score.specs.{Spelling.IsToken, Row.tokens_of, Row.kind_of, Row.Spined};
+ghost use Rattle.hum_score.specs.declared.records.Kind.TheVariants.{Global as GlobalKind};
 ghost use Rattle.hum_score.specs.{Spines.width, Rules.fault_of};
 ghost use Rattle.hum_assemble.specs.{Head.first_of, Head.AreLawful, Source.untouched};
 ghost use Rattle.hum_assemble.specs.Round.{shown, place_at, takes};
@@ -11,12 +13,15 @@ ghost use Rattle.hum_assemble.specs.Merge.{moved, advanced, text_of_first, part_
 ghost use Rattle.hum_assemble.specs.{Sizes.tokens_len, Places.kind_at};
 
 use crate::places::{Place, null_at};
-use crate::placing::{stand, stand_behind};
+use crate::placing::{is_data, stand, stand_behind};
 use hum_path::{MOST_SPINES, Paths};
-use hum_record::{Kind, MOST_BYTES, Record, RecordBuilder};
+use hum_record::{Kind, MOST_BYTES, Record, RecordBuilder, Spare};
 use hum_stage::End;
 use std::alloc::{AllocError, Global};
 use std::marker::Model;
+
+/// How long the text of a record may be of which what is left is kept.
+const MOST_LAID_BY: usize = 2048;
 
 /// A source's next record, where it stands, and how many spines stand behind it.
 #[derive(Drop)]
@@ -37,6 +42,8 @@ pub struct SourceHead {
     inside: bool,
     due: bool,
     head: Option<Head>,
+    // what is left of the record before it, until the next one is put
+    past: Option<Record>,
     ended: Option<End>,
 }
 
@@ -57,6 +64,35 @@ impl Model for SourceHead {
     ghost invariant = { λ s. IsKept s.paths.path s.opened s.inside s.head };
 }
 
+/// A record that is done with goes to the pool, behind others or away.
+#[inline(never)]
+fn bring_behind(row: Record, pool: &mut Spare) {
+    pool.keep(row);
+}
+
+/// What is left of a record goes to the pool, mostly to its front.
+#[inline(always)]
+fn bring(past: &mut Option<Record>, pool: &mut Spare) {
+    if let Some(row) = past.take() {
+        if pool.has_first() {
+            bring_behind(row, pool);
+        } else {
+            pool.keep(row);
+        }
+    }
+}
+
+/// How many bytes the tokens of a record of data have, with a tab for each.
+#[inline(always)]
+fn noted_len(row: &Record) -> usize
+    requires { kind_of row.now ≢ GlobalKind }
+    ensures { result ≡ tokens_len (tokens_of row.now) }
+{
+    // Its text is lawful.
+    let _kind = row.kind();
+    row.text().len() + 1
+}
+
 /// Adds the tokens of a record.
 fn push_tokens(builder: &mut RecordBuilder, row: &Record) -> Result<(), AllocError>
     requires tokens { AllByRecursion (IsToken builder.old.kind) (tokens_of row.now) }
@@ -72,6 +108,23 @@ fn push_tokens(builder: &mut RecordBuilder, row: &Record) -> Result<(), AllocErr
 }
 
 /// Adds the tokens of a record, all at once where they surely fit.
+#[inline(never)]
+fn push_all(builder: &mut RecordBuilder, row: &Record) -> Result<(), AllocError>
+    requires spined { row.now ≡ Spined builder.old.kind (tokens_of row.now) }
+    requires tokens { AllByRecursion (IsToken builder.old.kind) (tokens_of row.now) }
+    requires fits { length (spelled (builder.old.tokens ++ tokens_of row.now)) ≤ MOST_BYTES }
+    ensures { OnOk result (builder.new ≡ record builder.old {
+      tokens = builder.old.tokens ++ tokens_of row.now;
+    }) }
+{
+    if builder.push_row(row) {
+        return Ok(());
+    }
+    push_tokens(builder, row)
+}
+
+/// Adds the tokens of a record, of which one alone is put faster as a token.
+#[inline(always)]
 fn push_row(builder: &mut RecordBuilder, row: &Record) -> Result<(), AllocError>
     requires spined { row.now ≡ Spined builder.old.kind (tokens_of row.now) }
     requires tokens { AllByRecursion (IsToken builder.old.kind) (tokens_of row.now) }
@@ -80,14 +133,11 @@ fn push_row(builder: &mut RecordBuilder, row: &Record) -> Result<(), AllocError>
       tokens = builder.old.tokens ++ tokens_of row.now;
     }) }
 {
-    // one alone is put faster as a token
     if row.width() == 1 {
-        return push_tokens(builder, row);
+        push_tokens(builder, row)
+    } else {
+        push_all(builder, row)
     }
-    if builder.push_row(row) {
-        return Ok(());
-    }
-    push_tokens(builder, row)
 }
 
 impl SourceHead {
@@ -102,19 +152,57 @@ impl SourceHead {
             inside: false,
             due: false,
             head: None,
+            past: None,
             ended: None,
         }
     }
 
-    /// Puts the next record.
-    pub fn put(&mut self, row: Record)
+    /// Puts the next record, mostly one of data. What is left of the one before it goes to the pool.
+    #[inline(never)]
+    pub fn put(&mut self, row: Record, pool: &mut Spare)
+        requires empty { self.old.coming ≡ [] }
+        requires valid { fault_of self.old.path row ≡ None }
+        ensures put { self.new ≡ record self.old { coming = row ∷ [] } }
+        ensures lawful { AreLawful self.old.path (row ∷ []) }
+    {
+        if self.head.is_none()
+            && self.opened
+            && !self.inside
+            && !self.paths.is_closed()
+            && is_data(&row)
+        {
+            let (place, width) = (Place::Note, self.paths.width());
+            self.head = Some(Head { row, place, width });
+            bring(&mut self.past, pool);
+        } else {
+            self.put_any(row, pool);
+        }
+    }
+
+    /// The same of any record.
+    #[inline(never)]
+    fn put_any(&mut self, row: Record, pool: &mut Spare)
         requires empty { self.old.coming ≡ [] }
         requires valid { fault_of self.old.path row ≡ None }
         ensures put { self.new ≡ record self.old { coming = row ∷ [] } }
         ensures lawful { AreLawful self.old.path (row ∷ []) }
     {
         let (place, width) = stand(self.opened, self.inside, &self.paths, &row);
+        bring(&mut self.past, pool);
         self.head = Some(Head { row, place, width });
+    }
+
+    /// Keeps what is left of a record that was given until the next one is put, if it takes little memory. The next
+    /// record read is then made in it at once.
+    #[inline(always)]
+    pub fn lay_by(&mut self, row: Record, pool: &mut Spare)
+        ensures { self.new ≡ self.old }
+    {
+        if self.past.is_some() || row.text().len() > MOST_LAID_BY {
+            bring_behind(row, pool);
+            return;
+        }
+        self.past = Some(row);
     }
 
     /// Says how the source ends.
@@ -235,14 +323,18 @@ impl SourceHead {
         }
         match &self.head {
             None => 0,
-            Some(head) => match head.row.kind() {
-                Kind::Global => 0,
-                _ => head.row.text().len() + 1,
+            Some(head) => match head.place {
+                Place::Note => noted_len(&head.row),
+                _ => match head.row.kind() {
+                    Kind::Global => 0,
+                    _ => head.row.text().len() + 1,
+                },
             },
         }
     }
 
     /// Adds the source's part to a record that has room for it.
+    #[inline(always)]
     pub fn push_part(
         &self,
         taken: bool,

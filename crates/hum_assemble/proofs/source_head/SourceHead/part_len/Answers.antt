@@ -1,6 +1,7 @@
-use Rattle.std.proofs.Common.{◌∙◌, ap}
+use Rattle.std.proofs.Common.{◌∙◌, ap, sym}
 use Rattle.hum_assemble.specs.Places.{null_at}
 use Rattle.hum_assemble.specs.Head.{coming}
+use Rattle.hum_assemble.proofs.Notes.{note_spined}
 use Rattle.hum_assemble.proofs.Bytes.{tokens_len_nulls, tokens_len_text}
 use Rattle.hum_assemble.proofs.source_head.SourceHead.part_len.Goals as goal
 
@@ -14,8 +15,16 @@ returns-then-not-taken c =
     }) _ _ c.if-not-taken.true c.width.ensures.width
     (c.null_at.ensures ∙ ap null_at c.kind.ensures))
 
-pub returns-in_default : goal.returns-in_default
-returns-in_default c =
+pub noted_len-requires : goal.noted_len-requires
+noted_len-requires c =
+    let fits = rw c.in-Some.is at c.self.invariant.fits in
+    note_spined c.self.inside.paths.path _ (sym fits.place ∙ c.in-Note.is)
+
+pub returns-in-Note : goal.returns-in-Note
+returns-in-Note c = rw (← c.self.view_is, c.if-not-taken.false, c.in-Some.is) c.noted_len.ensures
+
+pub returns-in_default-kind : goal.returns-in_default-kind
+returns-in_default-kind c =
     rw (← c.self.view_is, c.if-not-taken.false, c.in-Some.is, c.text.ensures.text)
-    (tokens_len_text _ (λ e. c.in_default.not-Global (c.kind-in-Some.ensures.kind ∙ e))
-    c.kind-in-Some.ensures.lawful)
+    (tokens_len_text _ (λ e. c.in_default-kind.not-Global (c.kind-in_default.ensures.kind ∙ e))
+    c.kind-in_default.ensures.lawful)
