@@ -1,7 +1,9 @@
 pub mod ByPlace
 pub mod Carry
+pub mod Changed
 pub mod Climbing
 pub mod Joins
+pub mod Kept
 pub mod Obeyed
 pub mod Onwards
 pub mod Places

@@ -1,14 +1,12 @@
 -- The rules on joins, exchanges and added spines, place by place.
 use Rattle.std.proofs.Common.{◌≡◌, ◌≢◌, ◌∙◌, refl, sym, ap, ℕ, zero, suc, ◌+◌, ◌<◌, ◌⊎◌, ◌↔◌, inl, inr, arith}
-use Rattle.std.proofs.Common.{◌==◌, Bool, true, false, not, ◌&&◌, ◌||◌, List, [], ◌∷◌, map, length, cond, nat_eq}
-use Rattle.std.specs.List.{starts_with}
+use Rattle.std.proofs.Common.{◌==◌, Bool, true, false, not, ◌&&◌, ◌||◌, List, [], ◌∷◌, map, length}
 use Rattle.std.specs.Prelude.{slice_index_or}
 use Rattle.std.specs.Str.{bytes_eq}
 use lib.Chars.{codes}
 use Rattle.std.proofs.lemmas.Bool.{and_parts, or_left, or_right}
 use Rattle.std.proofs.lemmas.Bool.Decides.{nat_tests}
 use Rattle.std.proofs.lemmas.Slice.Eq.{bytes_eq-Decides}
-use Rattle.hum_score.specs.declared.spines.Sign.TheVariants.{Split, Join, Exchange, Add, End, Exclusive, Plain}
 use Rattle.hum_score.specs.Sign.{sign_of, is_join, is_exchange, is_exclusive}
 use Rattle.hum_score.specs.Spines.{exchanges}
 use Rattle.hum_score.specs.Rules.{first_is, is_pair_or_none, has_lone_join, mixes_join, has_mixed_join, stays_unnamed, has_unnamed}
@@ -18,18 +16,7 @@ use Rattle.hum_score.proofs.Cases.{by_bool}
 -- tests of a token
 
 is_join-of : (t : List ℕ) → is_join (sign_of t) ≡ true → t ≡ codes "*v"
-is_join-of t h =
-    by_bool (bytes_eq t (codes "*v")) (λ w. (bytes_eq-Decides t (codes "*v")).0 w)
-    (λ w. absurd (none (starts_with nat_eq t (codes "**")) (bytes_eq t (codes "*^")) (bytes_eq t (codes "*x"))
-    (bytes_eq t (codes "*+")) (bytes_eq t (codes "*-")) (rw w at h)))
-  where
-    none : (a b c d e : Bool) → is_join (cond a Exclusive (cond b Split (cond c Exchange (cond d Add (cond e End Plain))))) ≡ true → ⊥
-    none true b c d e h = cc
-    none false true c d e h = cc
-    none false false true d e h = cc
-    none false false false true e h = cc
-    none false false false false true h = cc
-    none false false false false false h = cc
+is_join-of = grind (arith, nat_tests, bytes_eq-Decides)
 
 join_is : (t : List ℕ) → t ≡ codes "*v" → is_join (sign_of t) ≡ true
 join_is t h = rw h refl
@@ -55,8 +42,7 @@ not_true true h = cc
 not_true false h = refl
 
 or_neither : (a b : Bool) → (a || b) ≡ false → (a ≡ false) × (b ≡ false)
-or_neither true b h = cc
-or_neither false b h = (refl, h)
+or_neither = grind (arith, nat_tests)
 
 no_first_join : (ts : List (List ℕ)) → first_is is_join (map sign_of ts) ≡ false → ¬ IsJoin ts 0
 no_first_join [] h j = cc
@@ -207,10 +193,7 @@ mixed_by_place names tokens = (
 
 empty_name : (name : List ℕ) → (length name == 0) ≡ true → name ≡ []
 empty_name [] h = refl
-empty_name (x ∷ xs) h = absurd (omega (arith, zero_length (length (x ∷ xs)) h))
-  where
-    zero_length : (n : ℕ) → (n == 0) ≡ true → n ≡ 0
-    zero_length n h = grind (arith, nat_tests, h)
+empty_name (x ∷ xs) h = grind (arith, nat_tests)
 
 finds_unnamed : (names tokens : List (List ℕ)) → has_unnamed names (map sign_of tokens) ≡ true → (j : ℕ) × StaysUnnamed names tokens j
 finds_unnamed [] tokens h = cc
@@ -240,18 +223,7 @@ unnamed_breaks (n ∷ ns) (t ∷ ts) (suc j) w =
 -- P4
 
 is_exchange-of : (t : List ℕ) → is_exchange (sign_of t) ≡ true → t ≡ codes "*x"
-is_exchange-of t h =
-    by_bool (bytes_eq t (codes "*x")) (λ w. (bytes_eq-Decides t (codes "*x")).0 w)
-    (λ w. absurd (none (starts_with nat_eq t (codes "**")) (bytes_eq t (codes "*^")) (bytes_eq t (codes "*v"))
-    (bytes_eq t (codes "*+")) (bytes_eq t (codes "*-")) (rw w at h)))
-  where
-    none : (a b c d e : Bool) → is_exchange (cond a Exclusive (cond b Split (cond c Join (cond d Add (cond e End Plain))))) ≡ true → ⊥
-    none true b c d e h = cc
-    none false true c d e h = cc
-    none false false true d e h = cc
-    none false false false true e h = cc
-    none false false false false true h = cc
-    none false false false false false h = cc
+is_exchange-of = grind (arith, nat_tests, bytes_eq-Decides)
 
 exchange_is : (t : List ℕ) → t ≡ codes "*x" → is_exchange (sign_of t) ≡ true
 exchange_is t h = rw h refl
@@ -266,7 +238,7 @@ first_of_them : (j : ℕ) (t : List ℕ) (ts : List (List ℕ)) → is_exchange 
 first_of_them j t ts h = rw h refl
 
 not_exchange : (t : List ℕ) → ¬ (t ≡ codes "*x") → is_exchange (sign_of t) ≡ false
-not_exchange t h = by_bool (is_exchange (sign_of t)) (λ w. absurd (h (is_exchange-of t w))) (λ w. w)
+not_exchange = grind (arith, nat_tests, is_exchange-of)
 
 -- how many there are
 none_here : (j : ℕ) (tokens : List (List ℕ)) → length (exchanges j (map sign_of tokens)) ≡ 0 → (i : ℕ) → ¬ IsExchange tokens i

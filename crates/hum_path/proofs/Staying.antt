@@ -1,10 +1,10 @@
 -- A record that asks nothing of the spines leaves them as they are, and is refused as a text is.
-use Rattle.std.proofs.Common.{◌≡◌, ◌≢◌, ◌∙◌, refl, sym, ap, ℕ, ◌+◌, ◌≤◌, ◌<◌, nat_lt, Bool, not}
-use Rattle.std.proofs.Common.{true, false, ◌&&◌, ◌==◌, List, [], ◌∷◌, length, map, None}
-use Rattle.std.proofs.Common.{Some, Ok, inl, inr, arith, subst}
+use Rattle.std.proofs.Common.{◌≡◌, ◌≢◌, ◌∙◌, refl, sym, ap, ℕ, ◌+◌, ◌≤◌, ◌<◌, Bool, not}
+use Rattle.std.proofs.Common.{true, false, ◌==◌, List, [], ◌∷◌, length, None}
+use Rattle.std.proofs.Common.{Ok, inl, inr, arith}
 use Rattle.std.specs.List.{list_any, list_all, find}
 use Rattle.std.specs.Str.{bytes_eq}
-use Rattle.std.proofs.lemmas.Bool.{cases_Bool, and_parts, or_from, not-false}
+use Rattle.std.proofs.lemmas.Bool.{cases_Bool, not-false}
 use Rattle.std.proofs.lemmas.Slice.Eq.{bytes_eq-Decides}
 use Rattle.std.proofs.lemmas.Bool.Decides.{nat_tests}
 use Rattle.std.proofs.lemmas.List.{length-map}
@@ -18,18 +18,15 @@ use Rattle.hum_score.specs.declared.records.SpinedKind.{SpinedKind}
 use Rattle.hum_score.specs.Spelling.{is_empty, IsTextOf}
 use Rattle.hum_score.specs.Row.{Row, Comment, Spined, kind_of, tokens_of, text_of}
 use Rattle.hum_score.specs.declared.spines.Sign.{Sign}
-use Rattle.hum_score.specs.declared.spines.Sign.TheVariants.{Split, Join, Exchange, Add, End, Exclusive, Plain}
-use Rattle.hum_score.specs.declared.spines.PathFault.TheVariants.{P1}
 use Rattle.hum_score.specs.Sign.{sign_of, is_exclusive, is_plain, all_plain, steers}
-use Rattle.hum_score.specs.Spines.{Path, Unopened, Spines, width, exchanges, moves, moves_under}
+use Rattle.hum_score.specs.Spines.{Path, Unopened, Spines, width, exchanges, moves}
 use Rattle.hum_score.specs.Spines.{same_upto, after, exclusives}
 use Rattle.hum_path.specs.Tracked.{path_in}
 use Rattle.hum_score.specs.Texts.{texts}
 use Rattle.hum_score.specs.Rules.{breaks, breaks_as_text, in_order, fault_of, has_bare, has_unnamed}
 use Rattle.hum_score.specs.Rules.{has_lone_join, has_mixed_join}
-use Rattle.hum_score.specs.Rules.{mixes_join}
 use Rattle.hum_path.specs.Step.{ComeFrom, IsStay, IsTidy}
-use Rattle.hum_path.proofs.Plain.{sound_width, plain_moves, plain_stays, not_exclusive}
+use Rattle.hum_path.proofs.Plain.{sound_width, plain_moves, plain_stays}
 use Rattle.hum_path.proofs.Steady.{same_upto_length}
 use Rattle.hum_path.proofs.Widths.{text_width}
 use Rattle.hum_path.proofs.Within.{same_below}
@@ -38,133 +35,70 @@ use Rattle.hum_path.proofs.Within.{same_below}
 
 plain_exchanges : (j : ℕ) (signs : List Sign) → list_all is_plain signs ≡ true → exchanges j signs ≡ []
 plain_exchanges j [] h = refl
-plain_exchanges j (Plain ∷ signs) h = plain_exchanges (j + 1) signs h
-plain_exchanges j (Split ∷ signs) h = cc
-plain_exchanges j (Join ∷ signs) h = cc
-plain_exchanges j (Exchange ∷ signs) h = cc
-plain_exchanges j (Add ∷ signs) h = cc
-plain_exchanges j (End ∷ signs) h = cc
-plain_exchanges j (Exclusive ∷ signs) h = cc
+plain_exchanges j (s ∷ signs) h = grind (arith, nat_tests, plain_exchanges (j + 1) signs)
 
 plain_lone : (signs : List Sign) → list_all is_plain signs ≡ true → has_lone_join false signs ≡ false
 plain_lone [] h = refl
-plain_lone (Plain ∷ signs) h = plain_lone signs h
-plain_lone (Split ∷ signs) h = cc
-plain_lone (Join ∷ signs) h = cc
-plain_lone (Exchange ∷ signs) h = cc
-plain_lone (Add ∷ signs) h = cc
-plain_lone (End ∷ signs) h = cc
-plain_lone (Exclusive ∷ signs) h = cc
+plain_lone (s ∷ signs) h = grind (arith, nat_tests, plain_lone signs)
 
 plain_exclusive : (signs : List Sign) → list_all is_plain signs ≡ true → list_any is_exclusive signs ≡ false
 plain_exclusive [] h = refl
-plain_exclusive (Plain ∷ signs) h = plain_exclusive signs h
-plain_exclusive (Split ∷ signs) h = cc
-plain_exclusive (Join ∷ signs) h = cc
-plain_exclusive (Exchange ∷ signs) h = cc
-plain_exclusive (Add ∷ signs) h = cc
-plain_exclusive (End ∷ signs) h = cc
-plain_exclusive (Exclusive ∷ signs) h = cc
-
-mixes_none : (names : List (List ℕ)) (signs : List Sign) → mixes_join names (Plain ∷ signs) ≡ false
-mixes_none [] signs = refl
-mixes_none (name ∷ []) signs = refl
-mixes_none (name ∷ other ∷ names) [] = refl
-mixes_none (name ∷ other ∷ names) (next ∷ signs) = refl
+plain_exclusive (s ∷ signs) h = grind (arith, nat_tests, plain_exclusive signs)
 
 plain_mixed : (names : List (List ℕ)) (signs : List Sign) → list_all is_plain signs ≡ true
     → has_mixed_join names signs ≡ false
-plain_mixed [] [] h = refl
-plain_mixed [] (sign ∷ signs) h = refl
-plain_mixed (name ∷ names) [] h = refl
-plain_mixed (name ∷ names) (Plain ∷ signs) h = or_from _ _ (mixes_none (name ∷ names) signs) (plain_mixed names signs h)
-plain_mixed (name ∷ names) (Split ∷ signs) h = cc
-plain_mixed (name ∷ names) (Join ∷ signs) h = cc
-plain_mixed (name ∷ names) (Exchange ∷ signs) h = cc
-plain_mixed (name ∷ names) (Add ∷ signs) h = cc
-plain_mixed (name ∷ names) (End ∷ signs) h = cc
-plain_mixed (name ∷ names) (Exclusive ∷ signs) h = cc
-
-and_true : (b : Bool) → (b && true) ≡ b
-and_true true = refl
-and_true false = refl
+plain_mixed (name ∷ names) (sign ∷ signs) h = grind (arith, nat_tests, plain_mixed names signs)
+plain_mixed names signs h = grind (arith, nat_tests)
 
 -- none gets a name, so each that waits goes on waiting
 plain_unnamed : (names : List (List ℕ)) (signs : List Sign) → list_all is_plain signs ≡ true
     → length signs ≡ length names → has_unnamed names signs ≡ list_any is_empty names
-plain_unnamed [] [] h e = refl
-plain_unnamed [] (sign ∷ signs) h e = absurd (omega (arith, e))
-plain_unnamed (name ∷ names) [] h e = absurd (omega (arith, e))
-plain_unnamed (name ∷ names) (Plain ∷ signs) h e =
-    rw (and_true (length name == 0), plain_unnamed names signs h (omega (arith, e))) refl
-plain_unnamed (name ∷ names) (Split ∷ signs) h e = cc
-plain_unnamed (name ∷ names) (Join ∷ signs) h e = cc
-plain_unnamed (name ∷ names) (Exchange ∷ signs) h e = cc
-plain_unnamed (name ∷ names) (Add ∷ signs) h e = cc
-plain_unnamed (name ∷ names) (End ∷ signs) h e = cc
-plain_unnamed (name ∷ names) (Exclusive ∷ signs) h e = cc
+plain_unnamed (name ∷ names) (s ∷ signs) h e = grind (arith, nat_tests, plain_unnamed names signs)
+plain_unnamed names signs h e = grind (arith, nat_tests)
 
-bare_exclusive : (t : List ℕ) → is_exclusive (sign_of t) ≡ false → bytes_eq (codes "**") t ≡ false
-bare_exclusive t h = elim (cases_Bool (bytes_eq (codes "**") t)) as (λ _. bytes_eq (codes "**") t ≡ false) [
-  | inl is ↦ absurd (bare (subst (λ (x : List ℕ). is_exclusive (sign_of x) ≡ false) (sym ((bytes_eq-Decides (codes "**") t).0 is)) h))
-  | inr isnt ↦ isnt
-]
-  where
-    bare : is_exclusive (sign_of (codes "**")) ≡ false → ⊥
-    bare e = cc
+pub bare_exclusive : (t : List ℕ) → is_exclusive (sign_of t) ≡ false → bytes_eq (codes "**") t ≡ false
+bare_exclusive = grind (arith, nat_tests, bytes_eq-Decides)
 
 plain_bare : (tokens : List (List ℕ)) → all_plain tokens ≡ true → has_bare tokens ≡ false
 plain_bare [] h = refl
-plain_bare (t ∷ ts) h =
-    let both = and_parts (is_plain (sign_of t)) (all_plain ts) h in
-    or_from _ _ (bare_exclusive t (not_exclusive (sign_of t) both.0)) (plain_bare ts both.1)
+plain_bare (t ∷ ts) h = grind (arith, nat_tests, plain_bare ts, bare_exclusive)
 
 -- as wide as the spines, an interpretation that asks nothing breaks a rule just where a text does
 plain_as_wide : (names tokens : List (List ℕ)) → all_plain tokens ≡ true → length names ≤ 4096
     → length tokens ≡ length names
     → find (breaks (Spines names) tokens) in_order ≡ find (breaks_as_text (Spines names) tokens) in_order
-plain_as_wide names tokens h few e =
-    let signs = map sign_of tokens in
-    let size : length signs ≡ length tokens = length-map tokens sign_of in
-    let unnamed : has_unnamed names signs ≡ list_any is_empty names = plain_unnamed names signs h (size ∙ e) in
-    let bare : has_bare tokens ≡ false = plain_bare tokens h in
-    let named : list_any is_exclusive signs ≡ false = plain_exclusive signs h in
-    let lone : has_lone_join false signs ≡ false = plain_lone signs h in
-    let places : exchanges 0 signs ≡ [] = plain_exchanges 0 signs h in
-    let mixed : has_mixed_join names signs ≡ false = plain_mixed names signs h in
-    let wide : length (moves_under signs) ≡ length tokens = ap length (plain_moves signs h) ∙ same_upto_length 0 (length signs) ∙ size in
-    let fits : nat_lt 4096 (length tokens) ≡ false = grind (arith, nat_tests) in
-    rw (unnamed, bare, named, lone, wide, places, mixed, fits) refl
+plain_as_wide =
+    grind (
+      arith,
+      nat_tests,
+      plain_unnamed,
+      plain_bare,
+      plain_exclusive,
+      plain_lone,
+      plain_exchanges,
+      plain_mixed,
+      plain_moves,
+      same_upto_length,
+      length-map,
+    )
 
 -- an interpretation that asks nothing breaks a rule just where a text does
 pub plain_breaks : (path : Path) (tokens : List (List ℕ)) → all_plain tokens ≡ true → tokens ≢ []
     → width path ≤ 4096 → find (breaks path tokens) in_order ≡ find (breaks_as_text path tokens) in_order
 plain_breaks Unopened [] h filled few = absurd (filled refl)
-plain_breaks Unopened (t ∷ ts) h filled few =
-    let both = and_parts (is_plain (sign_of t)) (all_plain ts) h in
-    rw (not_exclusive (sign_of t) both.0) refl
+plain_breaks Unopened (t ∷ ts) h filled few = grind (arith, nat_tests)
 plain_breaks (Spines names) tokens h filled few = elim (cases_Bool (length tokens == length names)) as
     (λ _. find (breaks (Spines names) tokens) in_order ≡ find (breaks_as_text (Spines names) tokens) in_order) [
       | inl same ↦ plain_as_wide names tokens h few (grind (arith, nat_tests))
       | inr other ↦ rw other refl
     ]
 
-plain_after : (path : Path) (tokens : List (List ℕ)) → all_plain tokens ≡ true → tokens ≢ []
+pub plain_after : (path : Path) (tokens : List (List ℕ)) → all_plain tokens ≡ true → tokens ≢ []
     → find (breaks path tokens) in_order ≡ None
     → (after path (Spined Interpretation tokens) ≡ path) × (moves path (Spined Interpretation tokens) ≡ same_upto 0 (width path)) × (length tokens ≡ width path)
 plain_after Unopened [] h filled sound = absurd (filled refl)
-plain_after Unopened (t ∷ ts) h filled sound =
-    let both = and_parts (is_plain (sign_of t)) (all_plain ts) h in
-    let first : is_exclusive (sign_of t) ≡ false = not_exclusive (sign_of t) both.0 in
-    absurd (refused (rw first at sound))
-  where
-    refused : Some P1 ≡ None → ⊥
-    refused e = cc
-plain_after (Spines names) tokens h filled sound =
-    let wide = sound_width names tokens sound in
-    let signs = map sign_of tokens in
-    let size : length signs ≡ length names = length-map tokens sign_of ∙ wide in
-    (ap Spines (plain_stays names tokens h wide), plain_moves signs h ∙ ap (same_upto 0) size, wide)
+plain_after Unopened (t ∷ ts) h filled sound = grind (arith, nat_tests)
+plain_after (Spines names) tokens h filled sound = grind (arith, nat_tests, sound_width, length-map, plain_stays, plain_moves)
 
 -- where no rule is broken
 pub record Stays (path : Path) (row : Row) : Type 0 where

@@ -5,24 +5,17 @@ use Rattle.std.proofs.lemmas.List.{length-map}
 use Rattle.std.proofs.lemmas.Bool.Decides.{nat_tests}
 use Rattle.hum_score.specs.declared.records.SpinedKind.TheVariants.{Local, Interpretation, Values}
 use Rattle.hum_score.specs.Row.{Row, Comment, Spined}
-use Rattle.hum_score.specs.declared.spines.PathFault.TheVariants.{P1, P2, P3, P4, P5, P6, P7, P9, P10, P11}
 use Rattle.hum_score.specs.Sign.{sign_of}
 use Rattle.hum_score.specs.Spines.{Path, Unopened, Spines, width, moves_at, moves_under, names_after, renamed}
 use Rattle.hum_score.specs.Rules.{breaks_as_text, in_order}
 use Rattle.hum_score.specs.Score.{IsOpen, path_after}
 use Rattle.hum_path.specs.Chains.{chain_of, columns, longer, origin_of, origins}
 use Rattle.hum_path.proofs.Steady.{same_upto_length}
-use Rattle.hum_path.proofs.Plain.{find_head}
 
 -- as wide as the spines
 pub text_width : (path : Path) (tokens : List (List ℕ)) → find (breaks_as_text path tokens) in_order ≡ None
     → length tokens ≡ width path
-text_width Unopened tokens h = cc
-text_width (Spines names) tokens h =
-    let a = find_head (breaks_as_text (Spines names) tokens) P7 (P1 ∷ P2 ∷ P6 ∷ P10 ∷ P11 ∷ P3 ∷ P4 ∷ P5 ∷ P9 ∷ []) h in
-    let b = find_head (breaks_as_text (Spines names) tokens) P1 (P2 ∷ P6 ∷ P10 ∷ P11 ∷ P3 ∷ P4 ∷ P5 ∷ P9 ∷ []) a.1 in
-    let c = find_head (breaks_as_text (Spines names) tokens) P2 (P6 ∷ P10 ∷ P11 ∷ P3 ∷ P4 ∷ P5 ∷ P9 ∷ []) b.1 in
-    grind (arith, nat_tests, c.0)
+text_width = grind (arith, nat_tests)
 
 -- as many moves as spines after
 pub moves_width : (path : Path) (tokens : List (List ℕ))
