@@ -4,10 +4,11 @@ use Rattle.std.specs.Prelude.{Result, Ok, Err}
 use Rattle.std.specs.List.{list_any}
 use Rattle.std.specs.Str.{bytes_eq}
 use Rattle.std.proofs.lemmas.Bool.{or_parts, or_from}
+use Rattle.std.proofs.lemmas.Bool.Decides.{nat_tests}
 use Rattle.std.proofs.lemmas.List.{length-map}
 use lib.Chars.{codes}
 use Rattle.hum_score.specs.declared.spines.Sign.{Sign}
-use Rattle.hum_score.specs.declared.spines.Sign.TheVariants.{Split, Join, Exchange, Add, End, Exclusive, Plain}
+use Rattle.hum_score.specs.declared.spines.Sign.TheVariants.{Split, Plain}
 use Rattle.hum_score.specs.Sign.{sign_of, is_join, is_exchange, is_exclusive, is_path_indicator}
 use Rattle.hum_score.specs.Spines.{Spines, exchanges, names_after}
 use Rattle.hum_score.specs.Rules.{first_is, has_lone_join, has_mixed_join, has_unnamed, has_bare}
@@ -38,9 +39,7 @@ abbrev pub soften : Bool → Sign → Sign
 soften lone sign = cond (lone && is_exchange sign) Plain sign
 
 soft_sign : (lone : Bool) (t : List ℕ) → sign_of (softened lone t) ≡ soften lone (sign_of t)
-soft_sign lone t = by_bool (lone && is_exchange (sign_of t))
-    (λ w. rw w refl)
-    (λ w. rw w refl)
+soft_sign = grind (arith, nat_tests)
 
 pub soft_signs : (lone : Bool) (ts : List (List ℕ)) → map sign_of (map (softened lone) ts) ≡ map (soften lone) (map sign_of ts)
 soft_signs lone [] = refl
@@ -48,43 +47,19 @@ soft_signs lone (t ∷ ts) = let ih = soft_signs lone ts in rw (soft_sign lone t
 
 -- A softened sign joins and names as before.
 soft_join : (lone : Bool) (s : Sign) → is_join (soften lone s) ≡ is_join s
-soft_join false s = refl
-soft_join true Exchange = refl
-soft_join true Split = refl
-soft_join true Join = refl
-soft_join true Add = refl
-soft_join true End = refl
-soft_join true Exclusive = refl
-soft_join true Plain = refl
+soft_join = grind (arith, nat_tests)
 
 soft_exclusive : (lone : Bool) (s : Sign) → is_exclusive (soften lone s) ≡ is_exclusive s
-soft_exclusive false s = refl
-soft_exclusive true Exchange = refl
-soft_exclusive true Split = refl
-soft_exclusive true Join = refl
-soft_exclusive true Add = refl
-soft_exclusive true End = refl
-soft_exclusive true Exclusive = refl
-soft_exclusive true Plain = refl
+soft_exclusive = grind (arith, nat_tests)
 
 soft_indicator : (lone : Bool) (s : Sign) → is_path_indicator s ≡ false → is_path_indicator (soften lone s) ≡ false
-soft_indicator false s h = h
-soft_indicator true Exchange h = refl
-soft_indicator true Split h = h
-soft_indicator true Join h = h
-soft_indicator true Add h = h
-soft_indicator true End h = h
-soft_indicator true Exclusive h = h
-soft_indicator true Plain h = h
+soft_indicator = grind (arith, nat_tests)
 
 soft_torn : (lone : Bool) (fs : List Bool) (ss : List Sign) → is_torn fs (map (soften lone) ss) ≡ is_torn fs ss
-soft_torn lone [] ss = refl
-soft_torn lone (f ∷ []) ss = refl
-soft_torn lone (f ∷ g ∷ fs) [] = refl
-soft_torn lone (f ∷ g ∷ fs) (s ∷ []) = refl
 soft_torn lone (f ∷ g ∷ fs) (s ∷ t ∷ ss) =
     let rest = soft_torn lone (g ∷ fs) (t ∷ ss) in
     rw (soft_join lone s, soft_join lone t, rest) refl
+soft_torn lone fs ss = grind (arith, nat_tests)
 
 soft_first : (lone : Bool) (ss : List Sign) → first_is is_join (map (soften lone) ss) ≡ first_is is_join ss
 soft_first lone [] = refl
@@ -97,19 +72,14 @@ soft_lone lone b (s ∷ ss) =
     rw (soft_join lone s, soft_first lone ss, rest) refl
 
 soft_mixed : (lone : Bool) (ns : List (List ℕ)) (ss : List Sign) → has_mixed_join ns (map (soften lone) ss) ≡ has_mixed_join ns ss
-soft_mixed lone [] ss = refl
-soft_mixed lone (n ∷ ns) [] = refl
-soft_mixed lone (n ∷ []) (s ∷ []) = refl
-soft_mixed lone (n ∷ []) (s ∷ t ∷ ss) = refl
-soft_mixed lone (n ∷ m ∷ ns) (s ∷ []) = refl
 soft_mixed lone (n ∷ m ∷ ns) (s ∷ t ∷ ss) =
     let rest = soft_mixed lone (m ∷ ns) (t ∷ ss) in
     rw (soft_join lone s, soft_join lone t, rest) refl
+soft_mixed lone ns ss = grind (arith, nat_tests)
 
 soft_unnamed : (lone : Bool) (ns : List (List ℕ)) (ss : List Sign) → has_unnamed ns (map (soften lone) ss) ≡ has_unnamed ns ss
-soft_unnamed lone [] ss = refl
-soft_unnamed lone (n ∷ ns) [] = refl
 soft_unnamed lone (n ∷ ns) (s ∷ ss) = let rest = soft_unnamed lone ns ss in rw (soft_exclusive lone s, rest) refl
+soft_unnamed lone ns ss = grind (arith, nat_tests)
 
 pub soft_begins : (lone b : Bool) (ss : List Sign) → beginnings b (map (soften lone) ss) ≡ beginnings b ss
 soft_begins lone b [] = refl
@@ -135,57 +105,35 @@ soft_bare lone (t ∷ ts) h =
     (one (lone && is_exchange (sign_of t)) both.0) (soft_bare lone ts both.1)
   where
     one : (b : Bool) → bytes_eq (codes "**") t ≡ false → bytes_eq (codes "**") (cond b (codes "*") t) ≡ false
-    one true h = refl
-    one false h = h
+    one = grind (arith, nat_tests)
 
 soft_each : (lone : Bool) (ns ts : List (List ℕ)) → renamed_each ns (map (softened lone) ts) ≡ renamed_each ns ts
-soft_each lone [] ts = refl
-soft_each lone (n ∷ ns) [] = refl
 soft_each lone (n ∷ ns) (t ∷ ts) = let rest = soft_each lone ns ts in rw (one lone, rest) refl
   where
     apart : (s : Sign) → is_exchange s ≡ true → is_exclusive s ≡ false
-    apart Exchange h = refl
-    apart Split h = cc
-    apart Join h = cc
-    apart Add h = cc
-    apart End h = cc
-    apart Exclusive h = cc
-    apart Plain h = cc
+    apart = grind (arith, nat_tests)
 
     one : (lone : Bool) → cond (is_exclusive (sign_of (softened lone t))) (softened lone t) n ≡ cond (is_exclusive (sign_of t)) t n
     one false = refl
     one true = by_bool (is_exchange (sign_of t))
         (λ w. rw (w, apart (sign_of t) w) refl)
         (λ w. rw w refl)
+soft_each lone ns ts = grind (arith, nat_tests)
 
 -- and carries on the same
 soft_onward : {X : Type 0} (added : X → X) (lone : Bool) (bs : List Bool) (ss : List Sign) (xs : List X)
     → onward added bs (map (soften lone) ss) xs ≡ onward added bs ss xs
-soft_onward added lone [] ss xs = refl
-soft_onward added lone (b ∷ bs) [] xs = refl
-soft_onward added lone (b ∷ bs) (s ∷ ss) [] = refl
 soft_onward {X} added lone (b ∷ bs) (s ∷ ss) (x ∷ xs) = let rest = soft_onward added lone bs ss xs in rw (one lone s, rest) refl
   where
     one : (lone : Bool) (s : Sign) → onward_one added b (soften lone s) x ≡ onward_one added b s x
-    one false s = refl
-    one true Exchange = refl
-    one true Split = refl
-    one true Join = refl
-    one true Add = refl
-    one true End = refl
-    one true Exclusive = refl
-    one true Plain = refl
+    one = grind (arith, nat_tests)
+soft_onward added lone bs ss xs = grind (arith, nat_tests)
 
 -- none is exchanged
 soft_exchanges : (j : ℕ) (ss : List Sign) → exchanges j (map (soften true) ss) ≡ []
 soft_exchanges j [] = refl
-soft_exchanges j (Exchange ∷ ss) = soft_exchanges (j + 1) ss
 soft_exchanges j (Split ∷ ss) = soft_exchanges (j + 1) ss
-soft_exchanges j (Join ∷ ss) = soft_exchanges (j + 1) ss
-soft_exchanges j (Add ∷ ss) = soft_exchanges (j + 1) ss
-soft_exchanges j (End ∷ ss) = soft_exchanges (j + 1) ss
-soft_exchanges j (Exclusive ∷ ss) = soft_exchanges (j + 1) ss
-soft_exchanges j (Plain ∷ ss) = soft_exchanges (j + 1) ss
+soft_exchanges j (s ∷ ss) = soft_exchanges (j + 1) ss
 
 soft_none : (ss : List Sign) → map (soften false) ss ≡ ss
 soft_none [] = refl
@@ -261,8 +209,7 @@ chosen_steers lone fs ss h = by_bool (list_any is_exclusive ss)
     rw left refl)
   where
     never : (b : Bool) → (b && false) ≡ false
-    never true = refl
-    never false = refl
+    never = grind (arith, nat_tests)
 
 chosen_pair : (lone : Bool) (fs : List Bool) (ss : List Sign) → length fs ≡ length ss → is_pair_or_none (exchanges 0 ss) ≡ true
     → is_lone (exchanged_flags fs ss) ≡ lone
@@ -347,8 +294,6 @@ cut_leads fs names tokens rows len keeps few e =
         → ◌≡◌ {A = Result (List Row) Rule}
         (cond torn (Err X1) (cond between (Err X3) (Ok (filled Interpretation (spread (pieces_of fs tokens)))))) (Ok rows)
         → Lead (chosen fs names) rows (chosen (flags_after fs (map sign_of tokens)) (names_after (Spines names) tokens))
-    by_tests true between a b e = cc
-    by_tests false true a b e = cc
     by_tests false false a b e =
         let out : filled Interpretation (spread (pieces_of fs tokens)) ≡ rows = cc in
         let comes = cut_comes fs names tokens len keeps b in
@@ -359,3 +304,4 @@ cut_leads fs names tokens rows len keeps few e =
         rw (← out, ← comes)
         (spread_leads (pieces_of fs tokens) (chosen fs names) (cut_fits fs names tokens len keeps a) (omega (arith, less, few))
         (omega (arith, size, fewer, after)))
+    by_tests torn between a b e = grind (arith, nat_tests)

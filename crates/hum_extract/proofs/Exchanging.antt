@@ -5,7 +5,7 @@ use Rattle.std.proofs.lemmas.Bool.{false≢true}
 use Rattle.std.proofs.lemmas.Bool.Decides.{nat_tests}
 use Rattle.std.proofs.lemmas.List.{nil_from_length}
 use Rattle.hum_score.specs.declared.spines.Sign.{Sign}
-use Rattle.hum_score.specs.declared.spines.Sign.TheVariants.{Split, Join, Exchange, Add, End, Exclusive, Plain}
+use Rattle.hum_score.specs.declared.spines.Sign.TheVariants.{Join, Exchange}
 use Rattle.hum_score.specs.Sign.{is_exchange}
 use Rattle.hum_score.specs.Spines.{exchanges}
 use Rattle.hum_score.specs.Rules.{is_pair_or_none}
@@ -20,23 +20,21 @@ use Rattle.hum_extract.specs.Extract.{exchanged_flags, is_lone, chosen_before, c
 pub flags_size : (j : ℕ) (fs : List Bool) (ss : List Sign) → length fs ≡ length ss
     → length (exchanged_flags fs ss) ≡ length (exchanges j ss)
 flags_size j [] [] len = refl
-flags_size j [] (s ∷ ss) len = absurd (omega (arith, len))
-flags_size j (f ∷ fs) [] len = refl
 flags_size j (f ∷ fs) (s ∷ ss) len = by_bool (is_exchange s)
     (λ w. rw w (ap suc (flags_size (j + 1) fs ss (omega (arith, len)))))
     (λ w. rw w (flags_size (j + 1) fs ss (omega (arith, len))))
+flags_size j fs ss h = grind (arith, nat_tests)
 
 -- the chosen ones of them
 pub chosen_exchanges : (j : ℕ) (fs : List Bool) (ss : List Sign)
     → length (exchanges j (chosen fs ss)) ≡ length (chosen (exchanged_flags fs ss) (exchanged_flags fs ss))
-chosen_exchanges j [] ss = refl
-chosen_exchanges j (f ∷ fs) [] = refl
 chosen_exchanges j (true ∷ fs) (s ∷ ss) = by_bool (is_exchange s)
     (λ w. rw w (ap suc (chosen_exchanges (j + 1) fs ss)))
     (λ w. rw w (chosen_exchanges (j + 1) fs ss))
 chosen_exchanges j (false ∷ fs) (s ∷ ss) = by_bool (is_exchange s)
     (λ w. rw w (chosen_exchanges j fs ss))
     (λ w. rw w (chosen_exchanges j fs ss))
+chosen_exchanges j fs ss = grind (arith, nat_tests)
 
 parts : {f g : Bool} {fs gs : List Bool} → f ∷ fs ≡ g ∷ gs → (f ≡ g) × (fs ≡ gs)
 parts e = (cc, cc)
@@ -49,60 +47,50 @@ chosen_first e = absurd (false≢true (sym (parts e).0))
 
 -- The next exchanged column's flag,
 flag_at : (d g : Bool) (gs fs : List Bool) (ss : List Sign) → exchanged_flags fs ss ≡ g ∷ gs → at_next d ss fs ≡ g
-flag_at d g gs [] ss e = cc
-flag_at d g gs (f ∷ fs) [] e = cc
 flag_at d g gs (f ∷ fs) (s ∷ ss) e =
     by_bool (is_exchange s) (λ w. rw w (parts (rw w at e)).0) (λ w. rw w (flag_at d g gs fs ss (rw w at e)))
+flag_at d g gs fs ss h = grind (arith, nat_tests)
 
 -- put where it was
 flag_put : (g : Bool) (gs fs : List Bool) (ss : List Sign) → exchanged_flags fs ss ≡ g ∷ gs → put_next g ss fs ≡ fs
-flag_put g gs [] ss e = cc
-flag_put g gs (f ∷ fs) [] e = cc
 flag_put g gs (f ∷ fs) (s ∷ ss) e =
     by_bool (is_exchange s)
     (λ w. rw w (ap (λ (b : Bool). b ∷ fs) (sym (parts (rw w at e)).0)))
     (λ w. rw w (ap (λ (bs : List Bool). f ∷ bs) (flag_put g gs fs ss (rw w at e))))
+flag_put g gs fs ss h = grind (arith, nat_tests)
 
 -- two of one flag
 swapped_same : (g : Bool) (fs : List Bool) (ss : List Sign) → exchanged_flags fs ss ≡ g ∷ g ∷ [] → swapped ss fs ≡ fs
-swapped_same g [] ss e = cc
-swapped_same g (f ∷ fs) [] e = cc
 swapped_same g (f ∷ fs) (s ∷ ss) e =
     by_bool (is_exchange s)
     (λ w.
     let both = parts (rw w at e) in
     rw (w, both.0, flag_at g g [] fs ss both.1, flag_put g [] fs ss both.1) refl)
     (λ w. rw w (ap (λ (bs : List Bool). f ∷ bs) (swapped_same g fs ss (rw w at e))))
+swapped_same g fs ss h = grind (arith, nat_tests)
 
 -- both chosen: the next one,
 at_chosen : {X : Type 0} (d : X) (gs fs : List Bool) (ss : List Sign) (xs : List X) → length ss ≡ length xs
     → exchanged_flags fs ss ≡ true ∷ gs → at_next d (chosen fs ss) (chosen fs xs) ≡ at_next d ss xs
-at_chosen d gs [] ss xs len e = cc
-at_chosen d gs (f ∷ fs) [] xs len e = cc
-at_chosen d gs (f ∷ fs) (s ∷ ss) [] len e = absurd (omega (arith, len))
 at_chosen d gs (true ∷ fs) (s ∷ ss) (x ∷ xs) len e =
     by_bool (is_exchange s) (λ w. rw w refl) (λ w. rw w (at_chosen d gs fs ss xs (omega (arith, len)) (rw w at e)))
 at_chosen d gs (false ∷ fs) (s ∷ ss) (x ∷ xs) len e =
     by_bool (is_exchange s) (λ w. dropped_first (rw w at e)) (λ w. rw w (at_chosen d gs fs ss xs (omega (arith, len)) (rw w at e)))
+at_chosen d gs fs ss xs h k = grind (arith, nat_tests)
 
 put_chosen : {X : Type 0} (y : X) (gs fs : List Bool) (ss : List Sign) (xs : List X) → length ss ≡ length xs
     → exchanged_flags fs ss ≡ true ∷ gs → chosen fs (put_next y ss xs) ≡ put_next y (chosen fs ss) (chosen fs xs)
-put_chosen y gs [] ss xs len e = cc
-put_chosen y gs (f ∷ fs) [] xs len e = cc
-put_chosen y gs (f ∷ fs) (s ∷ ss) [] len e = absurd (omega (arith, len))
 put_chosen {X} y gs (true ∷ fs) (s ∷ ss) (x ∷ xs) len e =
     by_bool (is_exchange s)
     (λ w. rw w refl)
     (λ w. rw w (ap (λ (ys : List X). x ∷ ys) (put_chosen y gs fs ss xs (omega (arith, len)) (rw w at e))))
 put_chosen y gs (false ∷ fs) (s ∷ ss) (x ∷ xs) len e =
     by_bool (is_exchange s) (λ w. dropped_first (rw w at e)) (λ w. rw w (put_chosen y gs fs ss xs (omega (arith, len)) (rw w at e)))
+put_chosen y gs fs ss xs h k = grind (arith, nat_tests)
 
 -- and the exchange
 swapped_both : {X : Type 0} (fs : List Bool) (ss : List Sign) (xs : List X) → length ss ≡ length xs
     → exchanged_flags fs ss ≡ true ∷ true ∷ [] → chosen fs (swapped ss xs) ≡ swapped (chosen fs ss) (chosen fs xs)
-swapped_both [] ss xs len e = cc
-swapped_both (f ∷ fs) [] xs len e = cc
-swapped_both (f ∷ fs) (s ∷ ss) [] len e = absurd (omega (arith, len))
 swapped_both {X} (true ∷ fs) (s ∷ ss) (x ∷ xs) len e =
     by_bool (is_exchange s)
     (λ w.
@@ -112,25 +100,21 @@ swapped_both {X} (true ∷ fs) (s ∷ ss) (x ∷ xs) len e =
     (λ w. rw w (ap (λ (ys : List X). x ∷ ys) (swapped_both fs ss xs (omega (arith, len)) (rw w at e))))
 swapped_both (false ∷ fs) (s ∷ ss) (x ∷ xs) len e =
     by_bool (is_exchange s) (λ w. dropped_first (rw w at e)) (λ w. rw w (swapped_both fs ss xs (omega (arith, len)) (rw w at e)))
+swapped_both fs ss xs h k = grind (arith, nat_tests)
 
 -- none chosen
 put_dropped : {X : Type 0} (y : X) (gs fs : List Bool) (ss : List Sign) (xs : List X) → length ss ≡ length xs
     → exchanged_flags fs ss ≡ false ∷ gs → chosen fs (put_next y ss xs) ≡ chosen fs xs
-put_dropped y gs [] ss xs len e = cc
-put_dropped y gs (f ∷ fs) [] xs len e = cc
-put_dropped y gs (f ∷ fs) (s ∷ ss) [] len e = absurd (omega (arith, len))
 put_dropped {X} y gs (true ∷ fs) (s ∷ ss) (x ∷ xs) len e =
     by_bool (is_exchange s)
     (λ w. chosen_first (rw w at e))
     (λ w. rw w (ap (λ (ys : List X). x ∷ ys) (put_dropped y gs fs ss xs (omega (arith, len)) (rw w at e))))
 put_dropped y gs (false ∷ fs) (s ∷ ss) (x ∷ xs) len e =
     by_bool (is_exchange s) (λ w. rw w refl) (λ w. rw w (put_dropped y gs fs ss xs (omega (arith, len)) (rw w at e)))
+put_dropped y gs fs ss xs h k = grind (arith, nat_tests)
 
 swapped_dropped : {X : Type 0} (fs : List Bool) (ss : List Sign) (xs : List X) → length ss ≡ length xs
     → exchanged_flags fs ss ≡ false ∷ false ∷ [] → chosen fs (swapped ss xs) ≡ chosen fs xs
-swapped_dropped [] ss xs len e = cc
-swapped_dropped (f ∷ fs) [] xs len e = cc
-swapped_dropped (f ∷ fs) (s ∷ ss) [] len e = absurd (omega (arith, len))
 swapped_dropped {X} (true ∷ fs) (s ∷ ss) (x ∷ xs) len e =
     by_bool (is_exchange s)
     (λ w. chosen_first (rw w at e))
@@ -139,34 +123,31 @@ swapped_dropped (false ∷ fs) (s ∷ ss) (x ∷ xs) len e =
     by_bool (is_exchange s)
     (λ w. rw w (put_dropped x [] fs ss xs (omega (arith, len)) (parts (rw w at e)).1))
     (λ w. rw w (swapped_dropped fs ss xs (omega (arith, len)) (rw w at e)))
+swapped_dropped fs ss xs h k = grind (arith, nat_tests)
 
 -- One chosen, with no chosen column between: the first,
 lone_first : {X : Type 0} (x : X) (gs fs : List Bool) (ss : List Sign) (xs : List X) → length ss ≡ length xs
     → exchanged_flags fs ss ≡ false ∷ gs → chosen_before fs ss ≡ false
     → chosen (put_next true ss fs) (put_next x ss xs) ≡ x ∷ chosen fs xs
-lone_first x gs [] ss xs len e none = cc
-lone_first x gs (f ∷ fs) [] xs len e none = cc
-lone_first x gs (f ∷ fs) (s ∷ ss) [] len e none = absurd (omega (arith, len))
 lone_first x gs (true ∷ fs) (s ∷ ss) (y ∷ xs) len e none =
     by_bool (is_exchange s) (λ w. chosen_first (rw w at e)) (λ w. absurd (false≢true (sym (rw w at none))))
 lone_first x gs (false ∷ fs) (s ∷ ss) (y ∷ xs) len e none =
     by_bool (is_exchange s)
     (λ w. rw w refl)
     (λ w. rw w (lone_first x gs fs ss xs (omega (arith, len)) (rw w at e) (rw w at none)))
+lone_first x gs fs ss xs h k w = grind (arith, nat_tests)
 
 -- the second,
 lone_second : {X : Type 0} (x d : X) (gs fs : List Bool) (ss : List Sign) (xs : List X) → length ss ≡ length xs
     → exchanged_flags fs ss ≡ true ∷ gs → chosen_before fs ss ≡ false
     → at_next d ss xs ∷ chosen (put_next false ss fs) (put_next x ss xs) ≡ chosen fs xs
-lone_second x d gs [] ss xs len e none = cc
-lone_second x d gs (f ∷ fs) [] xs len e none = cc
-lone_second x d gs (f ∷ fs) (s ∷ ss) [] len e none = absurd (omega (arith, len))
 lone_second x d gs (true ∷ fs) (s ∷ ss) (y ∷ xs) len e none =
     by_bool (is_exchange s) (λ w. rw w refl) (λ w. absurd (false≢true (sym (rw w at none))))
 lone_second x d gs (false ∷ fs) (s ∷ ss) (y ∷ xs) len e none =
     by_bool (is_exchange s)
     (λ w. dropped_first (rw w at e))
     (λ w. rw w (lone_second x d gs fs ss xs (omega (arith, len)) (rw w at e) (rw w at none)))
+lone_second x d gs fs ss xs h k w = grind (arith, nat_tests)
 
 lone_either : {X : Type 0} (f g : Bool) (fs : List Bool) (ss : List Sign) (x : X) (xs : List X) → length ss ≡ length xs → differ f g ≡ true
     → exchanged_flags fs ss ≡ g ∷ [] → chosen_before fs ss ≡ false
@@ -180,9 +161,6 @@ lone_either false false fs ss x xs len d e none = absurd (false≢true d)
 swapped_lone : {X : Type 0} (g h : Bool) (fs : List Bool) (ss : List Sign) (xs : List X) → length ss ≡ length xs
     → exchanged_flags fs ss ≡ g ∷ h ∷ [] → differ g h ≡ true → chosen_between fs ss ≡ false
     → chosen (swapped ss fs) (swapped ss xs) ≡ chosen fs xs
-swapped_lone g h [] ss xs len e d none = cc
-swapped_lone g h (f ∷ fs) [] xs len e d none = cc
-swapped_lone g h (f ∷ fs) (s ∷ ss) [] len e d none = absurd (omega (arith, len))
 swapped_lone {X} g h (f ∷ fs) (s ∷ ss) (x ∷ xs) len e d none =
     by_bool (is_exchange s)
     (λ w.
@@ -194,46 +172,29 @@ swapped_lone {X} g h (f ∷ fs) (s ∷ ss) (x ∷ xs) len e d none =
         → chosen (f ∷ swapped ss fs) (x ∷ swapped ss xs) ≡ chosen (f ∷ fs) (x ∷ xs)
     on true h = ap (λ (ys : List X). x ∷ ys) h
     on false h = h
+swapped_lone g h fs ss xs k w e m = grind (arith, nat_tests)
 
 -- What is the same under each exchange doesn't change.
 begin_at : (b : Bool) (ss : List Sign) → at_next false ss (beginnings b ss) ≡ false
 begin_at b [] = refl
 begin_at b (Exchange ∷ ss) = refl
-begin_at b (Split ∷ ss) = begin_at false ss
 begin_at b (Join ∷ ss) = begin_at true ss
-begin_at b (Add ∷ ss) = begin_at false ss
-begin_at b (End ∷ ss) = begin_at false ss
-begin_at b (Exclusive ∷ ss) = begin_at false ss
-begin_at b (Plain ∷ ss) = begin_at false ss
+begin_at b (s ∷ ss) = begin_at false ss
 
 begin_put : (b : Bool) (ss : List Sign) → put_next false ss (beginnings b ss) ≡ beginnings b ss
 begin_put b [] = refl
 begin_put b (Exchange ∷ ss) = refl
-begin_put b (Split ∷ ss) = ap (λ (bs : List Bool). false ∷ bs) (begin_put false ss)
 begin_put b (Join ∷ ss) = ap (λ (bs : List Bool). (true && not b) ∷ bs) (begin_put true ss)
-begin_put b (Add ∷ ss) = ap (λ (bs : List Bool). false ∷ bs) (begin_put false ss)
-begin_put b (End ∷ ss) = ap (λ (bs : List Bool). false ∷ bs) (begin_put false ss)
-begin_put b (Exclusive ∷ ss) = ap (λ (bs : List Bool). false ∷ bs) (begin_put false ss)
-begin_put b (Plain ∷ ss) = ap (λ (bs : List Bool). false ∷ bs) (begin_put false ss)
+begin_put b (s ∷ ss) = ap (λ (bs : List Bool). false ∷ bs) (begin_put false ss)
 
 pub begin_swapped : (b : Bool) (ss : List Sign) → swapped ss (beginnings b ss) ≡ beginnings b ss
 begin_swapped b [] = refl
 begin_swapped b (Exchange ∷ ss) = rw (begin_at false ss, begin_put false ss) refl
-begin_swapped b (Split ∷ ss) = ap (λ (bs : List Bool). false ∷ bs) (begin_swapped false ss)
 begin_swapped b (Join ∷ ss) = ap (λ (bs : List Bool). (true && not b) ∷ bs) (begin_swapped true ss)
-begin_swapped b (Add ∷ ss) = ap (λ (bs : List Bool). false ∷ bs) (begin_swapped false ss)
-begin_swapped b (End ∷ ss) = ap (λ (bs : List Bool). false ∷ bs) (begin_swapped false ss)
-begin_swapped b (Exclusive ∷ ss) = ap (λ (bs : List Bool). false ∷ bs) (begin_swapped false ss)
-begin_swapped b (Plain ∷ ss) = ap (λ (bs : List Bool). false ∷ bs) (begin_swapped false ss)
+begin_swapped b (s ∷ ss) = ap (λ (bs : List Bool). false ∷ bs) (begin_swapped false ss)
 
 is_exchange_at : (s : Sign) → is_exchange s ≡ true → s ≡ Exchange
-is_exchange_at Exchange h = refl
-is_exchange_at Split h = cc
-is_exchange_at Join h = cc
-is_exchange_at Add h = cc
-is_exchange_at End h = cc
-is_exchange_at Exclusive h = cc
-is_exchange_at Plain h = cc
+is_exchange_at = grind (arith, nat_tests)
 
 sign_at : (ss : List Sign) → at_next Exchange ss ss ≡ Exchange
 sign_at [] = refl
@@ -250,12 +211,7 @@ sign_put (s ∷ ss) = by_bool (is_exchange s)
 pub sign_swapped : (ss : List Sign) → swapped ss ss ≡ ss
 sign_swapped [] = refl
 sign_swapped (Exchange ∷ ss) = rw (sign_at ss, sign_put ss) refl
-sign_swapped (Split ∷ ss) = ap (λ (ts : List Sign). Split ∷ ts) (sign_swapped ss)
-sign_swapped (Join ∷ ss) = ap (λ (ts : List Sign). Join ∷ ts) (sign_swapped ss)
-sign_swapped (Add ∷ ss) = ap (λ (ts : List Sign). Add ∷ ts) (sign_swapped ss)
-sign_swapped (End ∷ ss) = ap (λ (ts : List Sign). End ∷ ts) (sign_swapped ss)
-sign_swapped (Exclusive ∷ ss) = ap (λ (ts : List Sign). Exclusive ∷ ts) (sign_swapped ss)
-sign_swapped (Plain ∷ ss) = ap (λ (ts : List Sign). Plain ∷ ts) (sign_swapped ss)
+sign_swapped (s ∷ ss) = ap (λ (ts : List Sign). s ∷ ts) (sign_swapped ss)
 
 -- two flags or none
 two_or_none : (fs : List Bool) (ss : List Sign) → length fs ≡ length ss → is_pair_or_none (exchanges 0 ss) ≡ true
