@@ -34,10 +34,9 @@ use Rattle.hum_cleave.proofs.Placewise.{together_none}
 
 pub together_map : {X Y : Type 0} (f : X → Y) (one : X) (fs : List Bool) (xs : List X)
     → map f (together one fs xs) ≡ together (f one) fs (map f xs)
-together_map f one [] xs = refl
-together_map f one (g ∷ fs) [] = refl
 together_map {X} {Y} f one (true ∷ fs) (x ∷ xs) = ap (λ (ys : List Y). f one ∷ ys) (chosen_map f (map not fs) xs)
 together_map {X} {Y} f one (false ∷ fs) (x ∷ xs) = ap (λ (ys : List Y). f x ∷ ys) (together_map f one fs xs)
+together_map f one fs xs = grind (arith, nat_tests)
 
 pub pieces_tokens : (fs : List Bool) (ts : List (List ℕ)) → tokens_in (pieces fs ts) ≡ together (interpretation_of (chosen fs ts)) fs ts
 pieces_tokens fs ts =
@@ -144,17 +143,15 @@ data_lawful text ts fits all = from (taken [] ts) (taken_all (IsToken Values) []
 
 others_lawful : (b : Bool) (fs : List Bool) (ts : List (List ℕ)) → AllByRecursion (IsToken Interpretation) ts
     → Lawful (others fs (each_piece b ts))
-others_lawful b [] ts h = tt
-others_lawful b (f ∷ fs) [] h = tt
 others_lawful b (true ∷ fs) (t ∷ ts) h = others_lawful (is_join (sign_of t)) fs ts h.1
 others_lawful b (false ∷ fs) (t ∷ ts) h = (h.0, others_lawful (is_join (sign_of t)) fs ts h.1)
+others_lawful b fs ts h = grind (arith, nat_tests)
 
 together_lawful : (b : Bool) (one : List ℕ) (fs : List Bool) (ts : List (List ℕ)) → IsToken Interpretation one
     → AllByRecursion (IsToken Interpretation) ts → Lawful (together (piece false one) fs (each_piece b ts))
-together_lawful b one [] ts o h = tt
-together_lawful b one (f ∷ fs) [] o h = tt
 together_lawful b one (true ∷ fs) (t ∷ ts) o h = (o, others_lawful (is_join (sign_of t)) fs ts h.1)
 together_lawful b one (false ∷ fs) (t ∷ ts) o h = (h.0, together_lawful (is_join (sign_of t)) one fs ts o h.1)
+together_lawful b one fs ts h k = grind (arith, nat_tests)
 
 filled_length : (token : List ℕ) → token ≢ [] → 1 ≤ length token
 filled_length [] h = absurd (h refl)
@@ -209,8 +206,6 @@ pieces_fit fs row e h =
 -- a record in which no column is cleaved stays
 pub stays : (text : List ℕ) (fs : List Bool) (row : Row) → list_any (λ b. b) fs ≡ false → AsWide fs row → IsTextOf row (text_of row)
     → is_interpretation row ≡ false → text_told text fs row ≡ Ok (row ∷ [])
-stays text fs (Comment comment) none wide h other = refl
-stays text fs (Spined Interpretation ts) none wide h other = cc
 stays text fs (Spined Local ts) none wide h other =
     let most = h.3 in
     let short : nat_lt 1048576 (length (spelled ts)) ≡ false = grind (arith, nat_tests, most) in
@@ -219,6 +214,7 @@ stays text fs (Spined Values ts) none wide h other =
     let most = h.3 in
     let short : nat_lt 1048576 (length (spelled ts)) ≡ false = grind (arith, nat_tests, most) in
     rw (together_none (data_of text (chosen fs ts)) fs ts wide none, short) refl
+stays text fs row h k w e = grind (arith, nat_tests)
 
 pub some_tokens : (kind : SpinedKind) (row : Row) → row ≡ Spined kind (tokens_of row) → IsTextOf row (text_of row) → tokens_of row ≢ []
 some_tokens kind (Comment text) e h = cc

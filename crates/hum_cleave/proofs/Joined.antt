@@ -30,9 +30,6 @@ together_formed : (one new_name : List ℕ) → is_join (sign_of one) ≡ false 
     → (f ≡ false → (b ≡ is_join s) × (before ≡ name))
     → Formed b before (together (piece false one) fs (each_piece (is_join s) ts)) (together new_name fs ns)
 together_formed one new_name o f s name b before [] [] ns len wide torn lone mixed at = tt
-together_formed one new_name o f s name b before [] (t ∷ ts) ns len wide torn lone mixed at = absurd (omega (arith, len))
-together_formed one new_name o f s name b before (g ∷ fs) [] ns len wide torn lone mixed at = absurd (omega (arith, len))
-together_formed one new_name o f s name b before (g ∷ fs) (t ∷ ts) [] len wide torn lone mixed at = absurd (omega (arith, wide))
 together_formed one new_name o f s name b before (false ∷ fs) (t ∷ ts) (n ∷ ns) len wide torn lone mixed at =
     let signs = map sign_of ts in
     let tear = or_parts _ (is_torn (false ∷ fs) (sign_of t ∷ signs)) torn in
@@ -59,6 +56,7 @@ together_formed one new_name o f s name b before (true ∷ fs) (t ∷ ts) (n ∷
         others_formed (sign_of t) n (is_join (sign_of one)) new_name fs ts ns (omega (arith, len)) (omega (arith, wide)) tear.1 alone.1 mix.1,
       ),
     )
+together_formed one new_name o f s name b before fs ts ns len wide torn lone mixed at = absurd (omega (arith, len, wide))
 
 -- The tokens are formed, where no join is torn, lone or mixed.
 pub pieces_formed : (one new_name : List ℕ) (fs : List Bool) (ts ns : List (List ℕ)) → is_join (sign_of one) ≡ false

@@ -1,7 +1,7 @@
 -- What is cleaved of a score is a score.
 use Rattle.std.proofs.Common.{◌≡◌, ◌∙◌, refl, sym, ap, ℕ, ◌==◌, Bool, true, false, not, ◌&&◌, List, [], ◌∷◌, length, map}
-use Rattle.std.proofs.Common.{arith, cond}
-use Rattle.std.specs.Prelude.{None, Result, Ok, Err, nat_lt}
+use Rattle.std.proofs.Common.{arith}
+use Rattle.std.specs.Prelude.{None, Ok}
 use Rattle.std.specs.List.{list_all, find}
 use Rattle.std.specs.Str.{bytes_eq}
 use lib.Chars.{codes}
@@ -11,15 +11,12 @@ use Rattle.std.proofs.lemmas.List.{length-map}
 use Rattle.hum_score.specs.declared.records.SpinedKind.{SpinedKind}
 use Rattle.hum_score.specs.declared.records.SpinedKind.TheVariants.{Interpretation}
 use Rattle.hum_score.specs.Row.{Row, Spined, chosen}
-use Rattle.hum_record.specs.Building.{spelled}
 use Rattle.hum_score.specs.Spelling.{is_empty}
 use Rattle.hum_score.specs.Sign.{sign_of, is_exclusive}
 use Rattle.hum_score.specs.Spines.{Unopened, Spines}
 use Rattle.hum_score.specs.Rules.{breaks_as_text, in_order}
 use Rattle.hum_path.proofs.Widths.{text_width}
 use Rattle.hum_path.proofs.Obeyed.{Opens}
-use Rattle.hum_stage.specs.declared.faults.Rule.{Rule}
-use Rattle.hum_stage.specs.declared.faults.Rule.TheVariants.{L1}
 use Rattle.hum_stage.specs.Meaning.{KeepsScore}
 use Rattle.hum_stage.specs.Decided.{decisions, limit}
 use Rattle.hum_columns.specs.Chosen.{others}
@@ -42,24 +39,16 @@ named name h =
     let both = and_parts (is_exclusive (sign_of name)) (not (bytes_eq (codes "**") name) && fits_in_token name) h in
     record {
       exclusive = both.0;
-      bare = flip (bytes_eq (codes "**") name) (and_parts (not (bytes_eq (codes "**") name)) (fits_in_token name) both.1).0;
+      bare = grind (arith, nat_tests, (and_parts (not (bytes_eq (codes "**") name)) (fits_in_token name) both.1).0);
       some = filled name both.0;
     }
   where
-    flip : (b : Bool) → not b ≡ true → b ≡ false
-    flip true h = cc
-    flip false h = refl
-
     filled : (name : List ℕ) → is_exclusive (sign_of name) ≡ true → (length name == 0) ≡ false
     filled [] h = absurd (false≢true h)
     filled (b ∷ bs) h = grind (arith, nat_tests)
 
 one_made : (kind : SpinedKind) (us : List (List ℕ)) (rows : List Row) → one_record kind us ≡ Ok rows → Spined kind us ∷ [] ≡ rows
-one_made kind us rows e = by_test (nat_lt 1048576 (length (spelled us))) e
-  where
-    by_test : (b : Bool) → ◌≡◌ {A = Result (List Row) Rule} (cond b (Err L1) (Ok (Spined kind us ∷ []))) (Ok rows) → Spined kind us ∷ [] ≡ rows
-    by_test true e = cc
-    by_test false e = cc
+one_made = grind (arith, nat_tests)
 
 -- A local comment or data.
 text_merged : (name one : List ℕ) (fs : List Bool) (kind : SpinedKind) (names tokens us : List (List ℕ)) → IsNamed name
@@ -83,23 +72,21 @@ text_merged name one fs kind names tokens (u ∷ us) is len other h e =
 -- At the opening.
 others_exclusive : (fs : List Bool) (ts : List (List ℕ)) → list_all is_exclusive (map sign_of ts) ≡ true
     → list_all is_exclusive (map sign_of (others fs ts)) ≡ true
-others_exclusive [] ts h = refl
-others_exclusive (f ∷ fs) [] h = refl
 others_exclusive (true ∷ fs) (t ∷ ts) h = others_exclusive fs ts (and_parts (is_exclusive (sign_of t)) (list_all is_exclusive (map sign_of ts)) h).1
 others_exclusive (false ∷ fs) (t ∷ ts) h =
     let both = and_parts (is_exclusive (sign_of t)) (list_all is_exclusive (map sign_of ts)) h in
     and_from (is_exclusive (sign_of t)) (list_all is_exclusive (map sign_of (others fs ts))) both.0 (others_exclusive fs ts both.1)
+others_exclusive fs ts h = refl
 
 together_exclusive : (one : List ℕ) (fs : List Bool) (ts : List (List ℕ)) → is_exclusive (sign_of one) ≡ true
     → list_all is_exclusive (map sign_of ts) ≡ true → list_all is_exclusive (map sign_of (together one fs ts)) ≡ true
-together_exclusive one [] ts o h = refl
-together_exclusive one (f ∷ fs) [] o h = refl
 together_exclusive one (true ∷ fs) (t ∷ ts) o h =
     let both = and_parts (is_exclusive (sign_of t)) (list_all is_exclusive (map sign_of ts)) h in
     and_from (is_exclusive (sign_of one)) (list_all is_exclusive (map sign_of (others fs ts))) o (others_exclusive fs ts both.1)
 together_exclusive one (false ∷ fs) (t ∷ ts) o h =
     let both = and_parts (is_exclusive (sign_of t)) (list_all is_exclusive (map sign_of ts)) h in
     and_from (is_exclusive (sign_of t)) (list_all is_exclusive (map sign_of (together one fs ts))) both.0 (together_exclusive one fs ts o both.1)
+together_exclusive one fs ts o h = refl
 
 together_opens : (name : List ℕ) (fs : List Bool) (tokens : List (List ℕ)) → IsNamed name → Opens tokens → Opens (together name fs tokens)
 together_opens name fs tokens is h = record {

@@ -1,5 +1,6 @@
 -- An interpretation whose cleaved columns are put together leads to what the spines after it become.
 use Rattle.std.proofs.Common.{◌≡◌, ◌∙◌, refl, ap, ℕ, ◌≤◌, ◌==◌, Bool, true, false, ◌&&◌, ◌||◌, List, [], ◌∷◌, length, map, arith, cond}
+use Rattle.std.proofs.lemmas.Bool.Decides.{nat_tests}
 use Rattle.std.specs.Prelude.{Result, Ok, Err}
 use Rattle.std.specs.List.{list_any}
 use Rattle.std.specs.Str.{bytes_eq}
@@ -48,30 +49,25 @@ pub record Merges (flags : List Bool) (tokens : List (List ℕ)) : Type 0 where
 module _ (name : List ℕ) (some : (length name == 0) ≡ false) where
   others_unnamed : (fs : List Bool) (ns : List (List ℕ)) (ss : List Sign) → has_unnamed ns ss ≡ false
       → has_unnamed (others fs ns) (others fs ss) ≡ false
-  others_unnamed [] ns ss h = refl
-  others_unnamed (f ∷ fs) [] ss h = refl
   others_unnamed (true ∷ fs) (n ∷ ns) [] h = none (others fs ns)
     where
       none : (ms : List (List ℕ)) → has_unnamed ms [] ≡ false
       none [] = refl
       none (m ∷ ms) = refl
-  others_unnamed (false ∷ fs) (n ∷ ns) [] h = refl
   others_unnamed (true ∷ fs) (n ∷ ns) (s ∷ ss) h = others_unnamed fs ns ss (or_parts (stays_unnamed n s) (has_unnamed ns ss) h).1
   others_unnamed (false ∷ fs) (n ∷ ns) (s ∷ ss) h =
       let both = or_parts (stays_unnamed n s) (has_unnamed ns ss) h in
       or_from (stays_unnamed n s) (has_unnamed (others fs ns) (others fs ss)) both.0 (others_unnamed fs ns ss both.1)
+  others_unnamed fs ns ss h = grind (arith, nat_tests)
 
   together_unnamed : (sign : Sign) (fs : List Bool) (ns : List (List ℕ)) (ss : List Sign) → has_unnamed ns ss ≡ false
       → has_unnamed (together name fs ns) (together sign fs ss) ≡ false
-  together_unnamed sign [] ns ss h = refl
-  together_unnamed sign (f ∷ fs) [] ss h = refl
-  together_unnamed sign (true ∷ fs) (n ∷ ns) [] h = refl
-  together_unnamed sign (false ∷ fs) (n ∷ ns) [] h = refl
   together_unnamed sign (true ∷ fs) (n ∷ ns) (s ∷ ss) h =
       rw some (others_unnamed fs ns ss (or_parts (stays_unnamed n s) (has_unnamed ns ss) h).1)
   together_unnamed sign (false ∷ fs) (n ∷ ns) (s ∷ ss) h =
       let both = or_parts (stays_unnamed n s) (has_unnamed ns ss) h in
       or_from (stays_unnamed n s) (has_unnamed (together name fs ns) (together sign fs ss)) both.0 (together_unnamed sign fs ns ss both.1)
+  together_unnamed sign fs ns ss h = grind (arith, nat_tests)
 
 -- The sign of the one column.
 abbrev pub one_sign : List Bool → List (List ℕ) → Sign

@@ -1,6 +1,7 @@
 -- Columns, place by place.
-use Rattle.std.proofs.Common.{◌≡◌, ◌∙◌, refl, sym, ap, ℕ, zero, suc, ◌+◌, ◌<◌, ◌≤◌, Bool, true, false, cond}
+use Rattle.std.proofs.Common.{◌≡◌, ◌∙◌, refl, sym, ap, ℕ, suc, ◌+◌, ◌<◌, ◌≤◌, Bool, true, false, cond}
 use Rattle.std.proofs.Common.{List, [], ◌∷◌, ◌++◌, length, drop, get_or, arith, add-one, append_assoc, append-nil, subst}
+use Rattle.std.proofs.lemmas.Bool.Decides.{nat_tests}
 use Rattle.std.proofs.lemmas.List.{drop_all}
 use Rattle.std.specs.List.{list_any}
 use Rattle.hum_score.specs.declared.records.SpinedKind.{SpinedKind}
@@ -25,14 +26,9 @@ together_at : {X : Type 0} (done : Bool) (one : X) (fs : List Bool) (xs : List X
     → left_of done one (drop j fs) (drop j xs)
     ≡ cond (get_or fs j false) (cond done (others (drop (suc j) fs) (drop (suc j) xs)) (one ∷ others (drop (suc j) fs) (drop (suc j) xs)))
     (get_or xs j d ∷ left_of done one (drop (suc j) fs) (drop (suc j) xs))
-together_at done one [] xs j d h e = absurd (omega (arith, h))
-together_at done one (f ∷ fs) [] j d h e = absurd (omega (arith, e))
-together_at true one (true ∷ fs) (x ∷ xs) zero d h e = refl
-together_at true one (false ∷ fs) (x ∷ xs) zero d h e = refl
-together_at false one (true ∷ fs) (x ∷ xs) zero d h e = refl
-together_at false one (false ∷ fs) (x ∷ xs) zero d h e = refl
 together_at true one (f ∷ fs) (x ∷ xs) (suc j) d h e = together_at true one fs xs j d (omega (arith, h)) (omega (arith, e))
 together_at false one (f ∷ fs) (x ∷ xs) (suc j) d h e = together_at false one fs xs j d (omega (arith, h)) (omega (arith, e))
+together_at done one fs xs j d h k = grind (arith, nat_tests)
 
 -- another column's token
 pub put_other : (kind : SpinedKind) (one : List ℕ) (fs : List Bool) (ts : List (List ℕ)) (j : ℕ) (done : Bool) (draft new : Draft) (long longer : Bool)
@@ -94,7 +90,5 @@ together_filled one (false ∷ fs) (t ∷ ts) e h = cc
 pub together_none : {X : Type 0} (one : X) (fs : List Bool) (xs : List X) → length fs ≡ length xs → list_any (λ b. b) fs ≡ false
     → together one fs xs ≡ xs
 together_none one [] [] e h = refl
-together_none one [] (x ∷ xs) e h = absurd (omega (arith, e))
-together_none one (f ∷ fs) [] e h = absurd (omega (arith, e))
-together_none one (true ∷ fs) (x ∷ xs) e h = cc
 together_none {X} one (false ∷ fs) (x ∷ xs) e h = ap (λ (ys : List X). x ∷ ys) (together_none one fs xs (omega (arith, e)) h)
+together_none one fs xs h k = grind (arith, nat_tests)
