@@ -1,6 +1,7 @@
 -- Memories go on along the columns.
 use Rattle.std.proofs.Common.{◌≡◌, ◌∙◌, ◌+◌, ◌<◌, ◌≤◌, ◌++◌, ℕ, zero, suc, List, [], ◌∷◌, Some, length, map, drop, take}
 use Rattle.std.proofs.Common.{◌⊎◌, inl, inr, refl, sym, ap, arith, get_or, slice_get, append_assoc, append-nil, add-one}
+use Rattle.std.proofs.lemmas.Bool.Decides.{nat_tests}
 use Rattle.std.specs.Prelude.{slice_set, Result, Ok, Err, OnOk}
 use Rattle.std.specs.List.{AllByRecursion}
 use Rattle.std.proofs.lemmas.List.{drop_all, take_all, take-append-drop}
@@ -52,17 +53,15 @@ module _ {M : Type 0} (see : List ℕ → M → M) (fresh : M) where
     where
       global : Global ≡ AnyInterpretation → ⊥
       global e = cc
-  follows_on (Spined Local tokens) past old new found k is remember told = cc
-  follows_on (Spined Values tokens) past old new found k is remember told = cc
   follows_on (Spined Interpretation tokens) past old new found k is remember told =
       is ∙ rw (remember, told) (memories_go_on tokens (columns past) (moves_at (path_after past) tokens))
+  follows_on row past old new found h k w e = grind (arith, nat_tests)
 
   seen_longer : (tokens : List (List ℕ)) (above : List (List (List ℕ)))
       → seen_each see tokens (map (remembered see fresh) above) ≡ map (remembered see fresh) (longer tokens above)
-  seen_longer [] above = refl
-  seen_longer (token ∷ tokens) [] = refl
   seen_longer (token ∷ tokens) (chain ∷ above) =
       ap (λ ms. see token (remembered see fresh chain) ∷ ms) (seen_longer tokens above)
+  seen_longer tokens above = grind (arith, nat_tests)
 
   shifted : (t : List ℕ) (ts : List (List ℕ)) (m : M) (ms : List M) (j k n : ℕ) → k ≡ suc j
       → map (memory_of see fresh (t ∷ ts) (m ∷ ms)) (same_upto k n) ≡ map (memory_of see fresh ts ms) (same_upto j n)
@@ -76,10 +75,9 @@ module _ {M : Type 0} (see : List ℕ → M → M) (fresh : M) where
   seen_same : (tokens : List (List ℕ)) (ms : List M) → length ms ≤ length tokens
       → seen_each see tokens ms ≡ map (memory_of see fresh tokens ms) (same_upto 0 (length ms))
   seen_same [] [] few = refl
-  seen_same [] (m ∷ ms) few = absurd (omega (arith, few))
-  seen_same (t ∷ ts) [] few = refl
   seen_same (t ∷ ts) (m ∷ ms) few =
       ap (λ rest. see t m ∷ rest) (seen_same ts ms (omega (arith, few)) ∙ sym (shifted t ts m ms 0 1 (length ms) refl))
+  seen_same tokens ms h = grind (arith, nat_tests)
 
   -- under a record that moves none
   pub sees_on : (row : Row) (past : List Row) (old new : List M) (found : List Move) → ComeFrom row found

@@ -1,5 +1,6 @@
 -- Origins by going up, record by record.
 use Rattle.std.proofs.Common.{◌≡◌, ◌∙◌, ℕ, zero, suc, ◌<◌, List, [], ◌∷◌, length, map, Some, slice_get, get_or, refl, sym, ap, arith, subst}
+use Rattle.std.proofs.lemmas.Bool.Decides.{nat_tests}
 use Rattle.std.specs.List.{AllByRecursion}
 use Rattle.std.proofs.lemmas.List.{length-map}
 use Rattle.hum_score.specs.declared.records.Kind.TheVariants.{Global, Interpretation as AnyInterpretation}
@@ -18,11 +19,10 @@ use Rattle.hum_path.proofs.Within.{moves_below}
 
 -- Before the opening there is no way up.
 unopened : (past : List Row) (j : ℕ) → path_after past ≡ Unopened → origin past j ≡ j
-unopened [] j e = refl
 unopened (Comment text ∷ past) j e = unopened past j e
-unopened (Spined Interpretation tokens ∷ past) j e = cc
 unopened (Spined Local tokens ∷ past) j e = unopened past j e
 unopened (Spined Values tokens ∷ past) j e = unopened past j e
+unopened past j h = grind (arith, nat_tests)
 
 there : {X : Type 0} (xs : List X) (j : ℕ) → j < length xs → (x : X) × (slice_get xs j ≡ Some x)
 there [] j h = absurd (omega (arith, h))
@@ -35,9 +35,8 @@ mapped f (z ∷ zs) zero x e = let same : z ≡ x = cc in ap (λ w. Some (f w)) 
 mapped f (z ∷ zs) (suc j) x e = mapped f zs j x e
 
 stands : (xs : List ℕ) (j d x : ℕ) → slice_get xs j ≡ Some x → get_or xs j d ≡ x
-stands [] j d x e = cc
-stands (z ∷ zs) zero d x e = cc
 stands (z ∷ zs) (suc j) d x e = stands zs j d x e
+stands xs j d x h = grind (arith, nat_tests)
 
 holds : {X : Type 0} (P : X → Type 0) (xs : List X) (j : ℕ) (x : X) → AllByRecursion P xs → slice_get xs j ≡ Some x → P x
 holds P [] j x h e = cc
@@ -104,10 +103,9 @@ steered (Comment text) past each next found k is h sound told = absurd (global k
   where
     global : Global ≡ AnyInterpretation → ⊥
     global e = cc
-steered (Spined Local tokens) past each next found k is h sound told = cc
-steered (Spined Values tokens) past each next found k is h sound told = cc
 steered (Spined Interpretation tokens) past each next found k is h sound told =
     subst (AreOrigins (Spined Interpretation tokens ∷ past)) (sym (is ∙ ap (map (origin_of each)) told)) (moved past tokens each sound h)
+steered row past each next found h k w e m = grind (arith, nat_tests)
 
 pub climbing : (past : List Row) → IsOpen past → AreOrigins past (origins past)
 climbing [] h = record { width = refl; at = λ j below. absurd (omega (arith, below)) }

@@ -1,5 +1,6 @@
 -- Joins under different exclusive interpretations, place by place.
 use Rattle.std.proofs.Common.{◌≡◌, ℕ, suc, zero, ◌+◌, ◌<◌, false, List, [], ◌∷◌, length, drop, refl, arith, add-one}
+use Rattle.std.proofs.lemmas.Bool.Decides.{nat_tests}
 use Rattle.std.specs.declared.vec.Vec.{Vec}
 use Rattle.std.specs.declared.alloc.Global.{Global}
 use Rattle.hum_score.specs.declared.spines.Sign.{Sign}
@@ -8,14 +9,8 @@ use Rattle.hum_score.specs.Rules.{mixes_join, has_mixed_join}
 
 pub mixes_short : (names : List (List ℕ)) (signs : List Sign) → length signs < 2 → false ≡ mixes_join names signs
 mixes_short [] [] h = refl
-mixes_short [] (s ∷ []) h = refl
-mixes_short [] (s ∷ t ∷ ss) h = refl
-mixes_short (n ∷ []) [] h = refl
-mixes_short (n ∷ []) (s ∷ []) h = refl
-mixes_short (n ∷ []) (s ∷ t ∷ ss) h = refl
-mixes_short (n ∷ m ∷ ns) [] h = refl
-mixes_short (n ∷ m ∷ ns) (s ∷ []) h = refl
 mixes_short (n ∷ m ∷ ns) (s ∷ t ∷ ss) h = absurd (omega arith)
+mixes_short names signs h = grind (arith, nat_tests)
 
 -- one place further
 pub mixed_more : (names : List (Vec ℕ Global)) (signs : List Sign) (j : ℕ) → length names ≡ length signs

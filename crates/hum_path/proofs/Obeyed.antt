@@ -3,7 +3,7 @@ use Rattle.std.proofs.Common.{◌≡◌, ℕ, ◌≤◌, false, true, List, [], 
 use Rattle.std.specs.List.{find, list_all}
 use Rattle.std.proofs.lemmas.Bool.Decides.{nat_tests}
 use Rattle.std.proofs.lemmas.List.{length-map}
-use Rattle.hum_score.specs.declared.records.SpinedKind.TheVariants.{Local, Interpretation, Values}
+use Rattle.hum_score.specs.declared.records.SpinedKind.TheVariants.{Interpretation}
 use Rattle.hum_score.specs.Row.{Row, Comment, Spined}
 use Rattle.hum_score.specs.Sign.{sign_of, is_exclusive}
 use Rattle.hum_score.specs.Spines.{Path, Unopened, Spines, width, exchanges, names_after}
@@ -39,10 +39,9 @@ obeys names tokens h = let k = find_none (breaks (Spines names) tokens) in_order
 pub narrow : (past : List Row) → IsOpen past → width (path_after past) ≤ 4096
 narrow [] h = omega arith
 narrow (Comment text ∷ past) h = narrow past h.0
-narrow (Spined Local tokens ∷ past) h = narrow past h.0
-narrow (Spined Values tokens ∷ past) h = narrow past h.0
 narrow (Spined Interpretation tokens ∷ past) h = by_path (path_after past) h.1
   where
     by_path : (path : Path) → find (breaks path tokens) in_order ≡ None → length (names_after path tokens) ≤ 4096
     by_path Unopened h = (opens tokens h).few
     by_path (Spines names) h = (obeys names tokens h).few
+narrow (Spined kind tokens ∷ past) h = narrow past h.0

@@ -1,11 +1,11 @@
 -- Moves by place, and what they carry on.
-use Rattle.std.proofs.Common.{◌≡◌, ◌∙◌, refl, sym, ap, ℕ, zero, suc, ◌+◌, ◌<◌, ◌≤◌, ◌==◌, Bool, true, false}
+use Rattle.std.proofs.Common.{◌≡◌, ◌∙◌, refl, sym, ap, ℕ, suc, ◌+◌, ◌<◌, ◌≤◌, ◌==◌, Bool, true, false}
 use Rattle.std.proofs.Common.{List, [], ◌∷◌, map, length, get_or, cond, arith, ◌||◌}
 use Rattle.std.specs.List.{AllByRecursion}
 use Rattle.std.proofs.lemmas.Bool.Decides.{nat_tests}
 use Rattle.std.proofs.lemmas.List.{length-map}
 use Rattle.hum_score.specs.declared.spines.Sign.{Sign}
-use Rattle.hum_score.specs.declared.spines.Sign.TheVariants.{Split, Join, Exchange, Add, End, Exclusive, Plain}
+use Rattle.hum_score.specs.declared.spines.Sign.TheVariants.{Split, Join, Exchange, Add, End}
 use Rattle.hum_score.specs.declared.spines.Move.{Move}
 use Rattle.hum_score.specs.Sign.{sign_of, is_join, is_exchange, is_exclusive}
 use Rattle.hum_score.specs.Spines.{Spines, exchanges, partner, heirs_from, moves_under, renamed, names_after, source}
@@ -18,22 +18,17 @@ use Rattle.hum_score.proofs.Cases.{by_bool}
 pub onward_by_moves : {X : Type 0} (f : Move → X) (added : X → X) (pair : List ℕ) (j : ℕ) (b : Bool) (signs : List Sign) (xs : List X)
     → Agrees f added pair j signs xs → map f (heirs_from pair j b signs) ≡ onward added (beginnings b signs) signs xs
 onward_by_moves f added pair j b [] [] h = refl
-onward_by_moves f added pair j b [] (x ∷ xs) h = absurd h
-onward_by_moves f added pair j b (s ∷ ss) [] h = absurd h
 onward_by_moves f added pair j b (Split ∷ ss) (x ∷ xs) h =
     let ih = onward_by_moves f added pair (j + 1) false ss xs h.1 in let a = h.0.0 in let c = h.0.1 in rw (a, c, ih) refl
 onward_by_moves f added pair j true (Join ∷ ss) (x ∷ xs) h = onward_by_moves f added pair (j + 1) true ss xs h.1
 onward_by_moves f added pair j false (Join ∷ ss) (x ∷ xs) h =
     let ih = onward_by_moves f added pair (j + 1) true ss xs h.1 in rw (h.0 _, ih) refl
-onward_by_moves f added pair j b (Exchange ∷ ss) (x ∷ xs) h =
-    let ih = onward_by_moves f added pair (j + 1) false ss xs h.1 in rw (h.0, ih) refl
 onward_by_moves f added pair j b (Add ∷ ss) (x ∷ xs) h =
     let ih = onward_by_moves f added pair (j + 1) false ss xs h.1 in let a = h.0.0 in let c = h.0.1 in rw (a, c, ih) refl
 onward_by_moves f added pair j b (End ∷ ss) (x ∷ xs) h = onward_by_moves f added pair (j + 1) false ss xs h.1
-onward_by_moves f added pair j b (Exclusive ∷ ss) (x ∷ xs) h =
+onward_by_moves f added pair j b (s ∷ ss) (x ∷ xs) h =
     let ih = onward_by_moves f added pair (j + 1) false ss xs h.1 in rw (h.0, ih) refl
-onward_by_moves f added pair j b (Plain ∷ ss) (x ∷ xs) h =
-    let ih = onward_by_moves f added pair (j + 1) false ss xs h.1 in rw (h.0, ih) refl
+onward_by_moves f added pair j b signs xs h = grind (arith, nat_tests)
 
 pub begins_length : (b : Bool) (ss : List Sign) → length (beginnings b ss) ≡ length ss
 begins_length b [] = refl
@@ -62,21 +57,18 @@ filled_is e = absurd (none e)
 from_own : {X : Type 0} (none : X) (pair : List ℕ) (vs : List X) (j : ℕ) (ss : List Sign) (xs : List X) → length ss ≡ length xs
     → exchanges j ss ≡ [] → StandFrom none vs j xs → from_places none pair vs j ss ≡ xs
 from_own none pair vs j [] [] len e at = refl
-from_own none pair vs j [] (x ∷ xs) len e at = absurd (omega (arith, len))
-from_own none pair vs j (s ∷ ss) [] len e at = absurd (omega (arith, len))
 from_own none pair vs j (s ∷ ss) (x ∷ xs) len e at =
     by_bool (is_exchange s)
     (λ w. filled_is (rw w at e))
     (λ w.
     let rest = from_own none pair vs (j + 1) ss xs (omega (arith, len)) (rw w at e) (next_at none vs j x xs at) in
     rw (w, first_at none vs j x xs at, rest) refl)
+from_own none pair vs j ss xs h k w = grind (arith, nat_tests)
 
 -- behind the first one,
 from_second : {X : Type 0} (none : X) (a b : ℕ) (vs : List X) (j : ℕ) (ss : List Sign) (xs : List X) → length ss ≡ length xs
     → exchanges j ss ≡ b ∷ [] → a < j → StandFrom none vs j xs
     → from_places none (a ∷ b ∷ []) vs j ss ≡ put_next (get_or vs a none) ss xs
-from_second none a b vs j [] xs len e less at = cc
-from_second none a b vs j (s ∷ ss) [] len e less at = absurd (omega (arith, len))
 from_second none a b vs j (s ∷ ss) (x ∷ xs) len e less at =
     by_bool (is_exchange s)
     (λ w.
@@ -88,22 +80,20 @@ from_second none a b vs j (s ∷ ss) (x ∷ xs) len e less at =
     let more = next_at none vs j x xs at in
     let rest = from_second none a b vs (j + 1) ss xs (omega (arith, len)) (rw w at e) (omega (arith, less)) more in
     rw (w, first_at none vs j x xs at, rest) refl)
+from_second none a b vs j ss xs h k w e = grind (arith, nat_tests)
 
 -- the one that the first changes places with,
 second_at : {X : Type 0} (none other : X) (b : ℕ) (vs : List X) (j : ℕ) (ss : List Sign) (xs : List X) → length ss ≡ length xs
     → exchanges j ss ≡ b ∷ [] → StandFrom none vs j xs → get_or vs b none ≡ at_next other ss xs
-second_at none other b vs j [] xs len e at = cc
-second_at none other b vs j (s ∷ ss) [] len e at = absurd (omega (arith, len))
 second_at none other b vs j (s ∷ ss) (x ∷ xs) len e at =
     by_bool (is_exchange s)
     (λ w. rw (w, ← (parts (rw w at e)).0) (first_at none vs j x xs at))
     (λ w. rw w (second_at none other b vs (j + 1) ss xs (omega (arith, len)) (rw w at e) (next_at none vs j x xs at)))
+second_at none other b vs j ss xs h k w = grind (arith, nat_tests)
 
 -- and with two.
 from_both : {X : Type 0} (none : X) (a b : ℕ) (vs : List X) (j : ℕ) (ss : List Sign) (xs : List X) → length ss ≡ length xs
     → exchanges j ss ≡ a ∷ b ∷ [] → StandFrom none vs j xs → from_places none (a ∷ b ∷ []) vs j ss ≡ swapped ss xs
-from_both none a b vs j [] xs len e at = cc
-from_both none a b vs j (s ∷ ss) [] len e at = absurd (omega (arith, len))
 from_both none a b vs j (s ∷ ss) (x ∷ xs) len e at =
     by_bool (is_exchange s)
     (λ w.
@@ -118,29 +108,27 @@ from_both none a b vs j (s ∷ ss) (x ∷ xs) len e at =
     (λ w.
     let rest = from_both none a b vs (j + 1) ss xs (omega (arith, len)) (rw w at e) (next_at none vs j x xs at) in
     rw (w, first_at none vs j x xs at, rest) refl)
+from_both none a b vs j ss xs h k w = grind (arith, nat_tests)
 
 -- nothing changes places
 pub swapped_none : {X : Type 0} (j : ℕ) (ss : List Sign) (xs : List X) → exchanges j ss ≡ [] → swapped ss xs ≡ xs
-swapped_none j [] xs e = refl
-swapped_none j (s ∷ ss) [] e = refl
 swapped_none {X} j (s ∷ ss) (x ∷ xs) e =
     by_bool (is_exchange s)
     (λ w. filled_is (rw w at e))
     (λ w. rw w (ap (λ (ys : List X). x ∷ ys) (swapped_none (j + 1) ss xs (rw w at e))))
+swapped_none j ss xs h = grind (arith, nat_tests)
 
 put_length : {X : Type 0} (y : X) (ss : List Sign) (xs : List X) → length (put_next y ss xs) ≡ length xs
-put_length y [] xs = refl
-put_length y (s ∷ ss) [] = refl
 put_length y (s ∷ ss) (x ∷ xs) = by_bool (is_exchange s)
     (λ w. rw w refl)
     (λ w. rw w (ap suc (put_length y ss xs)))
+put_length y ss xs = grind (arith, nat_tests)
 
 pub swapped_length : {X : Type 0} (ss : List Sign) (xs : List X) → length (swapped ss xs) ≡ length xs
-swapped_length [] xs = refl
-swapped_length (s ∷ ss) [] = refl
 swapped_length (s ∷ ss) (x ∷ xs) = by_bool (is_exchange s)
     (λ w. rw w (ap suc (put_length x ss xs)))
     (λ w. rw w (ap suc (swapped_length ss xs)))
+swapped_length ss xs = grind (arith, nat_tests)
 
 too_many : (n : ℕ) → ((suc (suc (suc n)) == 0) || (suc (suc (suc n)) == 2)) ≡ true → ⊥
 too_many n e = grind (arith, nat_tests, e)
@@ -167,10 +155,8 @@ name_at names tokens j = cond (is_exclusive (sign_of (get_or tokens j []))) (get
 get_renamed : (names tokens : List (List ℕ)) (k : ℕ) → length names ≡ length tokens
     → get_or (renamed_each names tokens) k [] ≡ name_at names tokens k
 get_renamed [] [] k len = refl
-get_renamed [] (t ∷ ts) k len = absurd (omega (arith, len))
-get_renamed (n ∷ ns) [] k len = absurd (omega (arith, len))
-get_renamed (n ∷ ns) (t ∷ ts) zero len = refl
 get_renamed (n ∷ ns) (t ∷ ts) (suc k) len = get_renamed ns ts k (omega (arith, len))
+get_renamed names tokens k h = grind (arith, nat_tests)
 
 names_agree : (pair : List ℕ) (names tokens : List (List ℕ)) (j : ℕ) (s : Sign) (vs : List (List ℕ)) → sign_of (get_or tokens j []) ≡ s
     → get_or vs j [] ≡ name_at names tokens j → get_or vs (partner pair j) [] ≡ name_at names tokens (partner pair j)
@@ -180,8 +166,7 @@ names_agree pair names tokens j Join vs e here there = let own = rw e at here in
 names_agree pair names tokens j Exchange vs e here there = sym there
 names_agree pair names tokens j Add vs e here there = (sym here, refl)
 names_agree pair names tokens j End vs e here there = tt
-names_agree pair names tokens j Exclusive vs e here there = sym here
-names_agree pair names tokens j Plain vs e here there = sym here
+names_agree pair names tokens j s vs e here there = sym here
 
 all_names_agree : (pair : List ℕ) (names tokens : List (List ℕ)) (j : ℕ) (ts : List (List ℕ)) → length names ≡ length tokens
     → StandFrom [] tokens j ts
@@ -197,9 +182,8 @@ all_names_agree pair names tokens j (t ∷ ts) len at =
 
 pub each_length : (names tokens : List (List ℕ)) → length names ≡ length tokens → length (renamed_each names tokens) ≡ length tokens
 each_length [] [] len = refl
-each_length [] (t ∷ ts) len = absurd (omega (arith, len))
-each_length (n ∷ ns) [] len = absurd (omega (arith, len))
 each_length (n ∷ ns) (t ∷ ts) len = ap suc (each_length ns ts (omega (arith, len)))
+each_length names tokens h = grind (arith, nat_tests)
 
 -- the exclusive interpretations after a record, by its signs and each column's own
 pub names_onward : (names tokens : List (List ℕ)) → length names ≡ length tokens → is_pair_or_none (exchanges 0 (map sign_of tokens)) ≡ true
@@ -223,8 +207,7 @@ place_agrees none f pair xs j Join at here there = λ last. at _ here
 place_agrees none f pair xs j Exchange at here there = at _ there
 place_agrees none f pair xs j Add at here there = (at _ here, at _ here)
 place_agrees none f pair xs j End at here there = tt
-place_agrees none f pair xs j Exclusive at here there = at _ here
-place_agrees none f pair xs j Plain at here there = at _ here
+place_agrees none f pair xs j s at here there = at _ here
 
 all_agree : {X : Type 0} (none : X) (f : Move → X) (pair : List ℕ) (xs : List X) (j : ℕ) (ss : List Sign)
     → ((m : Move) → source m < length xs → f m ≡ get_or xs (source m) none)

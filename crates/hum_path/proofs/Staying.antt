@@ -1,6 +1,6 @@
 -- A record that asks nothing of the spines leaves them as they are, and is refused as a text is.
 use Rattle.std.proofs.Common.{◌≡◌, ◌≢◌, ◌∙◌, refl, sym, ap, ℕ, ◌+◌, ◌≤◌, ◌<◌, Bool, not}
-use Rattle.std.proofs.Common.{true, false, ◌==◌, List, [], ◌∷◌, length, None}
+use Rattle.std.proofs.Common.{true, false, ◌==◌, List, [], ◌∷◌, length, map, None}
 use Rattle.std.proofs.Common.{Ok, inl, inr, arith}
 use Rattle.std.specs.List.{list_any, list_all, find}
 use Rattle.std.specs.Str.{bytes_eq}
@@ -67,20 +67,14 @@ plain_bare (t ∷ ts) h = grind (arith, nat_tests, plain_bare ts, bare_exclusive
 plain_as_wide : (names tokens : List (List ℕ)) → all_plain tokens ≡ true → length names ≤ 4096
     → length tokens ≡ length names
     → find (breaks (Spines names) tokens) in_order ≡ find (breaks_as_text (Spines names) tokens) in_order
-plain_as_wide =
-    grind (
-      arith,
-      nat_tests,
-      plain_unnamed,
-      plain_bare,
-      plain_exclusive,
-      plain_lone,
-      plain_exchanges,
-      plain_mixed,
-      plain_moves,
-      same_upto_length,
-      length-map,
-    )
+plain_as_wide names tokens h few e =
+    let signs = map sign_of tokens in
+    let lone = plain_lone signs h in
+    let places = plain_exchanges 0 signs h in
+    let named = plain_exclusive signs h in
+    let mixed = plain_mixed names signs h in
+    let bare = plain_bare tokens h in
+    grind (arith, nat_tests, plain_unnamed, plain_moves, same_upto_length, length-map, lone, places, named, mixed, bare)
 
 -- an interpretation that asks nothing breaks a rule just where a text does
 pub plain_breaks : (path : Path) (tokens : List (List ℕ)) → all_plain tokens ≡ true → tokens ≢ []
@@ -138,13 +132,10 @@ quiet_stays path (Spined Interpretation tokens) quiet spined lawful few =
 pub unsteered : (path : Path) (row : Row) → (kind_of row ≡ AnyInterpretation → ⊥) → fault_of path row ≡ None
     → IsStay path row (Ok (same_upto 0 (width path)))
 unsteered path (Comment text) other sound = (refl, refl, refl, tt)
-unsteered path (Spined Local tokens) other sound =
-    let stays = text_stays Local path tokens sound (text_width path tokens sound) refl refl in
-    (stays.sound, refl, refl, stays.sources)
-unsteered path (Spined Values tokens) other sound =
-    let stays = text_stays Values path tokens sound (text_width path tokens sound) refl refl in
-    (stays.sound, refl, refl, stays.sources)
 unsteered path (Spined Interpretation tokens) other sound = absurd (other refl)
+unsteered path (Spined kind tokens) other sound =
+    let stays = text_stays kind path tokens sound (text_width path tokens sound) refl refl in
+    (stays.sound, refl, refl, stays.sources)
 
 -- the fields show the names
 pub names_in : (opened waits : Bool) (names : List (Vec ℕ Global)) → IsTidy opened waits names
@@ -172,9 +163,6 @@ as_many a b h = grind (arith, nat_tests)
 pub data_fits : (opened waits : Bool) (names : List (Vec ℕ Global)) (row : Row) → IsTidy opened waits names → kind_of row ≡ AnyValues
     → IsTextOf row (text_of row) → length (tokens_of row) ≡ length names → waits ≡ false
     → find (breaks_as_text (path_in opened (texts names)) (tokens_of row)) in_order ≡ None
-data_fits opened waits names (Comment text) tidy h lawful wide ready = let z = h in cc
-data_fits opened waits names (Spined Local tokens) tidy h lawful wide ready = let z = h in cc
-data_fits opened waits names (Spined Interpretation tokens) tidy h lawful wide ready = let z = h in cc
 data_fits false waits names (Spined Values tokens) tidy h lawful wide ready =
     let some = some_tokens tokens lawful.1 in
     let none : length names ≡ 0 = ap length (tidy.unopened refl) in
@@ -188,3 +176,4 @@ data_fits true waits names (Spined Values tokens) tidy h lawful wide ready =
       sym tidy.waiting ∙ ready,
     )
     refl
+data_fits opened waits names row tidy h lawful wide ready = let z = h in cc

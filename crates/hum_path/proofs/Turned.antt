@@ -9,7 +9,7 @@ use Rattle.std.proofs.lemmas.Bool.Decides.{nat_tests}
 use Rattle.std.proofs.lemmas.List.{reverse-append, get_or-map}
 use Rattle.std.proofs.lemmas.List.Sums.{position_or_len_is, passes_at_first}
 use Rattle.std.proofs.lemmas.Option.{slice_get_within, get_or_from_slice_get, slice_get-get_or}
-use Rattle.hum_score.specs.declared.records.SpinedKind.TheVariants.{Local, Interpretation, Values}
+use Rattle.hum_score.specs.declared.records.SpinedKind.TheVariants.{Interpretation}
 use Rattle.hum_score.specs.Row.{Row, Comment, Spined}
 use Rattle.hum_score.specs.declared.spines.Sign.{Sign}
 use Rattle.hum_score.specs.declared.spines.Sign.TheVariants.{Split, Join, Exchange, Add, End, Exclusive, Plain}
@@ -72,16 +72,10 @@ module _ (turn : ℕ → ℕ) (pair : List ℕ) where
 
   -- a place among joins in a row has its own turn
   joined_turn : (p k : ℕ) (signs : List Sign) → Fits p signs → p ≤ k → k < p + joins_at_front signs → turn k ≡ k
-  joined_turn p k [] f h l = absurd (omega (arith, h, l))
   joined_turn p k (Join ∷ ss) f h l =
       by_bool (p == k) (λ w. let e : p ≡ k = same_place p k w in rw e at f.0)
       (λ w. let further : p + 1 ≤ k = grind (arith, nat_tests, w, h) in joined_turn (p + 1) k ss f.1 further (omega (arith, l)))
-  joined_turn p k (Split ∷ ss) f h l = absurd (omega (arith, h, l))
-  joined_turn p k (Exchange ∷ ss) f h l = absurd (omega (arith, h, l))
-  joined_turn p k (Add ∷ ss) f h l = absurd (omega (arith, h, l))
-  joined_turn p k (End ∷ ss) f h l = absurd (omega (arith, h, l))
-  joined_turn p k (Exclusive ∷ ss) f h l = absurd (omega (arith, h, l))
-  joined_turn p k (Plain ∷ ss) f h l = absurd (omega (arith, h, l))
+  joined_turn p k signs h w e = grind (arith, nat_tests)
 
   module _ (j : ℕ) where
     -- the turn of place j comes at p or later, and not within joins that go on
@@ -114,10 +108,6 @@ module _ (turn : ℕ → ℕ) (pair : List ℕ) where
     later_on p b (Exchange ∷ ss) f zero h = own p b (Exchange ∷ ss) (turn_of_other p f.0 h) refl
     later_on p b (Exchange ∷ ss) f (suc i) h = beyond p false b (Exchange ∷ ss) ss (later_on (p + 1) false ss f.1 i h) refl
     later_on p b (End ∷ ss) f i h = beyond p false b (End ∷ ss) ss (later_on (p + 1) false ss f.1 i h) refl
-    later_on p b (Exclusive ∷ ss) f zero h = own p b (Exclusive ∷ ss) (turn_of p f.0 h) refl
-    later_on p b (Exclusive ∷ ss) f (suc i) h = beyond p false b (Exclusive ∷ ss) ss (later_on (p + 1) false ss f.1 i h) refl
-    later_on p b (Plain ∷ ss) f zero h = own p b (Plain ∷ ss) (turn_of p f.0 h) refl
-    later_on p b (Plain ∷ ss) f (suc i) h = beyond p false b (Plain ∷ ss) ss (later_on (p + 1) false ss f.1 i h) refl
     later_on p true (Join ∷ ss) f i h =
         let rest = later_on (p + 1) true ss f.1 i h in
         let far = rest.from in
@@ -137,6 +127,8 @@ module _ (turn : ℕ → ℕ) (pair : List ℕ) where
         let rest = later_on (p + 1) true ss f.1 i h in
         let far = rest.from in
         record { from = omega (arith, far); out = λ e h l. cc }
+    later_on p b (s ∷ ss) f zero h = own p b (s ∷ ss) (turn_of p f.0 h) refl
+    later_on p b (s ∷ ss) f (suc i) h = beyond p false b (s ∷ ss) ss (later_on (p + 1) false ss f.1 i h) refl
 
     -- of those that come after place p's turn, none goes on from it
     no_more : (p : ℕ) (b : Bool) (ss : List Sign) → Fits (p + 1) ss → turn j ≡ p → None_goes j (heirs_from pair (p + 1) b ss)
@@ -167,10 +159,6 @@ module _ (turn : ℕ → ℕ) (pair : List ℕ) where
     one_on p b (Exchange ∷ ss) f =
         either j (Same (partner pair p)) (heirs_from pair (p + 1) false ss) (λ w. no_more p false ss f.1 (turn_of_other p f.0 w)) (one_on (p + 1) false ss f.1)
     one_on p b (End ∷ ss) f = one_on (p + 1) false ss f.1
-    one_on p b (Exclusive ∷ ss) f =
-        either j (Same p) (heirs_from pair (p + 1) false ss) (λ w. no_more p false ss f.1 (turn_of p f.0 w)) (one_on (p + 1) false ss f.1)
-    one_on p b (Plain ∷ ss) f =
-        either j (Same p) (heirs_from pair (p + 1) false ss) (λ w. no_more p false ss f.1 (turn_of p f.0 w)) (one_on (p + 1) false ss f.1)
     one_on p true (Join ∷ ss) f = one_on (p + 1) true ss f.1
     one_on p false (Join ∷ ss) f =
         either j (Joined p (p + joins_at_front ss)) (heirs_from pair (p + 1) true ss) none (one_on (p + 1) true ss f.1)
@@ -185,6 +173,8 @@ module _ (turn : ℕ → ℕ) (pair : List ℕ) where
             by_bool (p == j)
             (λ e. let t : turn j ≡ p = turn_of p f.0 e in omega (arith, far, t))
             (λ e. later.out refl (grind (arith, nat_tests, e, low)) (omega (arith, high)))
+    one_on p b (s ∷ ss) f =
+        either j (Same p) (heirs_from pair (p + 1) false ss) (λ w. no_more p false ss f.1 (turn_of p f.0 w)) (one_on (p + 1) false ss f.1)
 
 -- a list of exchanged places ascends
 lower : (p a : ℕ) (signs : List Sign) (rest : List ℕ) → exchanges p signs ≡ a ∷ rest → p ≤ a
@@ -193,23 +183,13 @@ lower p a (Exchange ∷ ss) rest e = let h : p ≡ a = head_is e in omega (arith
   where
     head_is : {xs ys : List ℕ} {x y : ℕ} → x ∷ xs ≡ y ∷ ys → x ≡ y
     head_is e = cc
-lower p a (Split ∷ ss) rest e = let w = lower (p + 1) a ss rest e in omega (arith, w)
-lower p a (Join ∷ ss) rest e = let w = lower (p + 1) a ss rest e in omega (arith, w)
-lower p a (Add ∷ ss) rest e = let w = lower (p + 1) a ss rest e in omega (arith, w)
-lower p a (End ∷ ss) rest e = let w = lower (p + 1) a ss rest e in omega (arith, w)
-lower p a (Exclusive ∷ ss) rest e = let w = lower (p + 1) a ss rest e in omega (arith, w)
-lower p a (Plain ∷ ss) rest e = let w = lower (p + 1) a ss rest e in omega (arith, w)
+lower p a (s ∷ ss) rest e = let w = lower (p + 1) a ss rest e in omega (arith, w)
 
 -- where none changes places
 fits_none : (p : ℕ) (signs : List Sign) → Fits (λ k. k) [] p signs
 fits_none p [] = tt
 fits_none p (Split ∷ ss) = (refl, fits_none (p + 1) ss)
-fits_none p (Join ∷ ss) = (refl, fits_none (p + 1) ss)
-fits_none p (Exchange ∷ ss) = (refl, fits_none (p + 1) ss)
-fits_none p (Add ∷ ss) = (refl, fits_none (p + 1) ss)
-fits_none p (End ∷ ss) = (refl, fits_none (p + 1) ss)
-fits_none p (Exclusive ∷ ss) = (refl, fits_none (p + 1) ss)
-fits_none p (Plain ∷ ss) = (refl, fits_none (p + 1) ss)
+fits_none p (s ∷ ss) = (refl, fits_none (p + 1) ss)
 
 -- where two do
 module _ (a b : ℕ) (apart : a < b) where
@@ -266,12 +246,7 @@ module _ (a b : ℕ) (apart : a < b) where
   fits_two : (p : ℕ) (signs : List Sign) → ToCome p (exchanges p signs) → Fits turn (a ∷ b ∷ []) p signs
   fits_two p [] h = tt
   fits_two p (Exchange ∷ ss) h = let w = met p (exchanges (p + 1) ss) h in (w.0, fits_two (p + 1) ss w.1)
-  fits_two p (Split ∷ ss) h = let w = passed_by p (exchanges (p + 1) ss) h (λ c more e. lower (p + 1) c ss more e) in (w.0, fits_two (p + 1) ss w.1)
-  fits_two p (Join ∷ ss) h = let w = passed_by p (exchanges (p + 1) ss) h (λ c more e. lower (p + 1) c ss more e) in (w.0, fits_two (p + 1) ss w.1)
-  fits_two p (Add ∷ ss) h = let w = passed_by p (exchanges (p + 1) ss) h (λ c more e. lower (p + 1) c ss more e) in (w.0, fits_two (p + 1) ss w.1)
-  fits_two p (End ∷ ss) h = let w = passed_by p (exchanges (p + 1) ss) h (λ c more e. lower (p + 1) c ss more e) in (w.0, fits_two (p + 1) ss w.1)
-  fits_two p (Exclusive ∷ ss) h = let w = passed_by p (exchanges (p + 1) ss) h (λ c more e. lower (p + 1) c ss more e) in (w.0, fits_two (p + 1) ss w.1)
-  fits_two p (Plain ∷ ss) h = let w = passed_by p (exchanges (p + 1) ss) h (λ c more e. lower (p + 1) c ss more e) in (w.0, fits_two (p + 1) ss w.1)
+  fits_two p (s ∷ ss) h = let w = passed_by p (exchanges (p + 1) ss) h (λ c more e. lower (p + 1) c ss more e) in (w.0, fits_two (p + 1) ss w.1)
 
 -- the second of two is beyond the first
 second : (p a b : ℕ) (signs : List Sign) (rest : List ℕ) → exchanges p signs ≡ a ∷ b ∷ rest → a < b
@@ -280,12 +255,7 @@ second p a b (Exchange ∷ ss) rest e =
     let h : p ≡ a = cc in
     let t : exchanges (p + 1) ss ≡ b ∷ rest = cc in
     let w = lower (p + 1) b ss rest t in omega (arith, h, w)
-second p a b (Split ∷ ss) rest e = second (p + 1) a b ss rest e
-second p a b (Join ∷ ss) rest e = second (p + 1) a b ss rest e
-second p a b (Add ∷ ss) rest e = second (p + 1) a b ss rest e
-second p a b (End ∷ ss) rest e = second (p + 1) a b ss rest e
-second p a b (Exclusive ∷ ss) rest e = second (p + 1) a b ss rest e
-second p a b (Plain ∷ ss) rest e = second (p + 1) a b ss rest e
+second p a b (s ∷ ss) rest e = second (p + 1) a b ss rest e
 
 -- of spines under signs, one at most goes on from a place
 one_under : (j : ℕ) (signs : List Sign) → is_pair_or_none (exchanges 0 signs) ≡ true → One_goes j (moves_under signs)
@@ -332,27 +302,20 @@ IsOrdered (Added j) = Unit {0}
 
 ordered_on : (pair : List ℕ) (p : ℕ) (b : Bool) (signs : List Sign) (i : ℕ) → IsOrdered (at (heirs_from pair p b signs) i)
 ordered_on pair p b [] i = tt
-ordered_on pair p b (Split ∷ ss) zero = tt
 ordered_on pair p b (Split ∷ ss) (suc zero) = tt
 ordered_on pair p b (Split ∷ ss) (suc (suc i)) = ordered_on pair (p + 1) false ss i
-ordered_on pair p b (Add ∷ ss) zero = tt
 ordered_on pair p b (Add ∷ ss) (suc zero) = tt
 ordered_on pair p b (Add ∷ ss) (suc (suc i)) = ordered_on pair (p + 1) false ss i
-ordered_on pair p b (Exchange ∷ ss) zero = tt
-ordered_on pair p b (Exchange ∷ ss) (suc i) = ordered_on pair (p + 1) false ss i
 ordered_on pair p b (End ∷ ss) i = ordered_on pair (p + 1) false ss i
-ordered_on pair p b (Exclusive ∷ ss) zero = tt
-ordered_on pair p b (Exclusive ∷ ss) (suc i) = ordered_on pair (p + 1) false ss i
-ordered_on pair p b (Plain ∷ ss) zero = tt
-ordered_on pair p b (Plain ∷ ss) (suc i) = ordered_on pair (p + 1) false ss i
 ordered_on pair p true (Join ∷ ss) i = ordered_on pair (p + 1) true ss i
 ordered_on pair p false (Join ∷ ss) zero = omega arith
 ordered_on pair p false (Join ∷ ss) (suc i) = ordered_on pair (p + 1) true ss i
+ordered_on pair p b (s ∷ ss) zero = tt
+ordered_on pair p b (s ∷ ss) (suc i) = ordered_on pair (p + 1) false ss i
 
 ordered_same : (p n i : ℕ) → IsOrdered (at (same_upto p n) i)
-ordered_same p zero i = tt
-ordered_same p (suc n) zero = tt
 ordered_same p (suc n) (suc i) = ordered_same (p + 1) n i
+ordered_same p n i = grind (arith, nat_tests)
 
 ordered_at : (path : Path) (tokens : List (List ℕ)) (i : ℕ) → IsOrdered (at (moves_at path tokens) i)
 ordered_at Unopened tokens i = ordered_same 0 (length tokens) i
@@ -436,10 +399,8 @@ open_back past (row ∷ rows) h = (open_back (row ∷ past) rows h).0
 -- one cell more in front of those above it
 one_longer : (tokens : List (List ℕ)) (above : List (List (List ℕ))) (j : ℕ) → j < length tokens → length tokens ≡ length above
     → slice_index_or (longer tokens above) j [] ≡ slice_index_or tokens j [] ∷ slice_index_or above j []
-one_longer [] above j h e = absurd (omega (arith, h))
-one_longer (t ∷ ts) [] j h e = absurd (omega (arith, e))
-one_longer (t ∷ ts) (chain ∷ above) zero h e = refl
 one_longer (t ∷ ts) (chain ∷ above) (suc j) h e = one_longer ts above j (omega (arith, h)) (omega (arith, e))
+one_longer tokens above j h k = grind (arith, nat_tests)
 
 -- the cells above a spine that comes by a move
 cells_above : (tokens : List (List ℕ)) (above : List (List (List ℕ))) (found : List Move) (k j : ℕ) → place_above found k ≡ Some j
@@ -476,18 +437,6 @@ turned_more x below above all h =
 pub columns_turn : (past rows : List Row) → ColumnsTurn past rows
 columns_turn past [] j i score less leads = ap (history past) (sym leads)
 columns_turn past (Comment text ∷ rows) j i score less leads = columns_turn (Comment text ∷ past) rows j i score less leads
-columns_turn past (Spined Local tokens ∷ rows) j i score less leads =
-    let front = open_back (Spined Local tokens ∷ past) rows score in
-    let wide = text_width (path_after past) tokens front.1 in
-    let longer = one_longer tokens (columns past) j (omega (arith, less, wide)) (wide ∙ sym (columns_width past front.0)) in
-    turned_more (slice_index_or tokens j []) (future (path_after past) rows j) (history past j) (history (passed past (Spined Local tokens ∷ rows)) i)
-    (rw (sym longer) (columns_turn (Spined Local tokens ∷ past) rows j i score less leads))
-columns_turn past (Spined Values tokens ∷ rows) j i score less leads =
-    let front = open_back (Spined Values tokens ∷ past) rows score in
-    let wide = text_width (path_after past) tokens front.1 in
-    let longer = one_longer tokens (columns past) j (omega (arith, less, wide)) (wide ∙ sym (columns_width past front.0)) in
-    turned_more (slice_index_or tokens j []) (future (path_after past) rows j) (history past j) (history (passed past (Spined Values tokens ∷ rows)) i)
-    (rw (sym longer) (columns_turn (Spined Values tokens ∷ past) rows j i score less leads))
 columns_turn past (Spined Interpretation tokens ∷ rows) j i score less leads =
     let found = moves_at (path_after past) tokens in
     let k = leads.0 in
@@ -497,3 +446,9 @@ columns_turn past (Spined Interpretation tokens ∷ rows) j i score less leads =
     rw leads.1 (turned_more (slice_index_or tokens j []) (future (path_after (Spined Interpretation tokens ∷ past)) rows k) (history past j)
     (history (passed past (Spined Interpretation tokens ∷ rows)) i)
     (rw (sym above) (columns_turn (Spined Interpretation tokens ∷ past) rows k i score (omega (arith, inside, wide)) leads.3)))
+columns_turn past (Spined kind tokens ∷ rows) j i score less leads =
+    let front = open_back (Spined kind tokens ∷ past) rows score in
+    let wide = text_width (path_after past) tokens front.1 in
+    let longer = one_longer tokens (columns past) j (omega (arith, less, wide)) (wide ∙ sym (columns_width past front.0)) in
+    turned_more (slice_index_or tokens j []) (future (path_after past) rows j) (history past j) (history (passed past (Spined kind tokens ∷ rows)) i)
+    (rw (sym longer) (columns_turn (Spined kind tokens ∷ past) rows j i score less leads))

@@ -3,7 +3,7 @@ use Rattle.std.proofs.Common.{◌≡◌, ◌∙◌, refl, sym, ap, ℕ, suc, Lis
 use Rattle.std.specs.List.{find}
 use Rattle.std.proofs.lemmas.List.{length-map}
 use Rattle.std.proofs.lemmas.Bool.Decides.{nat_tests}
-use Rattle.hum_score.specs.declared.records.SpinedKind.TheVariants.{Local, Interpretation, Values}
+use Rattle.hum_score.specs.declared.records.SpinedKind.TheVariants.{Interpretation}
 use Rattle.hum_score.specs.Row.{Row, Comment, Spined}
 use Rattle.hum_score.specs.Sign.{sign_of}
 use Rattle.hum_score.specs.Spines.{Path, Unopened, Spines, width, moves_at, moves_under, names_after, renamed}
@@ -34,9 +34,7 @@ columns_width [] h = refl
 columns_width (Comment text ∷ past) h = columns_width past h.0
 columns_width (Spined Interpretation tokens ∷ past) h =
     length-map (moves_at (path_after past) tokens) (chain_of tokens (columns past)) ∙ moves_width (path_after past) tokens
-columns_width (Spined Local tokens ∷ past) h =
-    let ih = columns_width past h.0 in longer_length tokens (columns past) (text_width (path_after past) tokens h.1 ∙ sym ih) ∙ ih
-columns_width (Spined Values tokens ∷ past) h =
+columns_width (Spined kind tokens ∷ past) h =
     let ih = columns_width past h.0 in longer_length tokens (columns past) (text_width (path_after past) tokens h.1 ∙ sym ih) ∙ ih
 
 pub origins_width : (past : List Row) → IsOpen past → length (origins past) ≡ width (path_after past)
@@ -44,5 +42,4 @@ origins_width [] h = refl
 origins_width (Comment text ∷ past) h = origins_width past h.0
 origins_width (Spined Interpretation tokens ∷ past) h =
     length-map (moves_at (path_after past) tokens) (origin_of (origins past)) ∙ moves_width (path_after past) tokens
-origins_width (Spined Local tokens ∷ past) h = origins_width past h.0
-origins_width (Spined Values tokens ∷ past) h = origins_width past h.0
+origins_width (Spined kind tokens ∷ past) h = origins_width past h.0

@@ -1,14 +1,15 @@
 -- Each spine comes from a spine under a token.
 use Rattle.std.proofs.Common.{◌≡◌, ℕ, zero, suc, ◌+◌, ◌<◌, ◌≤◌, Bool, true, false, List, [], ◌∷◌}
 use Rattle.std.proofs.Common.{◌++◌, length, map, arith, inl, inr, ◌==◌, refl, ap, None}
+use Rattle.std.proofs.lemmas.Bool.Decides.{nat_tests}
 use Rattle.std.proofs.lemmas.List.{length-map}
 use Rattle.std.specs.List.{AllByRecursion, find}
 use Rattle.std.proofs.lemmas.Bool.{cases_Bool}
 use Rattle.hum_score.specs.declared.spines.Sign.{Sign}
-use Rattle.hum_score.specs.declared.spines.Sign.TheVariants.{Split, Join, Exchange, Add, End, Exclusive, Plain}
+use Rattle.hum_score.specs.declared.spines.Sign.TheVariants.{Split, Join, Exchange, Add, Exclusive, Plain}
 use Rattle.hum_score.specs.declared.spines.Move.{Move}
-use Rattle.hum_score.specs.declared.records.SpinedKind.TheVariants.{Local, Interpretation, Values}
-use Rattle.hum_score.specs.Row.{Row, Comment, Spined, tokens_of}
+use Rattle.hum_score.specs.declared.records.SpinedKind.TheVariants.{Interpretation}
+use Rattle.hum_score.specs.Row.{Row, Spined, tokens_of}
 use Rattle.hum_score.specs.Sign.{sign_of, is_join, is_exchange, steers}
 use Rattle.hum_path.specs.Step.{ComeFrom}
 use Rattle.hum_score.specs.Spines.{Path, Unopened, Spines, exchanges, partner, heirs, heirs_from}
@@ -39,13 +40,12 @@ partner_below n j (a ∷ b ∷ more) h below = elim (cases_Bool (j == a)) as (λ
 heirs_below : (n j : ℕ) (pair : List ℕ) (after_join : Bool) (sign : Sign) (signs : List Sign)
     → AllByRecursion (λ p. p < n) pair → j < n → From n (heirs pair j after_join sign signs)
 heirs_below n j pair after_join Split signs p h = (h, (h, tt))
-heirs_below n j pair true Join signs p h = tt
 heirs_below n j pair false Join signs p h = (h, tt)
 heirs_below n j pair after_join Exchange signs p h = (partner_below n j pair p h, tt)
 heirs_below n j pair after_join Add signs p h = (h, (h, tt))
-heirs_below n j pair after_join End signs p h = tt
 heirs_below n j pair after_join Exclusive signs p h = (h, tt)
 heirs_below n j pair after_join Plain signs p h = (h, tt)
+heirs_below n j pair after_join sign signs h k = grind (arith, nat_tests)
 
 all_below : (n j : ℕ) (pair : List ℕ) (after_join : Bool) (signs : List Sign) → AllByRecursion (λ p. p < n) pair
     → j + length signs ≤ n → From n (heirs_from pair j after_join signs)
@@ -70,10 +70,8 @@ moves_below (Spines names) tokens =
 pub steered : (path : Path) (names : List (List ℕ)) (moved : List Move) (row : Row) → steers row ≡ true
     → find (breaks path (tokens_of row)) in_order ≡ None → moved ≡ moves_at path (tokens_of row) → names ≡ names_after path (tokens_of row)
     → (fault_of path row ≡ None) × (moved ≡ moves path row) × (Spines names ≡ after path row) × ComeFrom row moved
-steered path names moved (Comment text) h none is named = cc
-steered path names moved (Spined Local tokens) h none is named = cc
-steered path names moved (Spined Values tokens) h none is named = cc
 steered path names moved (Spined Interpretation tokens) h none is named = (none, is, ap Spines named, rw is (moves_below path tokens))
+steered path names moved row h k w e = grind (arith, nat_tests)
 
 abbrev spines : Path → Bool → Tracked
 spines path spent = record { path = path; spent = spent }
