@@ -2,21 +2,21 @@
 use Rattle.std.proofs.Common.{◌≡◌, ◌∙◌, refl, sym, ap, ℕ, suc, ◌+◌, ◌≤◌, ◌<◌, Bool, true}
 use Rattle.std.proofs.Common.{false, not, ◌||◌, List, [], ◌∷◌, map, length, filter}
 use Rattle.std.proofs.Common.{Option, Some, None, arith, cond, get_or}
-use Rattle.std.specs.Prelude.{nat_lt, ◌==◌, Ok}
+use Rattle.std.specs.Prelude.{◌==◌, Ok}
 use Rattle.std.specs.List.{list_any, position, position_or_len, find, join_with_byte}
 use Rattle.std.proofs.lemmas.Bool.Decides.{nat_tests}
 use Rattle.std.proofs.lemmas.List.{length-map}
 use lib.Chars.{codes}
-use Rattle.hum_score.specs.declared.records.SpinedKind.TheVariants.{Local, Interpretation, Values}
+use Rattle.hum_score.specs.declared.records.SpinedKind.TheVariants.{Interpretation, Values}
 use Rattle.hum_score.specs.Row.{Row, Comment, Spined}
 use Rattle.hum_score.specs.declared.spines.Move.{Move}
-use Rattle.hum_score.specs.declared.spines.PathFault.TheVariants.{P1, P2, P3, P4, P5, P6, P7, P9, P10, P11}
 use Rattle.hum_score.specs.Sign.{sign_of}
 use Rattle.hum_score.specs.Spines.{Path, Unopened, Spines, moves_under, names_after, renamed}
-use Rattle.hum_score.specs.Rules.{fault_of, breaks_as_text, in_order, is_unfinished}
+use Rattle.hum_score.specs.Rules.{breaks_as_text, in_order, is_unfinished}
 use Rattle.hum_score.specs.Score.{IsOpen, path_after, passed}
 use Rattle.hum_path.specs.Chains.{goes_on, future, below_at}
-use Rattle.hum_path.proofs.Plain.{find_head}
+use Rattle.hum_path.proofs.Kept.{text_alike}
+use Rattle.hum_path.proofs.Widths.{text_width}
 use Rattle.hum_score.specs.InOrder.{through, Follow}
 use Rattle.hum_stage.specs.Meaning.{KeepsScore}
 use Rattle.hum_stage.specs.Look.{IsSteady, outcomes_from}
@@ -41,10 +41,7 @@ first_below p (x ∷ xs) e = by (λ k. first_below p xs k) (p x) refl e
 
 place_some : {X : Type 0} (p : X → Bool) (xs : List X) → list_any p xs ≡ true
     → position p xs ≡ Some (position_or_len p xs)
-place_some p xs e =
-    let below = first_below p xs e in
-    let k : nat_lt (position_or_len p xs) (length xs) ≡ true = grind (arith, nat_tests, below) in
-    rw k refl
+place_some p xs e = grind (arith, nat_tests, first_below p xs e)
 
 -- a chain that reaches to the end of a closed score is ended
 ends : (names : List (List ℕ)) (rows : List Row) (c : ℕ) → c < length names
@@ -56,22 +53,6 @@ ends names [] c h follow end = absurd (let none : length names ≡ 0 = closed_no
     closed_none : (n : ℕ) → not (n == 0) ≡ false → n ≡ 0
     closed_none n e = grind (arith, nat_tests, e)
 ends names (Comment text ∷ rows) c h follow end = ends names rows c h follow.1 end
-ends names (Spined Local tokens ∷ rows) c h follow end =
-    ap (list_any is_last) (chain_step (Spines names) Local tokens rows c)
-    ∙ by (is_last (get_or tokens c [])) (ends names rows c h follow.1 end)
-  where
-    by : (b : Bool) → list_any is_last (chain (Spines names) rows c) ≡ true
-        → (b || list_any is_last (cond b [] (chain (Spines names) rows c))) ≡ true
-    by true e = refl
-    by false e = e
-ends names (Spined Values tokens ∷ rows) c h follow end =
-    ap (list_any is_last) (chain_step (Spines names) Values tokens rows c)
-    ∙ by (is_last (get_or tokens c [])) (ends names rows c h follow.1 end)
-  where
-    by : (b : Bool) → list_any is_last (chain (Spines names) rows c) ≡ true
-        → (b || list_any is_last (cond b [] (chain (Spines names) rows c))) ≡ true
-    by true e = refl
-    by false e = e
 ends names (Spined Interpretation tokens ∷ rows) c h follow end =
     ap (list_any is_last) (chain_step (Spines names) Interpretation tokens rows c)
     ∙ by (is_last (get_or tokens c [])) refl (λ d below. ends (names_after (Spines names) tokens)
@@ -95,6 +76,14 @@ ends names (Spined Interpretation tokens ∷ rows) c h follow end =
         let below = first_below (goes_on c) moves goes in
         rw (place_some (goes_on c) moves goes) (more (position_or_len (goes_on c) moves)
         (omega (arith, below, wide)))
+ends names (Spined kind tokens ∷ rows) c h follow end =
+    ap (list_any is_last) (chain_step (Spines names) kind tokens rows c)
+    ∙ by (is_last (get_or tokens c [])) (ends names rows c h follow.1 end)
+  where
+    by : (b : Bool) → list_any is_last (chain (Spines names) rows c) ≡ true
+        → (b || list_any is_last (cond b [] (chain (Spines names) rows c))) ≡ true
+    by true e = refl
+    by false e = e
 
 -- so its new token is there
 token_there : (o : Choice) (token : List ℕ) (chain : List (List ℕ)) → list_any is_last chain ≡ true
@@ -134,26 +123,8 @@ pub record Wide (path : Path) (tokens : List (List ℕ)) : Type 0 where
 
 wide_text : (path : Path) (tokens : List (List ℕ))
     → find (breaks_as_text path tokens) in_order ≡ None → Wide path tokens
-wide_text Unopened tokens h =
-    let a = find_head (breaks_as_text Unopened tokens) P7 (P1 ∷ P2 ∷ P6 ∷ P10 ∷ P11 ∷ P3 ∷ P4 ∷ P5 ∷
-    P9 ∷ []) h in
-    let b = find_head (breaks_as_text Unopened tokens) P1 (P2 ∷ P6 ∷ P10 ∷ P11 ∷ P3 ∷ P4 ∷ P5 ∷ P9 ∷
-    []) a.1 in
-    let k = b.0 in cc
-wide_text (Spines names) tokens h =
-    let a = find_head (breaks_as_text (Spines names) tokens) P7 (P1 ∷ P2 ∷ P6 ∷ P10 ∷ P11 ∷ P3 ∷ P4
-    ∷ P5 ∷ P9 ∷ []) h in
-    let b = find_head (breaks_as_text (Spines names) tokens) P1 (P2 ∷ P6 ∷ P10 ∷ P11 ∷ P3 ∷ P4 ∷ P5
-    ∷ P9 ∷ []) a.1 in
-    let c = find_head (breaks_as_text (Spines names) tokens) P2 (P6 ∷ P10 ∷ P11 ∷ P3 ∷ P4 ∷ P5 ∷ P9
-    ∷ []) b.1 in
-    record { names = names; is = refl; wide = grind (arith, nat_tests, c.0) }
-
--- the rules ask only how many tokens there are
-same_fault : (path : Path) (old new : List (List ℕ)) → length new ≡ length old
-    → fault_of path (Spined Values new) ≡ fault_of path (Spined Values old)
-same_fault Unopened old new h = refl
-same_fault (Spines names) old new h = rw h refl
+wide_text Unopened tokens h = cc
+wide_text (Spines names) tokens h = record { names = names; is = refl; wide = text_width (Spines names) tokens h }
 
 new_length : (o : Choice) (path : Path) (row : Row) (rows : List Row) (j : ℕ) (tokens new :
     List (List ℕ)) → all_some (new_tokens o path row rows j tokens) ≡ Some new
@@ -177,9 +148,6 @@ decided : (o : Choice) (past : List Row) (row : Row) (rows : List Row) → IsOpe
     → Follow (path_after (row ∷ past)) rows
     → is_unfinished (through (path_after (row ∷ past)) rows) ≡ false
     → context o past row rows ≡ None → ⊥
-decided o past (Comment text) rows sound follow end e = cc
-decided o past (Spined Local tokens) rows sound follow end e = cc
-decided o past (Spined Interpretation tokens) rows sound follow end e = cc
 decided o past (Spined Values tokens) rows sound follow end e =
     let w = wide_text (path_after past) tokens sound.1 in
     by w.names w.is w.wide
@@ -194,6 +162,7 @@ decided o past (Spined Values tokens) rows sound follow end e =
         (omega (arith, wide)) in
         let k : data_of (Some there.0) ≡ None = sym (ap data_of there.1) ∙ rw is at e in
         cc
+decided o past row rows sound follow end e = cc
 
 -- a score goes on from each of its records
 goes_on_from : (past rows : List Row) → IsOpen (passed past rows)
@@ -211,17 +180,12 @@ next_step : (o : Choice) (past : List Row) (row : Row) (behind : List Row) (give
     (rows : List Row) → IsOpen (row ∷ past) → given ≡ path_after past
     → context o past row behind ≡ Some (Ok rows)
     → Follow given rows × (through given rows ≡ path_after (row ∷ past))
-next_step o past (Comment text) behind given rows sound leads e =
-    rw (← one_row (Comment text) rows e, leads) ((sound.1, tt), refl)
-next_step o past (Spined Local tokens) behind given rows sound leads e =
-    rw (← one_row (Spined Local tokens) rows e, leads) ((sound.1, tt), refl)
-next_step o past (Spined Interpretation tokens) behind given rows sound leads e =
-    rw (← one_row (Spined Interpretation tokens) rows e, leads) ((sound.1, tt), refl)
 next_step o past (Spined Values tokens) behind given rows sound leads e =
     let one = data_one (all_some (new_tokens o (path_after past) (Spined Values tokens) behind 0
     tokens)) rows e in
     let wide = new_length o (path_after past) (Spined Values tokens) behind 0 tokens one.0 one.1 in
-    rw (← one.2, leads) ((same_fault (path_after past) tokens one.0 wide ∙ sound.1, tt), refl)
+    rw (← one.2, leads) ((text_alike (path_after past) tokens one.0 wide ∙ sound.1, tt), refl)
+next_step o past row behind given rows sound leads e = grind (arith, nat_tests, one_row)
 
 pub context_keeps : (room : ℕ) (o : Choice) → KeepsScore (outcomes_from room (context o) [])
 context_keeps room o = looking_keeps room (context o) (λ past given. given ≡ path_after past)
