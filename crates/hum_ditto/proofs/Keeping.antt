@@ -1,12 +1,13 @@
 -- Scores stay scores.
-use Rattle.std.proofs.Common.{◌≡◌, ◌∙◌, refl, ℕ, Bool, true, false, List, [], ◌∷◌, length, map, cond}
+use Rattle.std.proofs.Common.{◌≡◌, ◌∙◌, refl, Bool, List, [], ◌∷◌, length, map, cond, arith}
 use Rattle.std.specs.Prelude.{nat_le, Result, Ok, Err}
-use Rattle.hum_score.specs.declared.records.SpinedKind.TheVariants.{Local, Interpretation, Values}
-use Rattle.hum_score.specs.Row.{Row, Comment, Spined, text_of}
-use Rattle.hum_score.specs.Spines.{Path, Unopened, Spines}
-use Rattle.hum_score.specs.Rules.{fault_of}
+use Rattle.std.proofs.lemmas.Bool.Decides.{nat_tests}
+use Rattle.hum_score.specs.declared.records.SpinedKind.TheVariants.{Values}
+use Rattle.hum_score.specs.Row.{Row, Spined, text_of}
+use Rattle.hum_score.specs.Spines.{Path}
 use Rattle.hum_score.specs.Score.{IsOpen, path_after}
 use Rattle.hum_path.specs.Chains.{columns}
+use Rattle.hum_path.proofs.Kept.{text_alike}
 use Rattle.hum_stage.specs.declared.faults.Rule.{Rule}
 use Rattle.hum_stage.specs.declared.faults.Rule.TheVariants.{L1}
 use Rattle.hum_score.specs.InOrder.{through, Follow}
@@ -17,30 +18,18 @@ use Rattle.hum_choices.specs.declared.ditto.DittoOptions.{DittoOptions}
 use Rattle.hum_ditto.specs.Ditto.{repeated, new_tokens, ditto}
 use Rattle.hum_ditto.proofs.Tokens.{filled_length}
 
--- the rules ask only how many tokens there are
-same_fault : (path : Path) (old new : List (List ℕ)) → length new ≡ length old
-    → fault_of path (Spined Values new) ≡ fault_of path (Spined Values old)
-same_fault Unopened old new h = refl
-same_fault (Spines names) old new h = rw h refl
-
 next_step : (options : DittoOptions) (past : List Row) (row : Row) (given : Path) (rows : List Row) → IsOpen (row ∷ past)
     → given ≡ path_after past → ditto options past row ≡ Ok rows
     → Follow given rows × (through given rows ≡ path_after (row ∷ past))
-next_step options past (Comment text) given rows sound leads e =
-    let one : Comment text ∷ [] ≡ rows = cc in rw (← one, leads) ((sound.1, tt), refl)
-next_step options past (Spined Local tokens) given rows sound leads e =
-    let one : Spined Local tokens ∷ [] ≡ rows = cc in rw (← one, leads) ((sound.1, tt), refl)
-next_step options past (Spined Interpretation tokens) given rows sound leads e =
-    let one : Spined Interpretation tokens ∷ [] ≡ rows = cc in rw (← one, leads) ((sound.1, tt), refl)
 next_step options past (Spined Values tokens) given rows sound leads e =
     let new = new_tokens options past tokens in
     let one = only (nat_le (length (text_of (Spined Values new))) 1048576) (Spined Values new) rows e in
     let wide = filled_length options.parentheses (map (repeated options.skip) (columns past)) tokens in
-    rw (← one, leads) ((same_fault (path_after past) tokens new wide ∙ sound.1, tt), refl)
+    rw (← one, leads) ((text_alike (path_after past) tokens new wide ∙ sound.1, tt), refl)
   where
     only : (b : Bool) (row : Row) (rows : List Row) → ◌≡◌ {A = Result (List Row) Rule} (cond b (Ok (row ∷ [])) (Err L1)) (Ok rows) → row ∷ [] ≡ rows
-    only true row rows e = cc
-    only false row rows e = cc
+    only = grind (arith, nat_tests)
+next_step options past row given rows sound leads e = grind (arith, nat_tests)
 
 pub ditto_keeps : (options : DittoOptions) → KeepsScore (λ p. limit 4294967295 (decisions (ditto options) [] p))
 ditto_keeps options = at_once_keeps (ditto options) (λ past given. given ≡ path_after past) (record {
