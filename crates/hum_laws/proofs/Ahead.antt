@@ -1,8 +1,8 @@
 -- Commands that look ahead, and leave each record as it is.
-use Rattle.std.proofs.Common.{◌≡◌, ◌∙◌, refl, ap, ℕ, suc, ◌+◌, true, List, [], ◌∷◌, length, take, arith}
-use Rattle.std.specs.Prelude.{nat_le, None, Some, Ok}
-use Rattle.hum_score.specs.declared.records.SpinedKind.TheVariants.{Local, Interpretation, Values}
-use Rattle.hum_score.specs.Row.{Row, Comment, Spined}
+use Rattle.std.proofs.lemmas.Bool.Decides.{nat_tests}
+use Rattle.std.proofs.Common.{◌≡◌, refl, ℕ, ◌+◌, List, [], ◌∷◌, arith}
+use Rattle.std.specs.Prelude.{None, Some, Ok}
+use Rattle.hum_score.specs.Row.{Row}
 use Rattle.hum_words.specs.declared.commands.Command.{Command}
 use Rattle.hum_stage.specs.declared.faults.End.TheVariants.{Closed}
 use Rattle.hum_stage.specs.Outcome.{settled, refusal}
@@ -13,7 +13,6 @@ use Rattle.hum_yank.specs.Passages.{Lines}
 use Rattle.hum_yank.specs.Yank.{yank}
 use Rattle.hum_laws.specs.declared.given.Given.{Given}
 use Rattle.hum_laws.specs.Piped.{IsAlone}
-use Rattle.hum_laws.proofs.Plain.{fits}
 
 -- each record is decided, and stays
 abbrev pub Stays : Look → Type 0
@@ -23,22 +22,13 @@ stays_settled : (room : ℕ) (look : Look) (line : ℕ) (past p : List Row) → 
     → (settled (outcomes_from room look past p) ≡ p) × (refusal line (outcomes_from room look past p) ≡ None)
 stays_settled room look line past [] h = (refl, refl)
 stays_settled room look line past (row ∷ p) h =
-    let more = stays_settled room look (line + 1) (row ∷ past) p h in
-    rw (h past row (take room p)) (ap (λ (x : List Row). row ∷ x) more.0, more.1)
+    grind (arith, nat_tests, stays_settled room look (line + 1) (row ∷ past) p h)
 
 pub stays_whole : (room stage : ℕ) (command : Command) (look : Look) (p : List Row) (given : Given) →
     Stays look → IsAlone (looking room stage command look) p given
     → (given.records.items ≡ p) × (given.end ≡ Closed)
-stays_whole room stage command look p given h k =
-    let s = stays_settled room look 1 [] p h in
-    (k.0 ∙ s.0, k.1 ∙ rw s.1 refl)
-
-from_first : (n : ℕ) → nat_le 1 (suc n) ≡ true
-from_first n = fits 1 (suc n) (omega arith)
+stays_whole = grind (arith, nat_tests, stays_settled)
 
 -- every line from the first on
 pub all_lines : (ranges : List YankRange) → ranges ≡ Onward 1 ∷ [] → Stays (yank (record { form = Lines; ranges = ranges }))
-all_lines ranges is past (Comment text) rows = rw (is, from_first (length past)) refl
-all_lines ranges is past (Spined Local tokens) rows = rw (is, from_first (length past)) refl
-all_lines ranges is past (Spined Values tokens) rows = rw (is, from_first (length past)) refl
-all_lines ranges is past (Spined Interpretation tokens) rows = refl
+all_lines = grind (arith, nat_tests)

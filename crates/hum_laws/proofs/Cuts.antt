@@ -1,22 +1,22 @@
 -- What is remembered of chosen columns, when a score is cut to them.
+use Rattle.std.proofs.lemmas.Grind.{common_steps}
+use Rattle.std.proofs.lemmas.Bool.Decides.{nat_tests}
 use Rattle.std.proofs.Common.{◌≡◌, ◌∙◌, refl, sym, ap, ℕ, zero, suc, ◌+◌, Bool, true, false, ◌&&◌, List, [], ◌∷◌, length, map, drop, arith}
-use Rattle.std.proofs.Common.{cond, add-one, drop-cons, None}
+use Rattle.std.proofs.Common.{cond, None}
 use Rattle.std.specs.Prelude.{Result, Ok, Err}
 use Rattle.std.specs.List.{find}
-use Rattle.std.proofs.lemmas.Bool.{and_parts}
 use Rattle.std.proofs.lemmas.List.{length-map, drop_all}
 use Rattle.std.proofs.lemmas.Simd.{map-map}
 use Rattle.hum_score.specs.declared.records.SpinedKind.{SpinedKind}
 use Rattle.hum_score.specs.declared.records.SpinedKind.TheVariants.{Local, Interpretation, Values}
 use Rattle.hum_score.specs.Row.{Row, Comment, Spined, chosen}
-use Rattle.hum_score.specs.Sign.{sign_of, is_exchange}
+use Rattle.hum_score.specs.Sign.{sign_of}
 use Rattle.hum_score.specs.Spines.{Path, Unopened, Spines, width, after, names_after, same_upto}
 use Rattle.hum_score.specs.Rules.{breaks, breaks_as_text, in_order}
 use Rattle.hum_score.specs.Score.{IsOpen, path_after, passed}
 use Rattle.hum_path.specs.Chains.{chain_of, columns}
 use Rattle.hum_path.specs.Memories.{remembered, seen_each}
 use Rattle.hum_path.specs.Onward.{beginnings}
-use Rattle.hum_score.proofs.Cases.{by_bool}
 use Rattle.hum_path.proofs.Widths.{columns_width, text_width}
 use Rattle.hum_path.proofs.Obeyed.{Obeys, obeys}
 use Rattle.hum_stage.specs.declared.faults.Rule.{Rule}
@@ -42,22 +42,16 @@ use Rattle.hum_laws.proofs.Spreads.{Passes, all_on, pieces_on, spread_on}
 
 pub chosen_seen : {M : Type 0} (see : List ℕ → M → M) (fs : List Bool) (ts : List (List ℕ)) (ms : List M) → length ts ≡ length ms
     → seen_each see (chosen fs ts) (chosen fs ms) ≡ chosen fs (seen_each see ts ms)
-chosen_seen see [] ts ms e = refl
-chosen_seen see (f ∷ fs) [] [] e = refl
-chosen_seen see (f ∷ fs) [] (m ∷ ms) e = absurd (omega (arith, e))
-chosen_seen see (f ∷ fs) (t ∷ ts) [] e = absurd (omega (arith, e))
 chosen_seen {M} see (true ∷ fs) (t ∷ ts) (m ∷ ms) e = ap (λ (xs : List M). see t m ∷ xs) (chosen_seen see fs ts ms (omega (arith, e)))
 chosen_seen see (false ∷ fs) (t ∷ ts) (m ∷ ms) e = chosen_seen see fs ts ms (omega (arith, e))
+chosen_seen see fs ts ms h = grind (arith, nat_tests)
 
 module _ {M : Type 0} (see : List ℕ → M → M) (fresh : M) where
   -- at the opening
   opens_from : (tokens : List (List ℕ)) (j n : ℕ) → j + n ≡ length tokens
       → map (λ m. remembered see fresh (chain_of tokens [] m)) (same_upto j n) ≡ map (λ t. see t fresh) (drop j tokens)
   opens_from tokens j zero e = rw (drop_all j tokens (omega (arith, e))) refl
-  opens_from tokens j (suc n) e =
-      let rest : map (λ m. remembered see fresh (chain_of tokens [] m)) (same_upto (j + 1) n) ≡ map (λ t. see t fresh) (drop (suc j) tokens) =
-      opens_from tokens (j + 1) n (omega (arith, e)) ∙ ap (λ (k : ℕ). map (λ t. see t fresh) (drop k tokens)) (add-one j) in
-      rw (drop-cons tokens j [] (omega (arith, e)), rest) refl
+  opens_from tokens j (suc n) e = grind (arith, common_steps, opens_from tokens (j + 1) n (omega (arith, e)))
 
   pub opened_seen : (past : List Row) (tokens : List (List ℕ)) → IsOpen past → path_after past ≡ Unopened
       → all_seen see fresh (Spined Interpretation tokens ∷ past) ≡ map (λ t. see t fresh) tokens
@@ -66,16 +60,12 @@ module _ {M : Type 0} (see : List ℕ → M → M) (fresh : M) where
       (map-map (remembered see fresh) (chain_of tokens []) (same_upto 0 (length tokens)) ∙ opens_from tokens 0 (length tokens) (omega arith))
     where
       empty : (cs : List (List (List ℕ))) → length cs ≡ 0 → cs ≡ []
-      empty [] e = refl
-      empty (c ∷ cs) e = absurd (omega (arith, e))
+      empty = grind (arith, common_steps)
 
   -- behind it
   pub later_seen : (past : List Row) (names tokens : List (List ℕ)) → IsOpen past → path_after past ≡ Spines names → Obeys names tokens
       → all_seen see fresh (Spined Interpretation tokens ∷ past) ≡ seen_on see fresh tokens (all_seen see fresh past)
-  later_seen past names tokens sound at keeps =
-      let wide = keeps.wide in
-      let size : length (columns past) ≡ length names = columns_width past sound ∙ ap width at in
-      rw at (moved_seen see fresh tokens (columns past) (omega (arith, wide, size)) keeps.pair)
+  later_seen past names tokens sound at keeps = grind (arith, nat_tests, columns_width, moved_seen)
 
   -- several interpretations
   rows_seen : (records : List (List (List ℕ))) (past : List Row) (names : List (List ℕ)) → IsOpen past → path_after past ≡ Spines names
@@ -98,14 +88,8 @@ module _ {M : Type 0} (see : List ℕ → M → M) (fresh : M) where
 
 module _ {M : Type 0} (see : List ℕ → M → M) (fresh : M) (passes : Passes see) where
   soft_seen : (lone : Bool) (ts : List (List ℕ)) (ms : List M) → seen_each see (map (softened lone) ts) ms ≡ seen_each see ts ms
-  soft_seen lone [] ms = refl
-  soft_seen lone (t ∷ ts) [] = refl
-  soft_seen lone (t ∷ ts) (m ∷ ms) = let rest = soft_seen lone ts ms in let first = one in rw (first, rest) refl
-    where
-      one : see (softened lone t) m ≡ see t m
-      one = by_bool (lone && is_exchange (sign_of t))
-          (λ w. let same = sym (passes.exchange t m (and_parts lone (is_exchange (sign_of t)) w).1) in rw w (passes.null m ∙ same))
-          (λ w. rw w refl)
+  soft_seen lone (t ∷ ts) (m ∷ ms) = grind (arith, nat_tests, soft_seen lone ts ms)
+  soft_seen lone ts ms = grind (arith, nat_tests)
 
   pieces_at : (lone : Bool) (fs : List Bool) (names tokens : List (List ℕ)) (ms : List M) → length fs ≡ length tokens → Obeys names tokens
       → has_lone fs tokens ≡ lone → (lone && chosen_between fs (map sign_of tokens)) ≡ false → length tokens ≡ length ms
@@ -116,8 +100,7 @@ module _ {M : Type 0} (see : List ℕ → M → M) (fresh : M) (passes : Passes 
       let soft = length-map tokens (softened lone) in
       let count = length-map tokens sign_of in
       let marked : marks (pieces fs (map (softened lone) tokens)) ≡ chosen fs (beginnings false signs) =
-      chosen_marks false fs (map (softened lone) tokens)
-      ∙ ap (λ (bs : List Bool). chosen fs bs) (ap (λ ss. beginnings false ss) (soft_signs lone tokens) ∙ soft_begins lone false signs) in
+      grind (arith, nat_tests, chosen_marks, soft_signs, soft_begins) in
       let own : seen_each see (tokens_in (pieces fs (map (softened lone) tokens))) (chosen fs ms) ≡ chosen fs (seen_each see tokens ms) =
       ap (λ (ts : List (List ℕ)). seen_each see ts (chosen fs ms)) (chosen_tokens false fs (map (softened lone) tokens))
       ∙ chosen_seen see fs (map (softened lone) tokens) ms (omega (arith, soft, size))
@@ -153,9 +136,7 @@ module _ {M : Type 0} (see : List ℕ → M → M) (fresh : M) (passes : Passes 
           → (has_lone fs tokens && chosen_between fs (map sign_of tokens)) ≡ between
           → ◌≡◌ {A = Result (List Row) Rule} (cond torn (Err X1) (cond between (Err X3) (Ok (filled Interpretation (spread (pieces_of fs tokens)))))) (Ok made)
           → all_seen see fresh (passed past made) ≡ chosen (flags_after fs (map sign_of tokens)) (seen_on see fresh tokens ms)
-      by_tests true between a b e = cc
-      by_tests false true a b e = cc
-      by_tests false false a b e = written a b cc
+      by_tests = grind (arith, nat_tests, written)
 
   module _ (choice : Choice) where
     -- the records that come of a score are cut to its chosen columns
@@ -190,8 +171,7 @@ module _ {M : Type 0} (see : List ℕ → M → M) (fresh : M) (passes : Passes 
     no_columns past sound at = empty (columns past) (columns_width past sound ∙ ap width at)
       where
         empty : (cs : List (List (List ℕ))) → length cs ≡ 0 → map (remembered see fresh) cs ≡ []
-        empty [] e = refl
-        empty (c ∷ cs) e = absurd (omega (arith, e))
+        empty = grind (arith, common_steps)
 
     open_step : (past behind made : List Row) (tokens : List (List ℕ)) → IsOpen past → IsOpen behind → path_after past ≡ Unopened → path_after behind ≡ Unopened
         → opened choice tokens ≡ Ok made
@@ -201,25 +181,17 @@ module _ {M : Type 0} (see : List ℕ → M → M) (fresh : M) (passes : Passes 
       where
         right : map (λ t. see t fresh) (chosen (opening_flags choice tokens) tokens)
             ≡ chosen (marked (Spined Interpretation tokens ∷ past)) (all_seen see fresh (Spined Interpretation tokens ∷ past))
-        right =
-            chosen_map (λ t. see t fresh) (opening_flags choice tokens) tokens
-            ∙ ap (λ (xs : List M). chosen (opening_flags choice tokens) xs) (sym (opened_seen see fresh past tokens sound at))
-            ∙ ap (λ (fs : List Bool). chosen fs (all_seen see fresh (Spined Interpretation tokens ∷ past)))
-            (sym (flags_open (opening_flags choice) past tokens (opening_length choice tokens) sound at))
+        right = grind (arith, nat_tests, chosen_map, opened_seen, all_seen, flags_open, opening_length)
 
         written : (us : List (List ℕ)) → chosen (opening_flags choice tokens) tokens ≡ us
             → all_seen see fresh (passed behind (filled Interpretation (us ∷ []))) ≡ map (λ t. see t fresh) us
-        written [] is = no_columns behind also there
-        written (u ∷ us) is = opened_seen see fresh behind (u ∷ us) also there
+        written = grind (arith, nat_tests, no_columns, opened_seen)
 
         by_test : (b : Bool) (us : List (List ℕ)) → chosen (opening_flags choice tokens) tokens ≡ us
             → ◌≡◌ {A = Result (List Row) Rule} (cond b (Err X2) (Ok (filled Interpretation (chosen (opening_flags choice tokens) tokens ∷ [])))) (Ok made)
             → all_seen see fresh (passed behind made)
             ≡ chosen (marked (Spined Interpretation tokens ∷ past)) (all_seen see fresh (Spined Interpretation tokens ∷ past))
-        by_test true us is e = cc
-        by_test false us is e =
-            let out : filled Interpretation (chosen (opening_flags choice tokens) tokens ∷ []) ≡ made = cc in
-            rw (← out) (written (chosen (opening_flags choice tokens) tokens) refl ∙ right)
+        by_test = grind (arith, nat_tests, written, right)
 
     later_step : (past behind made : List Row) (names tokens : List (List ℕ)) → IsOpen past → IsOpen behind → path_after past ≡ Spines names
         → path_after behind ≡ Spines (chosen (marked past) names) → find (breaks (Spines names) tokens) in_order ≡ None
@@ -240,8 +212,7 @@ module _ {M : Type 0} (see : List ℕ → M → M) (fresh : M) (passes : Passes 
 
     seen_step : (past behind made : List Row) (row : Row) → IsOpen (row ∷ past) → IsOpen behind → IsCut past behind → Follow (path_after behind) made
         → extract choice past row ≡ Ok made → all_seen see fresh (passed behind made) ≡ chosen (marked (row ∷ past)) (all_seen see fresh (row ∷ past))
-    seen_step past behind made (Comment text) sound also holds follow e =
-        let out : Comment text ∷ [] ≡ made = cc in rw (← out) holds.seen
+    seen_step past behind made (Comment text) sound also holds follow e = grind (arith, nat_tests)
     seen_step past behind made (Spined Local tokens) sound also holds follow e =
         let out : filled Local (chosen (marked past) tokens ∷ []) ≡ made = cc in
         rw (← out, text_opening (path_after past) tokens (opening_of past) sound.1)

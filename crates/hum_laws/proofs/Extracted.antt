@@ -1,33 +1,32 @@
 -- What is extracted and then filled is what is filled and then extracted.
-use Rattle.std.proofs.Common.{◌≡◌, ◌∙◌, refl, sym, ap, ℕ, Bool, true, false, ◌&&◌, List, [], ◌∷◌, ◌++◌, length, map, arith, append-nil, cond, None}
-use Rattle.std.specs.Prelude.{nat_le, Option, Result, Ok, Err}
+use Rattle.std.proofs.lemmas.Bool.Decides.{nat_tests}
+use Rattle.std.proofs.Common.{◌≡◌, ◌∙◌, refl, sym, ap, ℕ, Bool, true, false, List, [], ◌∷◌, ◌++◌, length, map, arith, append-nil, cond, None}
+use Rattle.std.specs.Prelude.{Option, Result, Ok, Err}
 use Rattle.std.specs.List.{find}
 use Rattle.std.proofs.lemmas.List.{length-map}
 use Rattle.hum_score.specs.declared.records.SpinedKind.{SpinedKind}
 use Rattle.hum_score.specs.declared.records.SpinedKind.TheVariants.{Local, Interpretation, Values}
-use Rattle.hum_score.specs.Row.{Row, Comment, Spined, text_of, chosen}
-use Rattle.hum_score.specs.Sign.{sign_of}
+use Rattle.hum_score.specs.Row.{Row, Comment, Spined, chosen}
 use Rattle.hum_score.specs.Spines.{Path, Unopened, Spines, after}
 use Rattle.hum_score.specs.Rules.{breaks_as_text, in_order}
 use Rattle.hum_score.specs.Score.{IsOpen, path_after, passed}
 use Rattle.hum_path.specs.Chains.{origins, columns}
 use Rattle.hum_path.proofs.Widths.{columns_width, text_width}
 use Rattle.hum_stage.specs.declared.faults.Rule.{Rule}
-use Rattle.hum_stage.specs.declared.faults.Rule.TheVariants.{L1, X1, X2, X3}
+use Rattle.hum_stage.specs.declared.faults.Rule.TheVariants.{X2}
 use Rattle.hum_words.specs.declared.commands.Command.TheVariants.{Ditto, Extract}
 use Rattle.hum_stage.specs.declared.faults.End.TheVariants.{Closed}
 use Rattle.hum_score.specs.InOrder.{IsScore}
 use Rattle.hum_stage.specs.Meaning.{KeepsScore}
-use Rattle.hum_columns.specs.Spread.{filled, spread}
-use Rattle.hum_columns.specs.Chosen.{is_torn, opening_if, opening_of, flags}
+use Rattle.hum_columns.specs.Spread.{filled}
+use Rattle.hum_columns.specs.Chosen.{opening_of, flags}
 use Rattle.hum_columns.specs.Deciding.{at_path}
 use Rattle.hum_choices.specs.declared.extract.ExtractOptions.{ExtractOptions}
 use Rattle.hum_choices.specs.Extract.{Choice}
 use Rattle.hum_extract.specs.Choice.{opening_flags, misses}
-use Rattle.hum_extract.specs.Extract.{chosen_between, cut, opened, extract}
+use Rattle.hum_extract.specs.Extract.{cut, opened, extract}
 use Rattle.hum_choices.specs.Extract.{choice_of}
 use Rattle.hum_extract.specs.Extract.{meaning as meaning_of_extract}
-use Rattle.hum_extract.proofs.CutLeads.{has_lone, pieces_of}
 use Rattle.hum_choices.specs.declared.ditto.DittoOptions.{DittoOptions}
 use Rattle.hum_ditto.specs.Ditto.{repeated, filled as filled_by, all_filled, new_tokens, ditto, meaning as meaning_of_ditto}
 use Rattle.hum_stage.specs.Limits.{if_fits}
@@ -42,22 +41,15 @@ use Rattle.hum_laws.proofs.Indicators.{join_is, exchange_is}
 
 -- what a null token would repeat isn't changed by null interpretations, joins and exchanges
 pub ditto_passes : (skip : Option (List ℕ)) → Passes (last_seen skip)
-ditto_passes skip = record {
-  null = λ m. refl;
-  join = λ t m is. rw (join_is t is) refl;
-  exchange = λ t m is. rw (exchange_is t is) refl;
-}
+ditto_passes = grind (arith, nat_tests, join_is, exchange_is)
 
 -- tokens that are chosen and filled
 chosen_filled : (p : Bool) (fs : List Bool) (sources : List (Option (List ℕ))) (tokens : List (List ℕ)) → length sources ≡ length tokens
     → all_filled p (chosen fs sources) (chosen fs tokens) ≡ chosen fs (all_filled p sources tokens)
-chosen_filled p [] sources tokens e = refl
-chosen_filled p (f ∷ fs) [] [] e = refl
-chosen_filled p (f ∷ fs) [] (t ∷ tokens) e = absurd (omega (arith, e))
-chosen_filled p (f ∷ fs) (s ∷ sources) [] e = absurd (omega (arith, e))
 chosen_filled p (true ∷ fs) (s ∷ sources) (t ∷ tokens) e =
     ap (λ (us : List (List ℕ)). filled_by p s t ∷ us) (chosen_filled p fs sources tokens (omega (arith, e)))
 chosen_filled p (false ∷ fs) (s ∷ sources) (t ∷ tokens) e = chosen_filled p fs sources tokens (omega (arith, e))
+chosen_filled p fs sources tokens h = grind (arith, nat_tests)
 
 some_filled : (p : Bool) (sources : List (Option (List ℕ))) (t : List ℕ) (tokens : List (List ℕ)) (kind : SpinedKind)
     → filled kind (all_filled p sources (t ∷ tokens) ∷ []) ≡ Spined kind (all_filled p sources (t ∷ tokens)) ∷ []
@@ -65,11 +57,7 @@ some_filled p [] t tokens kind = refl
 some_filled p (s ∷ sources) t tokens kind = refl
 
 fits_alone : (row : Row) → Taken (if_fits row) → made_by (if_fits row) ≡ row ∷ []
-fits_alone row h = by (nat_le (length (text_of row)) 1048576) h
-  where
-    by : (b : Bool) → Taken (cond b (Ok (row ∷ [])) (Err L1)) → made_by (cond b (Ok (row ∷ [])) (Err L1)) ≡ row ∷ []
-    by true h = refl
-    by false h = absurd h
+fits_alone = grind (arith, nat_tests)
 
 -- ditto leaves interpretations and comments
 interpretations_stay : (options : DittoOptions) (records : List (List (List ℕ))) (past : List Row)
@@ -80,8 +68,7 @@ interpretations_stay options ((t ∷ ts) ∷ records) past =
     ap (λ (rows : List Row). Spined Interpretation (t ∷ ts) ∷ rows) (interpretations_stay options records (Spined Interpretation (t ∷ ts) ∷ past))
 
 comments_stay : (options : DittoOptions) (us : List (List ℕ)) (past : List Row) → out (ditto options) past (filled Local (us ∷ [])) ≡ filled Local (us ∷ [])
-comments_stay options [] past = refl
-comments_stay options (u ∷ us) past = refl
+comments_stay = grind (arith, nat_tests)
 
 -- an interpretation is cut to interpretations
 pub record Interpretations (rows : List Row) : Type 0 where
@@ -89,14 +76,7 @@ pub record Interpretations (rows : List Row) : Type 0 where
   pub are : filled Interpretation records ≡ rows
 
 cut_rows : (fs : List Bool) (tokens : List (List ℕ)) (rows : List Row) → cut fs tokens ≡ Ok rows → Interpretations rows
-cut_rows fs tokens rows e = go (is_torn fs (map sign_of tokens)) (has_lone fs tokens && chosen_between fs (map sign_of tokens)) e
-  where
-    go : (a b : Bool) → ◌≡◌ {A = Result (List Row) Rule}
-        (cond a (Err X1) (cond b (Err X3) (Ok (filled Interpretation (spread (pieces_of fs tokens)))))) (Ok rows)
-        → Interpretations rows
-    go true b e = cc
-    go false true e = cc
-    go false false e = record { records = spread (pieces_of fs tokens); are = cc }
+cut_rows = grind (arith, nat_tests)
 
 opened_rows : (choice : Choice) (tokens : List (List ℕ)) (rows : List Row) → opened choice tokens ≡ Ok rows → Interpretations rows
 opened_rows choice tokens rows e = go (misses choice tokens) e
@@ -122,40 +102,12 @@ same_flags choose past other h = rw (h.origins, h.opening) refl
 
 pub same_on : (past other : List Row) (tokens : List (List ℕ)) → SameSpines past other
     → SameSpines (Spined Interpretation tokens ∷ past) (Spined Interpretation tokens ∷ other)
-same_on past other tokens h = record {
-  path = ap (λ (p : Path). after p (Spined Interpretation tokens)) h.path;
-  origins = rw (h.path, h.origins) refl;
-  opening = rw (h.path, h.opening) refl;
-}
-
-opening_stays : (path : Path) (tokens us before : List (List ℕ)) → find (breaks_as_text path tokens) in_order ≡ None → opening_if path us before ≡ before
-opening_stays Unopened tokens us before h = cc
-opening_stays (Spines names) tokens us before h = refl
+same_on = grind (arith, nat_tests)
 
 -- under a local comment or data, whatever its tokens
 pub same_text : (past other : List Row) (kind : SpinedKind) (tokens us : List (List ℕ)) → (kind ≡ Interpretation → ⊥)
     → find (breaks_as_text (path_after past) tokens) in_order ≡ None → SameSpines past other → SameSpines (Spined kind tokens ∷ past) (Spined kind us ∷ other)
-same_text past other Interpretation tokens us apart h same = absurd (apart refl)
-same_text past other Local tokens us apart h same = record {
-  path = same.path;
-  origins = same.origins;
-  opening = rw (
-    same.path,
-    opening_stays (path_after past) tokens us (opening_of other) h,
-    opening_stays (path_after past) tokens tokens
-        (opening_of past) h,
-  ) same.opening;
-}
-same_text past other Values tokens us apart h same = record {
-  path = same.path;
-  origins = same.origins;
-  opening = rw (
-    same.path,
-    opening_stays (path_after past) tokens us (opening_of other) h,
-    opening_stays (path_after past) tokens tokens
-        (opening_of past) h,
-  ) same.opening;
-}
+same_text = grind (arith, nat_tests)
 
 module _ (choice : Choice) (options : DittoOptions) where
   pub record Aside (past one other : List Row) : Type 0 where
@@ -170,9 +122,7 @@ module _ (choice : Choice) (options : DittoOptions) where
 
   -- what a null token repeats in the chosen columns
   sources_cut : (past one other : List Row) → Aside past one other → sources one ≡ chosen (marked past) (sources past)
-  sources_cut past one other h =
-      sym (all_remembered options.skip (columns one)) ∙ h.is_cut.seen
-      ∙ ap (λ (xs : List (Option (List ℕ))). chosen (marked past) xs) (all_remembered options.skip (columns past))
+  sources_cut = grind (arith, nat_tests, all_remembered)
 
   values_same : (past one other : List Row) (tokens : List (List ℕ)) → IsOpen past → find (breaks_as_text (path_after past) tokens) in_order ≡ None
       → Aside past one other → (us : List (List ℕ)) → chosen (marked past) tokens ≡ us → Fine (ditto options) one (filled Values (us ∷ []))
@@ -191,61 +141,32 @@ module _ (choice : Choice) (options : DittoOptions) where
 
       go : (us : List (List ℕ)) → chosen (marked past) tokens ≡ us → Fine (ditto options) one (filled Values (us ∷ []))
           → out (ditto options) one (filled Values (us ∷ [])) ≡ filled Values (chosen (marked past) (new_tokens options past tokens) ∷ [])
-      go [] is fine =
-          let empty : chosen (marked past) (new_tokens options past tokens) ≡ [] = sym right ∙ rw is (none (sources one)) in
-          rw empty refl
-      go (u ∷ us) is fine =
-          append-nil _ ∙ fits_alone (Spined Values (new_tokens options one (u ∷ us))) fine.0
-          ∙ sym (some_filled options.parentheses (sources one) u us Values)
-          ∙ ap (λ (ts : List (List ℕ)). filled Values (all_filled options.parentheses (sources one) ts ∷ [])) (sym is)
-          ∙ ap (λ (ts : List (List ℕ)). filled Values (ts ∷ [])) right
+      go = grind (arith, nat_tests, right, none, append-nil, fits_alone, some_filled)
 
   abbrev Step : List Row → List Row → List Row → List Row → List Row → Row → Type 0
   Step past one other made also row =
       (out (ditto options) one made ≡ out (extract choice) other also) × SameSpines (row ∷ past) (passed other also)
 
   fits_row : (row : Row) (rows : List Row) → if_fits row ≡ Ok rows → row ∷ [] ≡ rows
-  fits_row row rows e = by (nat_le (length (text_of row)) 1048576) e
-    where
-      by : (b : Bool) → ◌≡◌ {A = Result (List Row) Rule} (cond b (Ok (row ∷ [])) (Err L1)) (Ok rows) → row ∷ [] ≡ rows
-      by true e = cc
-      by false e = cc
+  fits_row = grind (arith, nat_tests)
 
   step : (past one other made also : List Row) (row : Row) → IsOpen (row ∷ past) → Aside past one other
       → extract choice past row ≡ Ok made → ditto options past row ≡ Ok also → Fine (ditto options) one made → Step past one other made also row
-  step past one other made also (Comment text) sound h e f fine =
-      let is : Comment text ∷ [] ≡ made = cc in
-      let too : Comment text ∷ [] ≡ also = cc in
-      rw (← is, ← too) (refl, record { path = h.spines.path; origins = h.spines.origins; opening = h.spines.opening })
+  step past one other made also (Comment text) sound h e f fine = grind (arith, nat_tests)
   step past one other made also (Spined Local tokens) sound h e f fine =
-      let is : filled Local (chosen (marked past) tokens ∷ []) ≡ made = cc in
-      let too : Spined Local tokens ∷ [] ≡ also = cc in
-      rw (← is, ← too) (
-        comments_stay options (chosen (marked past) tokens) one
-            ∙ ap (λ (fs : List Bool). filled Local (chosen fs tokens ∷ [])) (sym (same_flags (opening_flags choice) past other h.spines))
-            ∙ sym (append-nil _),
-        same_text past other Local tokens tokens (λ x. cc) sound.1 h.spines,
-      )
+      grind (arith, nat_tests, comments_stay, same_flags, append-nil, same_text)
   step past one other made also (Spined Interpretation tokens) sound h e f fine =
       let too : Spined Interpretation tokens ∷ [] ≡ also = cc in
       let rows = either_rows choice (marked past) tokens made (path_after past) e in
       let again : extract choice other (Spined Interpretation tokens) ≡ Ok made =
-      ap (λ (p : Path). at_path p (opened choice tokens) (cut (marked other) tokens)) h.spines.path
-      ∙ ap (λ (fs : List Bool). at_path (path_after past) (opened choice tokens) (cut fs tokens)) (same_flags (opening_flags choice) past other h.spines)
-      ∙ e in
+      grind (arith, nat_tests, same_flags) in
       rw (← too) (
         rw (← rows.are) (interpretations_stay options rows.records one) ∙ sym (append-nil made)
             ∙ sym (ap (λ (d : Result (List Row) Rule). made_by d ++ []) again),
         same_on past other tokens h.spines,
       )
   step past one other made also (Spined Values tokens) sound h e f fine =
-      let is : filled Values (chosen (marked past) tokens ∷ []) ≡ made = cc in
-      let too = fits_row (Spined Values (new_tokens options past tokens)) also f in
-      let left : Fine (ditto options) one (filled Values (chosen (marked past) tokens ∷ [])) = rw is fine in
-      rw (← is, ← too) (
-        values_same past one other tokens sound.0 sound.1 h (chosen (marked past) tokens) refl left ∙ sym (append-nil _),
-        same_text past other Values tokens (new_tokens options past tokens) (λ x. cc) sound.1 h.spines,
-      )
+      grind (arith, nat_tests, fits_row, values_same, append-nil, same_text)
 
   pub either_order : Commutes (extract choice) (ditto options) Aside
   either_order = record {

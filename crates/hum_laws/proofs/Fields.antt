@@ -1,13 +1,13 @@
 -- All fields that are extracted, and names that are extracted twice.
-use Rattle.std.proofs.Common.{◌≡◌, ◌∙◌, refl, sym, ap, ℕ, ◌+◌, ◌≤◌, Bool, true, false, List, [], ◌∷◌, ◌++◌, length, arith, cond, None, Some}
+use Rattle.std.proofs.lemmas.Bool.Decides.{nat_tests}
+use Rattle.std.proofs.Common.{◌≡◌, ◌∙◌, refl, sym, ℕ, ◌+◌, ◌≤◌, Bool, true, false, List, [], ◌∷◌, ◌++◌, length, arith, cond, Some}
 use Rattle.std.specs.Prelude.{Result, Ok, Err, not}
-use Rattle.std.specs.List.{list_any, find}
+use Rattle.std.specs.List.{list_any}
 use Rattle.std.specs.Str.{bytes_eq}
 use Rattle.std.proofs.lemmas.Bool.{or_parts, not-false}
-use Rattle.hum_score.specs.declared.records.SpinedKind.TheVariants.{Local, Interpretation, Values}
+use Rattle.hum_score.specs.declared.records.SpinedKind.TheVariants.{Interpretation}
 use Rattle.hum_score.specs.Row.{Row, Comment, Spined, chosen}
-use Rattle.hum_score.specs.Spines.{Path, Unopened}
-use Rattle.hum_score.specs.Rules.{breaks_as_text, in_order}
+use Rattle.hum_score.specs.Spines.{Unopened}
 use Rattle.hum_score.specs.Score.{path_after}
 use Rattle.hum_score.proofs.Cases.{by_bool}
 use Rattle.hum_words.specs.declared.commands.Command.TheVariants.{Extract}
@@ -18,26 +18,22 @@ use Rattle.hum_score.specs.InOrder.{Follow, IsScore}
 use Rattle.hum_stage.specs.Meaning.{KeepsScore}
 use Rattle.hum_stage.specs.Decided.{at_once}
 use Rattle.hum_columns.specs.Spread.{filled}
-use Rattle.hum_columns.specs.Chosen.{flags}
-use Rattle.hum_columns.specs.Deciding.{at_path}
 use Rattle.hum_choices.specs.Extract.{Names}
 use Rattle.hum_extract.specs.Choice.{each_chosen, opening_flags, misses, names_beyond}
-use Rattle.hum_extract.specs.Extract.{cut, opened, extract}
+use Rattle.hum_extract.specs.Extract.{opened, extract}
 use Rattle.hum_record.proofs.Left.{chosen_filled}
 use Rattle.hum_extract.proofs.ChosenTokens.{filled_one}
 use Rattle.hum_extract.proofs.Taking.{opening_length}
 use Rattle.hum_laws.specs.declared.given.Given.{Given}
 use Rattle.hum_laws.specs.Piped.{IsAlone, IsPiped}
 use Rattle.hum_laws.specs.Fields.{every_field}
-use Rattle.hum_laws.proofs.Plain.{fits}
 use Rattle.hum_laws.proofs.Runs.{Fine, out, made_by, taken, alone_runs, piped_runs}
 use Rattle.hum_laws.proofs.Whole.{all_on, opening_in, stays_whole}
 
 -- every field is chosen
 each_on : (width j : ℕ) (names : List (List ℕ)) → j + length names ≤ width → all_on (each_chosen every_field width j names) ≡ true
 each_on width j [] h = refl
-each_on width j (name ∷ names) h =
-    rw (fits 1 (j + 1) (omega arith), fits (j + 1) width (omega (arith, h))) (each_on width (j + 1) names (omega (arith, h)))
+each_on width j (name ∷ names) h = grind (arith, nat_tests, each_on width (j + 1) names (omega (arith, h)))
 
 pub all_fields_stay : (p : List Row) (given : Given) → IsAlone (at_once 1 Extract (extract every_field)) p given → IsScore p → given.end ≡ Closed
     → given.records.items ≡ p
@@ -75,22 +71,8 @@ module _ (names : List (List ℕ)) where
 
   extracted_on : (past p : List Row) → path_after past ≡ Unopened → Follow (path_after past) p → Fine (extract (Names names)) past p → (ts : List (List ℕ))
       → opening_in (Names names) (out (extract (Names names)) past p) ≡ Some ts → all_on (opening_flags (Names names) ts) ≡ true
-  extracted_on past [] at follow fine ts is = cc
   extracted_on past (Comment text ∷ p) at follow fine ts is = extracted_on (Comment text ∷ past) p at follow.1 fine.1 ts is
-  extracted_on past (Spined Local tokens ∷ p) at follow fine ts is = absurd (closed (rw at at follow.0))
-    where
-      closed : find (breaks_as_text Unopened tokens) in_order ≡ None → ⊥
-      closed e = cc
-  extracted_on past (Spined Values tokens ∷ p) at follow fine ts is = absurd (closed (rw at at follow.0))
-    where
-      closed : find (breaks_as_text Unopened tokens) in_order ≡ None → ⊥
-      closed e = cc
-  extracted_on past (Spined Interpretation tokens ∷ p) at follow fine ts is =
-      let rows = made_by (extract (Names names) past (Spined Interpretation tokens)) in
-      let told = taken (extract (Names names) past (Spined Interpretation tokens)) fine.0 in
-      let first : opened (Names names) tokens ≡ Ok rows =
-      sym (ap (λ (q : Path). at_path q (opened (Names names) tokens) (cut (flags (opening_flags (Names names)) past) tokens)) at) ∙ told in
-      opened_on tokens ts rows first (out (extract (Names names)) (Spined Interpretation tokens ∷ past) p) is
+  extracted_on past p h k w ts e = grind (arith, nat_tests, made_by, taken, opened_on, out)
 
   pub names_twice : (p : List Row) (once twice : Given) → IsAlone (at_once 1 Extract (extract (Names names))) p once
       → IsPiped (at_once 1 Extract (extract (Names names))) (at_once 2 Extract (extract (Names names))) p twice

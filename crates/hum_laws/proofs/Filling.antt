@@ -1,29 +1,26 @@
 -- What ditto has filled, it doesn't fill again.
-use Rattle.std.proofs.Common.{◌≡◌, ◌∙◌, refl, sym, ap, ℕ, zero, suc, Bool, true, false, not, ◌⊎◌, inl, inr, List, [], ◌∷◌, length, map, cond, get_or, subst}
-use Rattle.std.specs.Prelude.{nat_le, Option, None, Some, Result, Ok, Err}
+use Rattle.std.proofs.lemmas.Bool.Decides.{nat_tests}
+use Rattle.std.proofs.Common.{arith}
+use Rattle.std.proofs.Common.{◌≡◌, ◌∙◌, refl, sym, ap, ℕ, suc, Bool, true, false, not, ◌⊎◌, inl, inr, List, [], ◌∷◌, length, map, cond, get_or}
+use Rattle.std.specs.Prelude.{nat_le, Option, None, Some, Ok}
 use Rattle.std.specs.List.{find}
 use Rattle.std.proofs.lemmas.Bool.{and_parts}
-use Rattle.std.proofs.lemmas.Slice.Eq.{bytes_eq-Decides}
-use lib.Chars.{codes}
 use Rattle.hum_score.specs.declared.records.SpinedKind.TheVariants.{Local, Interpretation, Values}
 use Rattle.hum_score.specs.Row.{Row, Comment, Spined, text_of}
-use Rattle.hum_record.specs.Contents.{is_data, is_null}
+use Rattle.hum_record.specs.Contents.{is_null}
 use Rattle.hum_score.specs.declared.spines.Move.{Move}
-use Rattle.hum_score.specs.declared.spines.Move.TheVariants.{Same, Left, Right, Join as Joined, Added}
 use Rattle.hum_score.specs.Sign.{sign_of, is_exclusive}
 use Rattle.hum_score.specs.Spines.{Path, after, moves_at}
 use Rattle.hum_score.specs.Score.{path_after, passed}
 use Rattle.hum_path.specs.Chains.{chain_of, columns, longer, reach}
 use Rattle.hum_score.proofs.Cases.{by_bool}
 use Rattle.hum_path.proofs.Plain.{find_head}
-use Rattle.hum_stage.specs.declared.faults.Rule.{Rule}
-use Rattle.hum_stage.specs.declared.faults.Rule.TheVariants.{L1}
 use Rattle.hum_words.specs.declared.commands.Command.TheVariants.{Ditto}
 use Rattle.hum_stage.specs.declared.faults.End.TheVariants.{Closed}
 use Rattle.hum_score.specs.InOrder.{IsScore}
 use Rattle.hum_stage.specs.Meaning.{KeepsScore}
 use Rattle.hum_choices.specs.declared.ditto.DittoOptions.{DittoOptions}
-use Rattle.hum_ditto.specs.Ditto.{may_repeat, repeated, written, filled, all_filled, new_tokens, ditto, meaning}
+use Rattle.hum_ditto.specs.Ditto.{may_repeat, repeated, written, filled, all_filled, ditto, meaning}
 use Rattle.hum_stage.specs.Limits.{if_fits}
 use Rattle.hum_laws.specs.declared.given.Given.{Given}
 use Rattle.hum_laws.specs.Piped.{IsAlone, IsPiped}
@@ -31,11 +28,7 @@ use Rattle.hum_laws.proofs.Runs.{out, comes_to, fine_settled, alone_runs, piped_
 
 -- a token that isn't null stays
 filled_stays : (p : Bool) (source : Option (List ℕ)) (token : List ℕ) → is_null token ≡ false → filled p source token ≡ token
-filled_stays p None token h = refl
-filled_stays p (Some source) token h = rw h refl
-
-null_plain : (token : List ℕ) → is_null token ≡ true → is_exclusive (sign_of token) ≡ false
-null_plain token h = subst (λ (t : List ℕ). is_exclusive (sign_of t) ≡ false) ((bytes_eq-Decides (codes ".") token).0 h) refl
+filled_stays = grind (arith, nat_tests)
 
 -- each cell of a chain is as it was, or was filled
 abbrev Filled : Bool → Option (List ℕ) → List (List ℕ) → List (List ℕ) → Type 0
@@ -48,22 +41,18 @@ find_none f x xs h k = rw h k
 
 -- where nothing could be repeated, nothing can be
 none_again : (p : Bool) (skip : Option (List ℕ)) (c d : List (List ℕ)) → Filled p skip c d → repeated skip c ≡ None → repeated skip d ≡ None
-none_again p skip [] [] h e = refl
-none_again p skip [] (u ∷ d) h e = absurd h
-none_again p skip (t ∷ c) [] h e = absurd h
 none_again p skip (t ∷ c) (u ∷ d) h e =
     let parts = find_head (may_repeat skip) t (cond (is_exclusive (sign_of t)) [] (reach c)) e in
     let same : u ≡ t = elim h.0 as (λ _. u ≡ t) [ inl w ↦ w | inr w ↦ w ∙ unchanged parts.1 ] in
     rw same (find_none (may_repeat skip) t (cond (is_exclusive (sign_of t)) [] (reach d)) parts.0 (rest parts.1 (none_again p skip c d h.1)))
   where
     unchanged : find (may_repeat skip) (cond (is_exclusive (sign_of t)) [] (reach c)) ≡ None → filled p (repeated skip c) t ≡ t
-    unchanged none = by_bool (is_null t)
-        (λ w. ap (λ (o : Option (List ℕ)). filled p o t) (rw (null_plain t w) at none))
-        (λ w. filled_stays p (repeated skip c) t w)
+    unchanged = grind (arith, nat_tests)
 
     rest : find (may_repeat skip) (cond (is_exclusive (sign_of t)) [] (reach c)) ≡ None → (repeated skip c ≡ None → repeated skip d ≡ None)
         → find (may_repeat skip) (cond (is_exclusive (sign_of t)) [] (reach d)) ≡ None
     rest none more = by_bool (is_exclusive (sign_of t)) (λ w. rw w refl) (λ w. rw w (more (rw w at none)))
+none_again p skip c d h k = grind (arith, nat_tests)
 
 found_passes : {X : Type 0} (f : X → Bool) (xs : List X) (x : X) → find f xs ≡ Some x → f x ≡ true
 found_passes f [] x e = cc
@@ -73,28 +62,16 @@ found_passes f (y ∷ ys) x e = by_bool (f y) (λ w. at_once w (rw w at e)) (λ 
     at_once w is = let same : y ≡ x = cc in rw (← same) w
 
 written_filled : (p : Bool) (token : List ℕ) → is_null token ≡ false → is_null (written p token) ≡ false
-written_filled true token h = refl
-written_filled false token h = h
+written_filled = grind (arith, nat_tests)
 
 not_true : (b : Bool) → not b ≡ true → b ≡ false
-not_true true h = cc
-not_true false h = refl
+not_true = grind (arith, nat_tests)
 
 -- one token is filled once
 filled_once : (p : Bool) (skip : Option (List ℕ)) (c d : List (List ℕ)) (token : List ℕ) → Filled p skip c d
     → filled p (repeated skip d) (filled p (repeated skip c) token) ≡ filled p (repeated skip c) token
-filled_once p skip c d token h = go (repeated skip c) refl
-  where
-    go : (o : Option (List ℕ)) → repeated skip c ≡ o → filled p (repeated skip d) (filled p o token) ≡ filled p o token
-    go None e = ap (λ (x : Option (List ℕ)). filled p x token) (none_again p skip c d h e)
-    go (Some source) e = by_bool (is_null token)
-        (λ w. rw w (filled_stays p (repeated skip d) (written p source) (written_filled p source (not_null source e))))
-        (λ w. rw w (filled_stays p (repeated skip d) token w))
-      where
-        not_null : (source : List ℕ) → repeated skip c ≡ Some source → is_null source ≡ false
-        not_null source e =
-            let may = found_passes (may_repeat skip) (reach c) source e in
-            not_true (is_null source) (and_parts (not (is_null source)) _ (and_parts (is_data source) _ may).1).0
+filled_once =
+    grind (arith, nat_tests, none_again, filled_stays, written_filled, found_passes, not_true, and_parts)
 
 abbrev AllFilled : Bool → Option (List ℕ) → List (List (List ℕ)) → List (List (List ℕ)) → Type 0
 AllFilled p skip [] [] = Unit {0}
@@ -103,13 +80,9 @@ AllFilled p skip _ _ = ⊥
 
 all_once : (p : Bool) (skip : Option (List ℕ)) (cs ds : List (List (List ℕ))) (tokens : List (List ℕ)) → AllFilled p skip cs ds
     → all_filled p (map (repeated skip) ds) (all_filled p (map (repeated skip) cs) tokens) ≡ all_filled p (map (repeated skip) cs) tokens
-all_once p skip [] [] tokens h = refl
-all_once p skip [] (d ∷ ds) tokens h = absurd h
-all_once p skip (c ∷ cs) [] tokens h = absurd h
-all_once p skip (c ∷ cs) (d ∷ ds) [] h = refl
 all_once p skip (c ∷ cs) (d ∷ ds) (t ∷ ts) h =
-    ap (λ (x : List ℕ). x ∷ all_filled p (map (repeated skip) ds) (all_filled p (map (repeated skip) cs) ts)) (filled_once p skip c d t h.0)
-    ∙ ap (λ (xs : List (List ℕ)). filled p (repeated skip c) t ∷ xs) (all_once p skip cs ds ts h.1)
+    grind (arith, nat_tests, all_once p skip cs ds ts h.1, filled_once)
+all_once p skip cs ds tokens h = grind (arith, nat_tests)
 
 -- one record more
 longer_filled : (p : Bool) (skip : Option (List ℕ)) (cs ds : List (List (List ℕ))) (tokens : List (List ℕ)) → AllFilled p skip cs ds
@@ -132,19 +105,12 @@ longer_same p skip (c ∷ cs) (d ∷ ds) (t ∷ ts) h = ((inl refl, h.0), longer
 
 at_filled : (p : Bool) (skip : Option (List ℕ)) (cs ds : List (List (List ℕ))) (j : ℕ) →
     AllFilled p skip cs ds → Filled p skip (get_or cs j []) (get_or ds j [])
-at_filled p skip [] [] j h = tt
-at_filled p skip [] (d ∷ ds) j h = absurd h
-at_filled p skip (c ∷ cs) [] j h = absurd h
-at_filled p skip (c ∷ cs) (d ∷ ds) zero h = h.0
 at_filled p skip (c ∷ cs) (d ∷ ds) (suc j) h = at_filled p skip cs ds j h.1
+at_filled p skip cs ds j h = grind (arith, nat_tests)
 
 chain_filled : (p : Bool) (skip : Option (List ℕ)) (cs ds : List (List (List ℕ))) (tokens : List (List ℕ)) (m : Move) → AllFilled p skip cs ds
     → Filled p skip (chain_of tokens cs m) (chain_of tokens ds m)
-chain_filled p skip cs ds tokens (Added j) h = tt
-chain_filled p skip cs ds tokens (Same j) h = (inl refl, at_filled p skip cs ds j h)
-chain_filled p skip cs ds tokens (Left j) h = (inl refl, at_filled p skip cs ds j h)
-chain_filled p skip cs ds tokens (Right j) h = (inl refl, at_filled p skip cs ds j h)
-chain_filled p skip cs ds tokens (Joined first last) h = (inl refl, at_filled p skip cs ds first h)
+chain_filled = grind (arith, nat_tests, at_filled)
 
 moved_filled : (p : Bool) (skip : Option (List ℕ)) (cs ds : List (List (List ℕ))) (tokens : List (List ℕ)) (ms : List Move) → AllFilled p skip cs ds
     → AllFilled p skip (map (chain_of tokens cs) ms) (map (chain_of tokens ds) ms)
@@ -156,35 +122,19 @@ record Behind (options : DittoOptions) (past behind : List Row) : Type 0 where
   cells : AllFilled options.parentheses options.skip (columns past) (columns behind)
 
 fits_only : (row : Row) (made : List Row) → if_fits row ≡ Ok made → (row ∷ [] ≡ made) × (nat_le (length (text_of row)) 1048576 ≡ true)
-fits_only row made e = by (nat_le (length (text_of row)) 1048576) e
-  where
-    by : (b : Bool) → ◌≡◌ {A = Result (List Row) Rule} (cond b (Ok (row ∷ [])) (Err L1)) (Ok made) → (row ∷ [] ≡ made) × (b ≡ true)
-    by true e = (cc, refl)
-    by false e = cc
+fits_only = grind (arith, nat_tests)
 
 abbrev Step : DittoOptions → List Row → List Row → List Row → Row → Type 0
 Step options past behind made row = (out (ditto options) behind made ≡ made) × Behind options (row ∷ past) (passed behind made)
 
 values_step : (options : DittoOptions) (past behind made : List Row) (tokens : List (List ℕ)) → Behind options past behind
     → ditto options past (Spined Values tokens) ≡ Ok made → Step options past behind made (Spined Values tokens)
-values_step options past behind made tokens h e =
-    let new = new_tokens options past tokens in
-    let is = fits_only (Spined Values new) made e in
-    let same : new_tokens options behind new ≡ new = all_once options.parentheses options.skip (columns past) (columns behind) tokens h.cells in
-    rw (← is.0) (
-      rw (same, is.1) refl,
-      record {
-        path = h.path;
-        cells = longer_filled options.parentheses options.skip (columns past) (columns behind) tokens h.cells;
-      },
-    )
+values_step = grind (arith, nat_tests, fits_only, all_once, longer_filled)
 
 step : (options : DittoOptions) (past behind made : List Row) (row : Row) → Behind options past behind →
     ditto options past row ≡ Ok made → Step options past behind made row
 step options past behind made (Comment text) h e = let is : Comment text ∷ [] ≡ made = cc in rw (← is) (refl, record { path = h.path; cells = h.cells })
-step options past behind made (Spined Local tokens) h e =
-    let is : Spined Local tokens ∷ [] ≡ made = cc in
-    rw (← is) (refl, record { path = h.path; cells = longer_same options.parentheses options.skip (columns past) (columns behind) tokens h.cells })
+step options past behind made (Spined Local tokens) h e = grind (arith, nat_tests, longer_same)
 step options past behind made (Spined Interpretation tokens) h e =
     let is : Spined Interpretation tokens ∷ [] ≡ made = cc in
     rw (← is) (

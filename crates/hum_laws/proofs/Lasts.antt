@@ -1,12 +1,12 @@
 -- What is transposed lasts as long as before.
-use Rattle.std.proofs.Common.{◌≡◌, refl, sym, ap, ◌∙◌, ℕ, ◌+◌, ◌<◌, ℤ, Bool, true}
+use Rattle.std.proofs.lemmas.Bool.Decides.{nat_tests}
+use Rattle.std.proofs.Common.{◌≡◌, refl, sym, ap, ◌∙◌, ℕ, ◌+◌, ◌<◌, ℤ, Bool, arith}
 use Rattle.std.proofs.Common.{false, List, [], ◌++◌, length, take, drop, Option, None, Some, subst}
 use Rattle.std.specs.Prelude.{Result, Ok, Err, not, if◌then◌else◌}
 use lib.Chars.{codes}
 use Rattle.hum_pitch.specs.Pitch.{Spelled, IsPitch, away}
 use Rattle.hum_pitch.specs.Spelling.{spelling}
 use Rattle.hum_pitch.proofs.Steps.{away_is}
-use Rattle.hum_frac.specs.Ratio.{Ratio}
 use Rattle.hum_kern.specs.declared.KernFault.{KernFault}
 use Rattle.hum_kern.specs.declared.Length.{Length}
 use Rattle.hum_kern.specs.Duration.{duration}
@@ -17,7 +17,7 @@ use Rattle.hum_kern.proofs.Lasting.{keeps_there}
 use Rattle.hum_stage.specs.declared.faults.Rule.{Rule}
 use Rattle.hum_stage.specs.declared.faults.Rule.TheVariants.{TR1, TR2}
 use Rattle.hum_tones.specs.Faults.{rule_of}
-use Rattle.hum_tones.specs.Recip.{by_value, by_length, recip_of}
+use Rattle.hum_tones.specs.Recip.{by_length, recip_of}
 use Rattle.hum_tones.specs.Trans.{is_alteration, is_octave, if_spelled, put, moved, moved_as_read, transposed_part}
 use Rattle.hum_laws.proofs.Undone.{octave_within, alteration_within}
 
@@ -30,15 +30,8 @@ by_lasting (Err fault) rest = Err (rule_of fault)
 recip_is : (part : List ℕ) → recip_of part ≡ by_lasting (lasting part) (is_rest part)
 recip_is part = go (duration part)
   where
-    by : (o : Option Ratio) (found : Length)
-        → ◌≡◌ {A = Result (Option (List ℕ)) Rule} (Ok (by_value o found part))
-        (by_lasting (lasting_in part (Ok (record found { value = o }))) (is_rest part))
-    by None found = refl
-    by (Some value) found = refl
-
     go : (r : Result Length KernFault) → by_length r part ≡ by_lasting (lasting_in part r) (is_rest part)
-    go (Ok found) = by found.value found
-    go (Err fault) = refl
+    go = grind (arith, nat_tests)
 
 lasts_there : (n m : ℤ) (part text : List ℕ) (found : Reading) (p : Spelled) → Ok found ≡ note part → found.pitch ≡ Some p
     → (q : Spelled) → q ≡ away n m p
@@ -63,9 +56,7 @@ lasts_there n m part text found p read there q is e = go (is_alteration q.altera
 
     go : (a : Bool) → is_alteration q.alteration ≡ a → (b : Bool) → is_octave q.octave ≡ b
         → put part found (if not a then Err TR1 else if not b then Err TR2 else Ok q) ≡ Ok (Some text) → recip_of part ≡ recip_of text
-    go false f b g e = cc
-    go true f false g e = cc
-    go true f true g e = made (step_of, octave_within q.octave g, alteration_within q.alteration f) cc
+    go = grind (arith, nat_tests, made, step_of, octave_within, alteration_within)
 
 -- A part that is transposed has its duration.
 pub lasts : (n m : ℤ) (part text : List ℕ) → transposed_part n m part ≡ Ok (Some text) → recip_of part ≡ recip_of text
@@ -77,5 +68,4 @@ lasts n m part text e = go (note part) refl e
     there found read (Some p) is e = lasts_there n m part text found p (sym read) is (away n m p) refl e
 
     go : (r : Result Reading KernFault) → note part ≡ r → moved_as_read n m part r ≡ Ok (Some text) → recip_of part ≡ recip_of text
-    go (Ok found) read e = there found read found.pitch refl e
-    go (Err fault) read e = cc
+    go = grind (arith, nat_tests, there)

@@ -1,20 +1,20 @@
 -- Columns that have another name than **kern, which no command on notes changes.
-use Rattle.std.proofs.Common.{◌≡◌, ◌∙◌, refl, sym, ap, ℕ, zero, suc, false, List, [], ◌∷◌, map, get_or}
-use Rattle.std.specs.Prelude.{Result, Ok, Err}
+use Rattle.std.proofs.lemmas.Grind.{common_steps}
+use Rattle.std.proofs.lemmas.Bool.Decides.{nat_tests}
+use Rattle.std.proofs.Common.{◌≡◌, ◌∙◌, refl, sym, ap, ℕ, false, List, [], ◌∷◌, map, get_or, arith}
+use Rattle.std.specs.Prelude.{Ok}
 use Rattle.std.specs.List.{list_any}
 use Rattle.std.proofs.lemmas.Bool.{or_parts, or_from}
 use Rattle.hum_score.specs.declared.records.SpinedKind.TheVariants.{Local, Interpretation, Values}
 use Rattle.hum_score.specs.Row.{Row, Comment, Spined}
 use Rattle.hum_score.specs.declared.spines.Move.{Move}
 use Rattle.hum_score.specs.declared.spines.Move.TheVariants.{Same, Left, Right, Join as Joined, Added}
-use Rattle.hum_score.specs.Sign.{sign_of, is_exclusive}
+use Rattle.hum_score.specs.Sign.{sign_of}
 use Rattle.hum_score.specs.Spines.{Path, Unopened, Spines, names_after, exclusives, renamed, moves_under}
 use Rattle.hum_score.specs.Score.{path_after, passed}
-use Rattle.hum_path.specs.Chains.{columns}
 use Rattle.hum_score.proofs.Cases.{by_bool}
-use Rattle.hum_stage.specs.declared.faults.Rule.{Rule}
 use Rattle.hum_score.specs.InOrder.{IsScore}
-use Rattle.hum_cells.specs.Rewriting.{Heading, Renamed, Followed, Rewriting, is_kern, kern_columns, all_rewritten, headed, with_heading, data_record, rewrite}
+use Rattle.hum_cells.specs.Rewriting.{Heading, Renamed, Followed, Rewriting, is_kern, all_rewritten, headed, with_heading, rewrite}
 use Rattle.hum_laws.proofs.Runs.{out, Fine, RunsBehind, RunsTo, comes_to, fine_settled}
 use Rattle.hum_laws.proofs.Marks.{Becomes, fit_only, fits_as}
 
@@ -23,12 +23,10 @@ no_kern names = list_any is_kern names ≡ false
 
 untold : (becomes : Becomes) (names : List (List ℕ)) (aboves : List (List (List ℕ))) (tokens : List (List ℕ)) → no_kern names
     → all_rewritten becomes (map is_kern names) aboves tokens ≡ Ok tokens
-untold becomes [] aboves tokens h = refl
-untold becomes (n ∷ ns) [] tokens h = refl
-untold becomes (n ∷ ns) (x ∷ xs) [] h = refl
 untold becomes (n ∷ ns) (x ∷ xs) (t ∷ ts) h =
     let both = or_parts (is_kern n) (list_any is_kern ns) h in
     rw (both.0, untold becomes ns xs ts both.1) refl
+untold becomes names aboves tokens h = grind (arith, nat_tests)
 
 no_kern_named : (name : List ℕ) (tokens : List (List ℕ)) → is_kern name ≡ false → no_kern (map (headed (Renamed name)) tokens)
 no_kern_named name [] h = refl
@@ -45,23 +43,19 @@ same_rows (Renamed name) tokens h = ap (λ (x : List (List ℕ)). Spined Interpr
 same_rows (Followed sign) tokens h = rw h refl
 
 no_kern_at : (names : List (List ℕ)) (j : ℕ) → no_kern names → is_kern (get_or names j []) ≡ false
-no_kern_at [] j h = refl
-no_kern_at (n ∷ ns) zero h = (or_parts (is_kern n) (list_any is_kern ns) h).0
-no_kern_at (n ∷ ns) (suc j) h = no_kern_at ns j (or_parts (is_kern n) (list_any is_kern ns) h).1
+no_kern_at = grind (arith, common_steps)
 
 no_kern_moved : (names tokens : List (List ℕ)) (m : Move) → no_kern names → no_kern tokens → is_kern (renamed names tokens m) ≡ false
 no_kern_moved names tokens (Added j) h k = refl
 no_kern_moved names tokens (Left j) h k = no_kern_at names j h
 no_kern_moved names tokens (Right j) h k = no_kern_at names j h
 no_kern_moved names tokens (Joined first last) h k = no_kern_at names first h
-no_kern_moved names tokens (Same j) h k = by_bool (is_exclusive (sign_of (get_or tokens j [])))
-    (λ w. rw w (no_kern_at tokens j k)) (λ w. rw w (no_kern_at names j h))
+no_kern_moved names tokens (Same j) h k = grind (arith, nat_tests, get_or, no_kern_at)
 
 no_kern_all : (names tokens : List (List ℕ)) (ms : List Move) → no_kern names → no_kern tokens → no_kern (map (renamed names tokens) ms)
 no_kern_all names tokens [] h k = refl
-no_kern_all names tokens (m ∷ ms) h k = or_from (is_kern (renamed names tokens m))
-    (list_any is_kern (map (renamed names tokens) ms)) (no_kern_moved names tokens m h k)
-    (no_kern_all names tokens ms h k)
+no_kern_all names tokens (m ∷ ms) h k =
+    grind (arith, nat_tests, no_kern_all names tokens ms h k, or_from, no_kern_moved)
 
 no_kern_after : (path : Path) (tokens : List (List ℕ)) → no_kern (exclusives path) → no_kern tokens → no_kern (names_after path tokens)
 no_kern_after Unopened tokens h k = k
@@ -79,28 +73,12 @@ Step second behind made row = (out (rewrite second) behind made ≡ made) × no_
 values_step : (name : List ℕ) (first : Becomes) (second : Rewriting) (past behind made : List Row)
     (tokens : List (List ℕ)) → no_kern (exclusives (path_after behind))
     → rewrite (naming name first) past (Spined Values tokens) ≡ Ok made → Fine (rewrite second) behind made → Step second behind made (Spined Values tokens)
-values_step name first second past behind made tokens holds e fine = go (all_rewritten first (kern_columns past) (columns past) tokens) e
-  where
-    one : (texts : List (List ℕ)) → Spined Values texts ∷ [] ≡ made → Step second behind made (Spined Values tokens)
-    one texts is =
-        let same = untold second.becomes (exclusives (path_after behind)) (columns behind) texts holds in
-        let took = (rw (← is) at fine).0 in
-        rw (← is) (rw (same, fits_as (Spined Values texts ∷ []) (rw same at took)) refl, holds)
-
-    go : (r : Result (List (List ℕ)) Rule) → data_record r ≡ Ok made → Step second behind made (Spined Values tokens)
-    go (Err rule) e = cc
-    go (Ok texts) e = one texts (fit_only (Spined Values texts ∷ []) made e)
+values_step = grind (arith, nat_tests, untold, fits_as, fit_only)
 
 steering_step : (name : List ℕ) (first : Becomes) (second : Rewriting) (past behind made : List Row) (tokens : List (List ℕ)) → is_kern name ≡ false
     → no_kern (exclusives (path_after behind)) → rewrite (naming name first) past (Spined Interpretation tokens) ≡ Ok made → Fine (rewrite second) behind made
     → Step second behind made (Spined Interpretation tokens)
-steering_step name first second past behind made tokens other holds e fine =
-    let new = map (headed (Renamed name)) tokens in
-    let none = no_kern_named name tokens other in
-    let is = fit_only (Spined Interpretation new ∷ []) made e in
-    let same = same_rows second.heading new none in
-    let took = (rw (← is) at fine).0 in
-    rw (← is) (rw (fits_as (with_heading second.heading new) took, same) refl, no_kern_after (path_after behind) new holds none)
+steering_step = grind (arith, nat_tests, no_kern_named, fit_only, same_rows, fits_as, no_kern_after)
 
 step : (name : List ℕ) (first : Becomes) (second : Rewriting) (past behind made : List Row) (row : Row) → is_kern name ≡ false
     → no_kern (exclusives (path_after behind)) → rewrite (naming name first) past row ≡ Ok made → Fine (rewrite second) behind made → Step second behind made row

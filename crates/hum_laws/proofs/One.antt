@@ -1,18 +1,16 @@
 -- Contexts of one token.
-use Rattle.std.proofs.Common.{◌≡◌, ◌∙◌, refl, sym, ap, ℕ, suc, ◌+◌, Bool, true, false, ◌⊎◌, inl, inr, List, [], ◌∷◌, length, cond, get_or, take, arith}
-use Rattle.std.specs.Prelude.{nat_le, Option, None, Some, Result, Ok, Err, filter}
-use Rattle.hum_score.specs.declared.records.SpinedKind.TheVariants.{Local, Interpretation, Values}
-use Rattle.hum_score.specs.Row.{Row, Comment, Spined, text_of}
+use Rattle.std.proofs.lemmas.Bool.Decides.{nat_tests}
+use Rattle.std.proofs.Common.{◌≡◌, ◌∙◌, refl, ap, ℕ, suc, ◌+◌, Bool, ◌⊎◌, inl, inr, List, [], ◌∷◌, length, cond, get_or, take, arith}
+use Rattle.std.specs.Prelude.{Option, None, Some, Ok, Err, filter}
+use Rattle.hum_score.specs.declared.records.SpinedKind.TheVariants.{Values}
+use Rattle.hum_score.specs.Row.{Row, Spined}
 use Rattle.hum_score.specs.Spines.{Path}
-use Rattle.hum_score.specs.Score.{path_after}
 use Rattle.hum_path.specs.Chains.{future}
 use Rattle.hum_score.proofs.Cases.{by_bool}
 use Rattle.hum_stage.specs.declared.faults.Rule.{Rule}
-use Rattle.hum_stage.specs.declared.faults.Rule.TheVariants.{L1}
 use Rattle.hum_words.specs.declared.commands.Command.{Command}
 use Rattle.hum_stage.specs.declared.faults.End.TheVariants.{Closed}
 use Rattle.hum_stage.specs.Outcome.{settled, refusal}
-use Rattle.hum_stage.specs.Meaning.{own_fault, fault_at}
 use Rattle.hum_stage.specs.Look.{Look, outcomes_from, looking}
 use Rattle.hum_context.specs.Context.{Choice, First, is_collectable, is_last, to_last, new_token, new_tokens, all_some, context}
 use Rattle.hum_laws.specs.declared.given.Given.{Given}
@@ -39,13 +37,7 @@ fine_settled room look line past (row ∷ p) h none = elim (h past row (take roo
 pub fine_whole : (room stage : ℕ) (command : Command) (look : Look) (p : List Row) (given : Given) → StaysOrFails look
     → IsAlone (looking room stage command look) p given
     → given.end ≡ Closed → given.records.items ≡ p
-fine_whole room stage command look p given h k closed =
-    let none = (closed_by Closed (own_fault (looking room stage command look) p) (sym k.1 ∙ closed)).1 in
-    k.0 ∙ fine_settled room look 1 [] p h (no_refusal (refusal 1 (outcomes_from room look [] p)) none)
-  where
-    no_refusal : (o : Option (ℕ × Rule)) → fault_at stage command o ≡ None → o ≡ None
-    no_refusal None e = refl
-    no_refusal (Some r) e = cc
+fine_whole = grind (arith, nat_tests, closed_by, fine_settled)
 
 -- a token is its own context
 module _ (omits : List ℕ → Bool) where
@@ -66,15 +58,4 @@ module _ (omits : List ℕ → Bool) where
       rw (here, own_token t (cond (is_last t) [] (to_last (future path rows j))), rest) refl
 
   pub own_context : StaysOrFails (context one)
-  own_context past (Comment text) rows = inl refl
-  own_context past (Spined Local tokens) rows = inl refl
-  own_context past (Spined Interpretation tokens) rows = inl refl
-  own_context past (Spined Values tokens) rows =
-      rw (own_tokens (path_after past) tokens rows 0 tokens (λ k. ap (λ (n : ℕ). get_or tokens n []) (omega arith)))
-      (by (nat_le (length (text_of (Spined Values tokens))) 1048576))
-    where
-      by : (b : Bool) → (◌≡◌ {A = Option (Result (List Row) Rule)} (Some (cond b (Ok (Spined Values tokens ∷ [])) (Err L1)))
-          (Some (Ok (Spined Values tokens ∷ []))))
-          ⊎ ((rule : Rule) × (◌≡◌ {A = Option (Result (List Row) Rule)} (Some (cond b (Ok (Spined Values tokens ∷ [])) (Err L1))) (Some (Err rule))))
-      by true = inl refl
-      by false = inr (L1, refl)
+  own_context = grind (arith, nat_tests, own_tokens, get_or)

@@ -1,15 +1,13 @@
 -- What is left by rid.
-use Rattle.std.proofs.Common.{◌≡◌, ◌∙◌, refl, sym, ap, ℕ, ◌≤◌, Bool, true, false, ◌&&◌, ◌||◌}
+use Rattle.std.proofs.lemmas.Bool.Decides.{nat_tests}
+use Rattle.std.proofs.Common.{◌≡◌, ◌∙◌, refl, sym, ap, ℕ, ◌≤◌, Bool, true, false, ◌||◌}
 use Rattle.std.proofs.Common.{List, [], ◌∷◌, ◌++◌, length, cond, arith}
 use Rattle.std.specs.Prelude.{None}
-use Rattle.std.specs.Str.{bytes_eq}
-use lib.Chars.{codes}
-use Rattle.hum_score.specs.declared.records.SpinedKind.TheVariants.{Local, Interpretation, Values}
-use Rattle.hum_score.specs.Row.{Row, Comment, Spined}
+use Rattle.hum_score.specs.Row.{Row}
 use Rattle.hum_stage.specs.Meaning.{output, own_fault}
 use Rattle.hum_stage.specs.Decided.{decisions}
 use Rattle.hum_choices.specs.declared.rid.RidOptions.{RidOptions}
-use Rattle.hum_rid.specs.Rid.{rid, drops, all_are, has_tandems, meaning}
+use Rattle.hum_rid.specs.Rid.{rid, drops, meaning}
 use Rattle.hum_laws.specs.declared.given.Given.{Given}
 use Rattle.hum_laws.specs.Piped.{IsAlone, IsPiped, Same}
 use Rattle.hum_laws.specs.Letters.{joint}
@@ -22,14 +20,7 @@ abbrev pub left : RidOptions → List Row → Row → List Row
 left options past row = cond (drops options row) [] (row ∷ [])
 
 rid_plain : (options : RidOptions) → IsPlain (rid options) (left options)
-rid_plain options = record {
-  is = λ past row. refl;
-  at_most = λ past row. few (drops options row) row;
-}
-  where
-    few : (b : Bool) (row : Row) → length (cond b [] (row ∷ [])) ≤ 1
-    few true row = omega arith
-    few false row = omega arith
+rid_plain = grind (arith, nat_tests)
 
 -- what rid gives, and that it refuses nothing
 pub rid_gives : (stage : ℕ) (options : RidOptions) (p : List Row) → length p ≤ 4294967295
@@ -40,25 +31,7 @@ rid_gives stage options p few =
 
 -- a record is dropped by the letters of both where those of one drop it
 drops_joint : (a b : RidOptions) (row : Row) → drops (joint a b) row ≡ drops a row || drops b row
-drops_joint a b (Comment text) =
-    let e = bytes_eq (codes "!!") text in
-    ap (λ x. (a.global_comments || b.global_comments) || x) (spread a.empty_global_comments b.empty_global_comments e)
-    ∙ pair a.global_comments b.global_comments (a.empty_global_comments && e) (b.empty_global_comments && e)
-drops_joint a b (Spined Local tokens) =
-    let e = all_are (codes "!") tokens in
-    ap (λ x. (a.local_comments || b.local_comments) || x) (spread a.null_local_comments b.null_local_comments e)
-    ∙ pair a.local_comments b.local_comments (a.null_local_comments && e) (b.null_local_comments && e)
-drops_joint a b (Spined Values tokens) =
-    let e = all_are (codes ".") tokens in
-    ap (λ x. (a.values || b.values) || x) (spread a.null_values b.null_values e)
-    ∙ pair a.values b.values (a.null_values && e) (b.null_values && e)
-drops_joint a b (Spined Interpretation tokens) =
-    let e = all_are (codes "*") tokens in
-    let f = has_tandems tokens in
-    ap (λ x. (a.interpretations || b.interpretations) || (x || ((a.tandems || b.tandems) && f))) (spread a.null_interpretations b.null_interpretations e)
-    ∙ ap (λ x. (a.interpretations || b.interpretations) ||
-    (((a.null_interpretations && e) || (b.null_interpretations && e)) || x)) (spread a.tandems b.tandems f)
-    ∙ shuffle a.interpretations b.interpretations (a.null_interpretations && e) (b.null_interpretations && e) (a.tandems && f) (b.tandems && f)
+drops_joint = grind (arith, nat_tests, spread, pair, shuffle)
 
 -- in turn is at once
 left_in_turn : (a b : RidOptions) (past behind p : List Row)
@@ -89,8 +62,7 @@ in_turn_same a b p one other few h k =
     )
 
 left_twice : (a : RidOptions) (past p : List Row) → all_made (left (joint a a)) past p ≡ all_made (left a) past p
-left_twice a past [] = refl
-left_twice a past (row ∷ p) = rw (drops_joint a a row, or-self (drops a row)) (ap (λ (x : List Row). left a past row ++ x) (left_twice a (row ∷ past) p))
+left_twice = grind (arith, nat_tests, drops_joint, or-self)
 
 -- What is left by the same letters twice is what is left by them once.
 pub twice_same : (a : RidOptions) (p : List Row) (once twice : Given) → length p ≤ 4294967295

@@ -1,6 +1,8 @@
 -- What commands make of records where they refuse none, and two of them behind one another.
-use Rattle.std.proofs.Common.{◌≡◌, ◌∙◌, refl, sym, ap, ℕ, ◌+◌, List, [], ◌∷◌, ◌++◌, append_assoc}
-use Rattle.std.specs.Prelude.{Option, None, Some, Result, Ok, Err}
+use Rattle.std.proofs.lemmas.Grind.{common_steps}
+use Rattle.std.proofs.lemmas.Bool.Decides.{nat_tests}
+use Rattle.std.proofs.Common.{◌≡◌, ◌∙◌, refl, sym, ap, ℕ, ◌+◌, List, [], ◌∷◌, ◌++◌, arith}
+use Rattle.std.specs.Prelude.{Option, None, Result, Ok, Err}
 use Rattle.hum_score.specs.Row.{Row}
 use Rattle.hum_score.specs.Spines.{Path, after}
 use Rattle.hum_score.specs.Score.{passed, path_after, IsOpen}
@@ -10,7 +12,7 @@ use Rattle.hum_words.specs.declared.commands.Command.{Command}
 use Rattle.hum_stage.specs.declared.faults.Rule.{Rule}
 use Rattle.hum_stage.specs.declared.faults.Fault.{Fault}
 use Rattle.hum_stage.specs.declared.faults.End.{End}
-use Rattle.hum_stage.specs.declared.faults.End.TheVariants.{Closed, Broken}
+use Rattle.hum_stage.specs.declared.faults.End.TheVariants.{Closed}
 use Rattle.hum_stage.specs.Outcome.{settled, refusal}
 use Rattle.hum_stage.specs.Meaning.{KeepsScore, output, own_fault, end_of, fault_at}
 use Rattle.hum_stage.specs.Decided.{Decision, outcome, decisions, limit, at_once}
@@ -38,8 +40,7 @@ Fine decide past [] = Unit {0}
 Fine decide past (row ∷ rows) = Taken (decide past row) × Fine decide (row ∷ past) rows
 
 pub taken : (d : Result (List Row) Rule) → Taken d → d ≡ Ok (made_by d)
-taken (Ok rows) h = refl
-taken (Err rule) h = absurd h
+taken = grind (arith, nat_tests)
 
 fine_from : (decide : Decision) (line : ℕ) (past rows : List Row) → refusal line (decisions decide past rows) ≡ None
     → Fine decide past rows × (settled (decisions decide past rows) ≡ out decide past rows)
@@ -51,8 +52,7 @@ fine_from decide line past (row ∷ rows) h = one (decide past row) h (λ e. fin
         → Fine decide (row ∷ past) rows × (settled (decisions decide (row ∷ past) rows) ≡ out decide (row ∷ past) rows))
         → (Taken d × Fine decide (row ∷ past) rows)
         × (settled (outcome d ∷ decisions decide (row ∷ past) rows) ≡ made_by d ++ out decide (row ∷ past) rows)
-    one (Ok made) e more = let k = more e in ((tt, k.0), ap (λ (x : List Row). made ++ x) k.1)
-    one (Err rule) e more = cc
+    one = grind (arith, nat_tests)
 
 -- what a stage of such a command gives where it refuses nothing
 pub record RunsTo (decide : Decision) (p rows : List Row) : Type 0 where
@@ -68,18 +68,14 @@ runs_to stage command decide p rows is none =
     record { fine = k.0; gives = is ∙ ap settled same ∙ k.1 }
   where
     no_refusal : (o : Option (ℕ × Rule)) → fault_at stage command o ≡ None → o ≡ None
-    no_refusal None e = refl
-    no_refusal (Some r) e = cc
+    no_refusal = grind (arith, nat_tests)
 
 pub closed_by : (end : End) (own : Option Fault) → end_of end own ≡ Closed → (end ≡ Closed) × (own ≡ None)
-closed_by Closed None e = (refl, refl)
-closed_by Closed (Some f) e = cc
-closed_by (Broken f) own e = cc
+closed_by = grind (arith, nat_tests)
 
 pub alone_runs : (stage : ℕ) (command : Command) (decide : Decision) (p : List Row) (given : Given) → IsAlone (at_once stage command decide) p given
     → given.end ≡ Closed → RunsTo decide p given.records.items
-alone_runs stage command decide p given h closed =
-    runs_to stage command decide p given.records.items h.0 (closed_by Closed (own_fault (at_once stage command decide) p) (sym h.1 ∙ closed)).1
+alone_runs = grind (arith, nat_tests, runs_to, closed_by)
 
 -- the second behind the first, and what stands between them is a score
 pub record RunsBehind (first second : Decision) (p rows : List Row) : Type 0 where
@@ -91,25 +87,12 @@ pub record RunsBehind (first second : Decision) (p rows : List Row) : Type 0 whe
 pub piped_runs : (stage next : ℕ) (command other : Command) (first second : Decision) (p : List Row) (given : Given)
     → IsPiped (at_once stage command first) (at_once next other second) p given
     → KeepsScore (at_once stage command first).outcomes → IsScore p → given.end ≡ Closed → RunsBehind first second p given.records.items
-piped_runs stage next command other first second p given h keeps score closed =
-    let between : List Row = output (at_once stage command first) p in
-    let ends = closed_by (end_of Closed (own_fault (at_once stage command first) p)) (own_fault (at_once next other second) between) (sym h.1 ∙ closed) in
-    let one = runs_to stage command first p between refl (closed_by Closed (own_fault (at_once stage command first) p) ends.0).1 in
-    let two = runs_to next other second between given.records.items h.0 ends.1 in
-    let is : between ≡ out first [] p = one.gives in
-    record {
-      one = one.fine;
-      two = rw is at two.fine;
-      gives = two.gives ∙ ap (out second []) is;
-      between = rw is at (keeps.score p score);
-    }
+piped_runs = grind (arith, nat_tests, closed_by, runs_to)
 
 -- lists that are put together
 pub out-append : (decide : Decision) (past p q : List Row) → out decide past (p ++ q) ≡ out decide past p ++ out decide (passed past p) q
 out-append decide past [] q = refl
-out-append decide past (row ∷ p) q =
-    ap (λ (x : List Row). made_by (decide past row) ++ x) (out-append decide (row ∷ past) p q)
-    ∙ sym (append_assoc (made_by (decide past row)) (out decide (row ∷ past) p) (out decide (passed (row ∷ past) p) q))
+out-append decide past (row ∷ p) q = grind (arith, common_steps, out-append decide (row ∷ past) p q)
 
 pub fine_parts : (decide : Decision) (past p q : List Row) → Fine decide past (p ++ q) → Fine decide past p × Fine decide (passed past p) q
 fine_parts decide past [] q h = (tt, h)
@@ -143,19 +126,12 @@ comes_from first second one Holds h past behind (row ∷ p) right follow sound g
 
 pub fine_settled : (decide : Decision) (past rows : List Row) → Fine decide past rows → settled (decisions decide past rows) ≡ out decide past rows
 fine_settled decide past [] h = refl
-fine_settled decide past (row ∷ rows) h = one (decide past row) h.0 (fine_settled decide (row ∷ past) rows h.1)
-  where
-    one : (d : Result (List Row) Rule) → Taken d → settled (decisions decide (row ∷ past) rows) ≡ out decide
-        (row ∷ past) rows → settled (outcome d ∷ decisions decide (row ∷ past) rows) ≡ made_by d ++ out decide
-        (row ∷ past) rows
-    one (Ok made) f more = ap (λ (x : List Row). made ++ x) more
-    one (Err rule) f more = absurd f
+fine_settled decide past (row ∷ rows) h = grind (arith, nat_tests, fine_settled decide (row ∷ past) rows h.1)
 
 pub comes_to : (first second one : Decision) (Holds : List Row → List Row → Type 0) → ComesTo first second one Holds
     → (p rows : List Row) → IsScore p → RunsBehind first second p rows → rows ≡ settled (decisions one [] p)
 comes_to first second one Holds h p rows score runs =
-    let k = comes_from first second one Holds h [] [] p tt score tt runs.between h.opening runs.one runs.two in
-    runs.gives ∙ k.1 ∙ sym (fine_settled one [] p k.0)
+    grind (arith, nat_tests, comes_from first second one Holds h, fine_settled one)
 
 -- One record through two commands in either order: what stands between goes on as a score both ways.
 pub record Commutes (first second : Decision) (Holds : List Row → List Row → List Row → Type 0) : Type 0 where

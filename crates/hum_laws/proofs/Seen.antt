@@ -1,18 +1,18 @@
 -- What is remembered of columns goes on as the spines do.
-use Rattle.std.proofs.Common.{◌≡◌, ◌∙◌, refl, ap, ℕ, zero, suc, ◌+◌, ◌<◌, ◌≤◌, true, false, List, [], ◌∷◌, length, map, arith, get_or, cond}
+use Rattle.std.proofs.lemmas.Bool.Decides.{nat_tests}
+use Rattle.std.proofs.Common.{◌≡◌, ◌∙◌, ap, ℕ, suc, ◌+◌, ◌<◌, ◌≤◌, true, false, List, [], ◌∷◌, length, map, arith, get_or}
 use Rattle.std.specs.List.{AllByRecursion}
 use Rattle.std.proofs.lemmas.List.{length-map}
 use Rattle.std.proofs.lemmas.Simd.{map-map}
 use Rattle.hum_score.specs.declared.spines.Sign.{Sign}
-use Rattle.hum_score.specs.declared.spines.Sign.TheVariants.{Split, Join, Exchange, Add, End, Exclusive, Plain}
-use Rattle.hum_score.specs.Sign.{sign_of, is_exchange}
-use Rattle.hum_score.specs.Spines.{exchanges, partner, moves_under}
+use Rattle.hum_score.specs.Sign.{sign_of}
+use Rattle.hum_score.specs.Spines.{exchanges, moves_under}
 use Rattle.hum_score.specs.Rules.{is_pair_or_none}
 use Rattle.hum_path.specs.Chains.{chain_of, columns, longer}
 use Rattle.hum_path.specs.Memories.{remembered, seen_each}
-use Rattle.hum_path.specs.Onward.{beginnings, onward, swapped, AgreesAt, Agrees, from_places}
+use Rattle.hum_path.specs.Onward.{beginnings, onward, swapped, Agrees, from_places}
 use Rattle.hum_path.proofs.Onwards.{onward_by_moves, places_swapped}
-use Rattle.hum_path.proofs.Within.{exchanged_below, partner_below}
+use Rattle.hum_path.proofs.Within.{exchanged_below}
 use Rattle.hum_score.specs.Row.{Row}
 
 -- what is remembered of each column
@@ -26,41 +26,24 @@ seen_on see fresh tokens ms =
 
 pub seen_length : {M : Type 0} (see : List ℕ → M → M) (tokens : List (List ℕ)) (ms : List M) → length tokens ≡ length ms
     → length (seen_each see tokens ms) ≡ length ms
-seen_length see [] ms e = refl
-seen_length see (t ∷ ts) [] e = absurd (omega (arith, e))
 seen_length see (t ∷ ts) (m ∷ ms) e = ap suc (seen_length see ts ms (omega (arith, e)))
+seen_length see tokens ms h = grind (arith, nat_tests)
 
 module _ {M : Type 0} (see : List ℕ → M → M) (fresh : M) where
   get_seen : (tokens : List (List ℕ)) (above : List (List (List ℕ))) (j : ℕ) → length tokens ≡ length above → j < length tokens
       → see (get_or tokens j []) (remembered see fresh (get_or above j [])) ≡ get_or (seen_each see tokens (map (remembered see fresh) above)) j fresh
-  get_seen [] above j e h = absurd (omega (arith, h))
-  get_seen (t ∷ ts) [] j e h = absurd (omega (arith, e))
-  get_seen (t ∷ ts) (c ∷ cs) zero e h = refl
   get_seen (t ∷ ts) (c ∷ cs) (suc j) e h = get_seen ts cs j (omega (arith, e)) (omega (arith, h))
+  get_seen tokens above j h k = grind (arith, nat_tests)
 
   abbrev AtEach : List (List ℕ) → List (List (List ℕ)) → List M → Type 0
   AtEach tokens above vs = (k : ℕ) → k < length tokens → see (get_or tokens k []) (remembered see fresh (get_or above k [])) ≡ get_or vs k fresh
-
-  place_agrees : (tokens : List (List ℕ)) (above : List (List (List ℕ))) (vs : List M) (pair : List ℕ) (j : ℕ) (s : Sign) → AtEach tokens above vs
-      → j < length tokens → partner pair j < length tokens
-      → AgreesAt (λ m. remembered see fresh (chain_of tokens above m)) (λ _. fresh) pair j s (get_or vs (cond (is_exchange s) (partner pair j) j) fresh)
-  place_agrees tokens above vs pair j Split at here there = (at _ here, at _ here)
-  place_agrees tokens above vs pair j Join at here there = λ last. at _ here
-  place_agrees tokens above vs pair j Exchange at here there = at _ there
-  place_agrees tokens above vs pair j Add at here there = (at _ here, refl)
-  place_agrees tokens above vs pair j End at here there = tt
-  place_agrees tokens above vs pair j Exclusive at here there = at _ here
-  place_agrees tokens above vs pair j Plain at here there = at _ here
 
   all_agree : (tokens : List (List ℕ)) (above : List (List (List ℕ))) (vs : List M) (pair : List ℕ) (j : ℕ) (ss : List Sign) → AtEach tokens above vs
       → AllByRecursion (λ p. p < length tokens) pair → j + length ss ≤ length tokens
       → Agrees (λ m. remembered see fresh (chain_of tokens above m)) (λ _. fresh) pair j ss (from_places fresh pair vs j ss)
   all_agree tokens above vs pair j [] at below within = tt
   all_agree tokens above vs pair j (s ∷ ss) at below within =
-      let here : j < length tokens = omega (arith, within) in (
-        place_agrees tokens above vs pair j s at here (partner_below (length tokens) j pair below here),
-        all_agree tokens above vs pair (j + 1) ss at below (omega (arith, within)),
-      )
+      grind (arith, nat_tests, all_agree tokens above vs pair (j + 1) ss)
 
   -- Under an interpretation memories go on as its signs say.
   pub moved_seen : (tokens : List (List ℕ)) (above : List (List (List ℕ))) → length tokens ≡ length above
@@ -82,6 +65,5 @@ module _ {M : Type 0} (see : List ℕ → M → M) (fresh : M) where
   -- and under other records each sees its token
   pub longer_seen : (tokens : List (List ℕ)) (above : List (List (List ℕ)))
       → map (remembered see fresh) (longer tokens above) ≡ seen_each see tokens (map (remembered see fresh) above)
-  longer_seen [] above = refl
-  longer_seen (t ∷ ts) [] = refl
   longer_seen (t ∷ ts) (c ∷ above) = ap (λ (ms : List M). see t (remembered see fresh c) ∷ ms) (longer_seen ts above)
+  longer_seen tokens above = grind (arith, nat_tests)

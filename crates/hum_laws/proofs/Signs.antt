@@ -2,7 +2,7 @@
 use Rattle.std.proofs.Common.{◌≡◌, refl, sym, ap, ◌∙◌, ℕ, zero, suc, ◌+◌, ◌≤◌, ℤ, pos, negsuc, ◌+ℤ◌, ◌-ℤ◌, Bool}
 use Rattle.std.proofs.Common.{true, false, List, [], ◌∷◌, ◌++◌, append_assoc, length, take, drop, arith, Option}
 use Rattle.std.proofs.Common.{None, Some, subst, ◌==◌, rules}
-use Rattle.std.specs.Prelude.{Result, Ok, Err, neg_ℤ, not, ◌||◌, nat_lt, filter, replicate, slice_index}
+use Rattle.std.specs.Prelude.{Result, Ok, neg_ℤ, not, ◌||◌, nat_lt, filter, replicate, slice_index}
 use Rattle.std.specs.List.{position, list_all, list_any, AllByRecursion}
 use Rattle.std.proofs.lemmas.Int.{ints}
 use Rattle.std.proofs.lemmas.Bool.{and_parts}
@@ -20,7 +20,6 @@ use Rattle.hum_kern.proofs.Found.{found_in}
 use Rattle.hum_kern.proofs.Placing.{no_more}
 use Rattle.hum_tones.specs.Trans.{is_alteration, is_octave, if_spelled, put, moved, moved_as_read, transposed_part}
 use Rattle.hum_laws.specs.Unsigned.{without_naturals, if_pitched, unsigned_as_read, unsigned}
-use Rattle.hum_laws.proofs.Plain.{fits}
 use Rattle.hum_kern.proofs.Found.{before_is, left_is}
 use Rattle.hum_laws.proofs.Undone.{stay, found_step, undone}
 
@@ -37,10 +36,7 @@ all_same b (x ∷ more) h =
 
 all_repeated : (b : ℕ) (more : List ℕ) → AllByRecursion (λ (x : ℕ). (x == b) ≡ true) more → more ≡ replicate (length more) b
 all_repeated b [] h = refl
-all_repeated b (x ∷ more) h =
-    let is = same_byte x b h.0 in
-    let rest = all_repeated b more h.1 in
-    cc
+all_repeated b (x ∷ more) h = grind (arith, nat_tests, all_repeated b more h.1)
 
 -- letters that are read are written again
 record Written (letter n : ℕ) (p : Spelled) : Type 0 where
@@ -92,20 +88,10 @@ drop_naturals zero = refl
 drop_naturals (suc n) = drop_naturals n
 
 sharps : (n : ℕ) → suc n ≤ 7 → Kept (35 ∷ replicate n 35)
-sharps n few =
-    let count : length (replicate n 35) ≡ n = length-replicate n 35 in
-    record {
-      text = ap (λ (k : ℕ). replicate (suc k) 35) count ∙ ap (λ (x : List ℕ). 35 ∷ x) (sym (keep_sharps n));
-      few = (omega (arith, ints, count, few), omega (arith, ints, count, few));
-    }
+sharps = grind (arith, nat_tests, length-replicate, keep_sharps, ints)
 
 flats : (n : ℕ) → suc n ≤ 7 → Kept (45 ∷ replicate n 45)
-flats n few =
-    let count : length (replicate n 45) ≡ n = length-replicate n 45 in
-    record {
-      text = ap (λ (k : ℕ). replicate (suc k) 45) count ∙ ap (λ (x : List ℕ). 45 ∷ x) (sym (keep_flats n));
-      few = (omega (arith, ints, count, few), omega (arith, ints, count, few));
-    }
+flats = grind (arith, nat_tests, length-replicate, keep_flats, ints)
 
 naturals : (n : ℕ) → Kept (110 ∷ replicate n 110)
 naturals n = record { text = sym (drop_naturals n); few = (omega (arith, ints), omega (arith, ints)) }
@@ -126,17 +112,13 @@ kept (s ∷ signs) all same few =
     ∙ ap (λ (b : ℕ). b ∷ replicate (length signs) b) is)) (naturals (length signs))))
   where
     third : (a b c : Bool) → a || (b || c) ≡ true → a ≡ false → b ≡ false → c ≡ true
-    third true b c h p q = cc
-    third false true c h p q = cc
-    third false false c h p q = h
+    third = grind (arith, nat_tests)
 
 octave_is : (o : ℤ) → IsOctave o → is_octave o ≡ true
-octave_is (pos k) h = fits k 11 (omega (arith, ints, h.0, h.1))
-octave_is (negsuc k) h = fits k 3 (omega (arith, ints, h.0, h.1))
+octave_is = grind (arith, nat_tests)
 
 alteration_is : (a : ℤ) → IsAlteration a → is_alteration a ≡ true
-alteration_is (pos k) h = fits k 7 (omega (arith, ints, h.0, h.1))
-alteration_is (negsuc k) h = fits k 6 (omega (arith, ints, h.0, h.1))
+alteration_is = grind (arith, nat_tests)
 
 -- a pitch that was read, as it is written
 record Rewritten (letters signs : List ℕ) (p : Spelled) : Type 0 where
@@ -144,8 +126,7 @@ record Rewritten (letters signs : List ℕ) (p : Spelled) : Type 0 where
   spelled : if_spelled p ≡ Ok p
 
 uniform_of : (b : Bool) → not b ≡ false → b ≡ true
-uniform_of true e = refl
-uniform_of false e = cc
+uniform_of = grind (arith, nat_tests)
 
 at_most : (n m : ℕ) → nat_lt m n ≡ false → n ≤ m
 at_most n m h = grind (arith, nat_tests, h)
@@ -163,9 +144,7 @@ rewritten b more signs p same all uniform few modest e = go (read_letters b (len
         let octave = octave_is q.octave (w.octave few) in
         let altered = alteration_is (alteration_of signs) k.few in
         rw (← is) (record {
-          text = ap (λ (x : List ℕ). x ++ accidentals (alteration_of signs)) (w.text
-              ∙ sym (ap (λ (x : List ℕ). b ∷ x) (all_repeated b more same)))
-              ∙ ap (λ (x : List ℕ). (b ∷ more) ++ x) k.text;
+          text = grind (arith, nat_tests, all_repeated);
           spelled = rw (altered, octave) refl;
         })
 
@@ -207,12 +186,10 @@ not_moved part = go (note part) refl
   where
     there : (found : Reading) → note part ≡ Ok found → (o : Option Spelled) → found.pitch ≡ o →
         moved (pos 0) (pos 0) part found o ≡ Ok (Some (if_pitched part o))
-    there found read None is = refl
-    there found read (Some p) is = unsigned_there part found p (sym read) is
+    there = grind (arith, nat_tests, unsigned_there)
 
     go : (r : Result Reading KernFault) → note part ≡ r → moved_as_read (pos 0) (pos 0) part r ≡ unsigned_as_read part r
-    go (Ok found) read = there found read found.pitch refl
-    go (Err fault) read = refl
+    go = grind (arith, nat_tests, there)
 
 -- There and back.
 pub back_unsigned : (n m : ℤ) (part text : List ℕ) → transposed_part n m part ≡ Ok (Some text) → unsigned part ≡ transposed_part (neg_ℤ n) (neg_ℤ m) text

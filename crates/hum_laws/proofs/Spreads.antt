@@ -1,5 +1,6 @@
 -- What is remembered of columns, under the records of a spread.
-use Rattle.std.proofs.Common.{◌≡◌, ◌∙◌, refl, sym, ap, ℕ, zero, suc, ◌≤◌, Bool, true, false, not, List, [], ◌∷◌, length, map, arith, cond}
+use Rattle.std.proofs.lemmas.Bool.Decides.{nat_tests}
+use Rattle.std.proofs.Common.{◌≡◌, ◌∙◌, refl, sym, ap, ℕ, suc, ◌≤◌, Bool, true, false, not, List, [], ◌∷◌, length, map, arith}
 use Rattle.std.proofs.lemmas.Bool.{and_parts}
 use lib.Chars.{codes}
 use Rattle.hum_score.specs.Sign.{sign_of, is_join, is_exchange}
@@ -8,7 +9,7 @@ use Rattle.hum_path.specs.Memories.{seen_each}
 use Rattle.hum_path.proofs.Onwards.{swapped_none}
 use Rattle.hum_score.proofs.Cases.{by_bool}
 use Rattle.hum_columns.specs.Spread.{JoinedToken, joins, tokens_in, touches, joins_in, goes_on, join_alone, first_alone, join_done, first_done}
-use Rattle.hum_columns.specs.Spread.{one_by_one, before_last, spread}
+use Rattle.hum_columns.specs.Spread.{one_by_one, spread}
 use Rattle.hum_columns.proofs.Spreading.{marks, signs_in, Formed, formed_length, rest_merged, merged, first_onward, done_onward, done_formed}
 use Rattle.hum_columns.proofs.Spreading.{done_joins, done_swapped}
 use Rattle.hum_columns.proofs.Fitting.{begins_marks}
@@ -34,10 +35,6 @@ pieces_on see fresh pieces ms =
     onward (λ _. fresh) (marks pieces) (signs_in pieces) (swapped (signs_in pieces) (seen_each see (tokens_in pieces) ms))
 
 merged_length : {X Y : Type 0} (ps : List JoinedToken) (xs : List X) (ys : List Y) → length xs ≡ length ys → length (merged ps xs) ≡ length (merged ps ys)
-merged_length [] xs ys e = e
-merged_length (p ∷ ps) [] [] e = refl
-merged_length (p ∷ ps) [] (y ∷ ys) e = absurd (omega (arith, e))
-merged_length (p ∷ ps) (x ∷ xs) [] e = absurd (omega (arith, e))
 merged_length {X} {Y} (p ∷ ps) (x ∷ xs) (y ∷ ys) e =
     by_bool p.begins (λ w. rw w (ap suc (rest ps xs ys (omega (arith, e))))) (λ w. rw w (ap suc (merged_length ps xs ys (omega (arith, e)))))
   where
@@ -47,6 +44,7 @@ merged_length {X} {Y} (p ∷ ps) (x ∷ xs) (y ∷ ys) e =
     rest (p ∷ ps) [] (y ∷ ys) e = absurd (omega (arith, e))
     rest (p ∷ ps) (x ∷ xs) [] e = absurd (omega (arith, e))
     rest (p ∷ ps) (x ∷ xs) (y ∷ ys) e = by_bool (goes_on p) (λ w. rw w (rest ps xs ys (omega (arith, e)))) (λ w. rw w e)
+merged_length ps xs ys h = grind (arith, nat_tests)
 
 module _ {M : Type 0} (see : List ℕ → M → M) (fresh : M) (passes : Passes see) where
   seen_none : (ts : List (List ℕ)) → seen_each see ts [] ≡ []
@@ -55,46 +53,36 @@ module _ {M : Type 0} (see : List ℕ → M → M) (fresh : M) (passes : Passes 
 
   -- the record with the first join alone tells nothing
   nulls_seen : (ps : List JoinedToken) (ms : List M) → seen_each see (map (λ _. codes "*") ps) ms ≡ ms
-  nulls_seen [] ms = refl
-  nulls_seen (p ∷ ps) [] = refl
   nulls_seen (p ∷ ps) (m ∷ ms) = let rest = nulls_seen ps ms in rw (passes.null m, rest) refl
+  nulls_seen ps ms = grind (arith, nat_tests)
 
   join_seen : (ps : List JoinedToken) (ms : List M) → seen_each see (join_alone ps) ms ≡ ms
-  join_seen [] ms = refl
-  join_seen (p ∷ ps) [] = seen_none (join_alone (p ∷ ps))
   join_seen (p ∷ ps) (m ∷ ms) = by_bool (goes_on p)
       (λ w. let rest = join_seen ps ms in let same = passes.join p.token m (and_parts (joins p) (not p.begins) w).0 in rw w (rw (same, rest) refl))
       (λ w. rw w (nulls_seen (p ∷ ps) (m ∷ ms)))
+  join_seen ps ms = grind (arith, nat_tests, seen_none)
 
   first_seen : (b : Bool) (n : List ℕ) (ps : List JoinedToken) (ns : List (List ℕ)) (ms : List M) → Formed b n ps ns → seen_each see (first_alone ps) ms ≡ ms
-  first_seen b n [] ns ms f = refl
-  first_seen b n (p ∷ ps) [] ms f = absurd f
-  first_seen b n (p ∷ ps) (o ∷ ns) [] f = seen_none (first_alone (p ∷ ps))
-  first_seen b n (p ∷ ps) (o ∷ ns) (m ∷ ms) f = by_bool p.begins
-      (λ w. let rest = join_seen ps ms in let same = passes.join p.token m (f.0 w).0 in rw w (rw (same, rest) refl))
-      (λ w. let rest = first_seen (joins p) o ps ns ms f.1.1 in rw w (rw (passes.null m, rest) refl))
+  first_seen b n (p ∷ ps) (o ∷ ns) (m ∷ ms) f =
+      grind (arith, nat_tests, first_seen (joins p) o ps ns ms f.1.1, join_seen)
+  first_seen b n ps ns ms h = grind (arith, nat_tests)
 
   -- what is left tells the rest
   rest_seen : (ps : List JoinedToken) (ms : List M)
       → seen_each see (tokens_in (join_done ps)) (rest_merged ps ms) ≡ rest_merged ps (seen_each see (tokens_in ps) ms)
-  rest_seen [] ms = refl
-  rest_seen (p ∷ ps) [] = seen_none (tokens_in (join_done (p ∷ ps)))
   rest_seen (p ∷ ps) (m ∷ ms) = by_bool (goes_on p) (λ w. rw w (rest_seen ps ms)) (λ w. rw w refl)
+  rest_seen ps ms = grind (arith, nat_tests, seen_none)
 
   done_seen : (b : Bool) (n : List ℕ) (ps : List JoinedToken) (ns : List (List ℕ)) (ms : List M) → Formed b n ps ns
       → seen_each see (tokens_in (first_done ps)) (merged ps ms) ≡ merged ps (seen_each see (tokens_in ps) ms)
-  done_seen b n [] ns ms f = refl
-  done_seen b n (p ∷ ps) [] ms f = absurd f
-  done_seen b n (p ∷ ps) (o ∷ ns) [] f = seen_none (tokens_in (first_done (p ∷ ps)))
-  done_seen b n (p ∷ ps) (o ∷ ns) (m ∷ ms) f = by_bool p.begins
-      (λ w. let rest = rest_seen ps ms in let same = passes.join p.token m (f.0 w).0 in rw w (rw (same, passes.null m, rest) refl))
-      (λ w. rw w (ap (λ (xs : List M). see p.token m ∷ xs) (done_seen (joins p) o ps ns ms f.1.1)))
+  done_seen b n (p ∷ ps) (o ∷ ns) (m ∷ ms) f =
+      grind (arith, nat_tests, done_seen (joins p) o ps ns ms f.1.1, rest_seen ps ms)
+  done_seen b n ps ns ms h = grind (arith, nat_tests)
 
   -- one interpretation more
   one_on : (tokens : List (List ℕ)) (records : List (List (List ℕ))) (ms : List M) (k : ℕ) → length tokens ≡ suc k
       → all_on see fresh (tokens ∷ records) ms ≡ all_on see fresh records (seen_on see fresh tokens ms)
-  one_on [] records ms k e = absurd (omega (arith, e))
-  one_on (t ∷ ts) records ms k e = refl
+  one_on = grind (arith, nat_tests)
 
   -- the last one, or the only one
   last_on : (ps : List JoinedToken) (ns : List (List ℕ)) (ms : List M) → Formed false [] ps ns → touches false ps ≡ false → length ms ≡ length ps
@@ -114,17 +102,10 @@ module _ {M : Type 0} (see : List ℕ → M → M) (fresh : M) (passes : Passes 
 
   left_on : (ps : List JoinedToken) (ns : List (List ℕ)) (ms : List M) → Formed false [] ps ns
       → pieces_on see fresh (first_done ps) (merged ps ms) ≡ pieces_on see fresh ps ms
-  left_on ps ns ms f =
-      let seen = seen_each see (tokens_in ps) ms in
-      ap (λ (xs : List M). onward (λ _. fresh) (marks (first_done ps)) (signs_in (first_done ps)) (swapped (signs_in (first_done ps)) xs))
-      (done_seen false [] ps ns ms f)
-      ∙ ap (λ (xs : List M). onward (λ _. fresh) (marks (first_done ps)) (signs_in (first_done ps)) xs) (done_swapped false [] ps ns seen f)
-      ∙ done_onward (λ _. fresh) false [] ps ns (swapped (signs_in ps) seen) f
+  left_on = grind (arith, nat_tests, marks, signs_in, done_seen, done_swapped, done_onward)
 
   by_one : (n : ℕ) (ps : List JoinedToken) (ns : List (List ℕ)) (ms : List M) → Formed false [] ps ns → joins_in ps ≤ suc n → (1 ≤ n → joins_in ps ≡ suc n)
       → length ms ≡ length ps → all_on see fresh (one_by_one n ps) ms ≡ pieces_on see fresh ps ms
-  by_one zero ps ns ms f few exact e = last_on ps ns ms f (one_apart ps ns f few) e
-  by_one (suc n) [] ns ms f few exact e = let none : 0 ≡ suc (suc n) = exact (omega arith) in absurd (omega (arith, none))
   by_one (suc n) (p ∷ ps) ns ms f few exact e =
       let all : joins_in (p ∷ ps) ≡ suc (suc n) = exact (omega arith) in
       let fewer : joins_in (first_done (p ∷ ps)) ≡ suc n = done_joins (p ∷ ps) (suc n) all in
@@ -136,20 +117,9 @@ module _ {M : Type 0} (see : List ℕ → M → M) (fresh : M) (passes : Passes 
       ∙ ap (λ (xs : List M). all_on see fresh (one_by_one n (first_done (p ∷ ps))) xs) (first_on (p ∷ ps) ns ms f e)
       ∙ by_one n (first_done (p ∷ ps)) (merged (p ∷ ps) ns) (merged (p ∷ ps) ms) done (omega (arith, fewer)) (λ k. fewer) (omega (arith, size, same))
       ∙ left_on (p ∷ ps) ns ms f
+  by_one n ps ns ms h k w e = grind (arith, nat_tests, last_on, one_apart)
 
   -- The spread rule: what is remembered goes on as if the pieces stood in one record.
   pub spread_on : (ps : List JoinedToken) (ns : List (List ℕ)) (ms : List M) → Formed false [] ps ns → length ms ≡ length ps
       → all_on see fresh (spread ps) ms ≡ pieces_on see fresh ps ms
-  spread_on ps ns ms f e = by_test (touches false ps) refl
-    where
-      before : (k : ℕ) → 2 ≤ k → k ≡ suc (before_last k)
-      before zero h = absurd (omega (arith, h))
-      before (suc k) h = refl
-
-      by_test : (t : Bool) → touches false ps ≡ t
-          → all_on see fresh (cond t (one_by_one (before_last (joins_in ps)) ps) (tokens_in ps ∷ [])) ms ≡ pieces_on see fresh ps ms
-      by_test false t = last_on ps ns ms f t e
-      by_test true t =
-          let two = touching_joins false [] ps ns f t in
-          let all = before (joins_in ps) two in
-          by_one (before_last (joins_in ps)) ps ns ms f (omega (arith, all)) (λ k. all) e
+  spread_on = grind (arith, nat_tests, last_on, touching_joins, by_one)

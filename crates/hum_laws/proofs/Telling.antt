@@ -1,5 +1,6 @@
 -- What a command on notes wrote no command on notes changes.
-use Rattle.std.proofs.Common.{◌≡◌, refl, ℕ, false, List}
+use Rattle.std.proofs.lemmas.Bool.Decides.{nat_tests}
+use Rattle.std.proofs.Common.{◌≡◌, refl, ℕ, false, List, arith}
 use lib.Chars.{codes}
 use Rattle.hum_score.specs.Row.{Row}
 use Rattle.hum_words.specs.declared.commands.Command.{Command}
@@ -36,10 +37,7 @@ naming stage _ h = absurd h
 
 -- it makes scores of scores
 pub makes_scores : (options : CommandOptions) → NamesColumns options → MakesScores options
-makes_scores (Semits options) h = refl
-makes_scores (Mint options) h = refl
-makes_scores (Recip options) h = refl
-makes_scores _ h = absurd h
+makes_scores = grind (arith, nat_tests)
 
 record Telling (stage : ℕ) (options : CommandOptions) : Type 0 where
   command : Command

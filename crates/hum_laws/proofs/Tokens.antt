@@ -1,7 +1,7 @@
 -- Tokens that are transposed and then told anew.
-use Rattle.std.proofs.Common.{◌≡◌, refl, sym, ap, ◌∙◌, ℕ, zero, suc, ℤ, pos, negsuc, ◌-ℤ◌, ◌==◌, ◌<◌, true}
-use Rattle.std.proofs.Common.{false, List, [], ◌∷◌, ◌++◌, take, drop, arith, Option, Some, subst}
-use Rattle.std.specs.Prelude.{Result, Ok, Err, replicate, slice_index, not}
+use Rattle.std.proofs.Common.{◌≡◌, refl, sym, ap, ◌∙◌, ℕ, zero, suc, ℤ, pos, ◌-ℤ◌, ◌==◌, ◌<◌, true}
+use Rattle.std.proofs.Common.{false, List, [], ◌∷◌, ◌++◌, drop, arith, Option, Some, subst}
+use Rattle.std.specs.Prelude.{Result, Ok, Err, not}
 use Rattle.std.specs.List.{onto_first, join_with_byte}
 use Rattle.std.proofs.lemmas.List.Splits.{join_with_byte-slice_split}
 use Rattle.std.proofs.lemmas.Bool.{or_parts, and_parts, and_from}
@@ -11,13 +11,13 @@ use lib.Chars.{codes}
 use Rattle.hum_record.specs.Contents.{is_null, is_barline}
 use Rattle.hum_score.proofs.Cases.{by_bool}
 use Rattle.hum_score.specs.Spelling.{has_byte}
-use Rattle.hum_pitch.specs.Spelling.{small_letters, capitals, letters, accidentals, spelling}
+use Rattle.hum_pitch.specs.Spelling.{letters, accidentals, spelling}
 use Rattle.hum_stage.specs.declared.faults.Rule.{Rule}
 use Rattle.hum_cells.specs.Rewriting.{has_content}
 use Rattle.hum_tones.specs.Subtokens.{given_by, joined, if_given, subtokens, rewritten}
 use Rattle.hum_tones.specs.Trans.{moved, transposed_part, transposed}
-use Rattle.hum_tones.proofs.Parts.{Lack, onto_lacks}
-use Rattle.hum_tones.proofs.MovedLawful.{small_over, capital_over, Becomes, Stays, Moves, becomes, AllMoved, all_moved, each_becomes, texts_lack, parts_some}
+use Rattle.hum_tones.proofs.Parts.{Lack}
+use Rattle.hum_tones.proofs.MovedLawful.{Becomes, Stays, Moves, becomes, AllMoved, all_moved, each_becomes, texts_lack, parts_some}
 use Rattle.hum_laws.proofs.Marks.{Agree}
 
 -- a text that begins with a pitch
@@ -28,27 +28,12 @@ record BeginsOver (text : List ℕ) : Type 0 where
   over : 64 < first
 
 letters_begin : (step : ℕ) (o : ℤ) (ys more : List ℕ) → step < 7 → BeginsOver ((letters step o ++ ys) ++ more)
-letters_begin step (pos k) ys more h = record {
-  first = slice_index small_letters step;
-  more =
-      (replicate k (slice_index small_letters step) ++ ys) ++ more;
-  is = refl;
-  over = small_over step h;
-}
-letters_begin step (negsuc k) ys more h = record {
-  first = slice_index capitals step;
-  more =
-      (replicate k (slice_index capitals step) ++ ys) ++ more;
-  is = refl;
-  over = capital_over step h;
-}
+letters_begin = grind (arith, nat_tests)
 
 -- no part has a space
 parts_lack : (text : List ℕ) → Lack 32 (subtokens text)
 parts_lack [] = (refl, tt)
-parts_lack (x ∷ xs) =
-    let rest = parts_lack xs in
-    by_bool (x == 32) (λ w. rw w (refl, rest)) (λ w. rw w (onto_lacks 32 x (subtokens xs) w rest))
+parts_lack (x ∷ xs) = grind (arith, nat_tests, parts_lack xs)
 
 -- texts that are joined by spaces are cut again
 cut_last : (t : List ℕ) → has_byte 32 t ≡ false → subtokens t ≡ t ∷ []
@@ -70,30 +55,15 @@ Alike n m second both = (part text : List ℕ) → transposed_part n m part ≡ 
 given_alike : (n m : ℤ) (second both : List ℕ → Result (Option (List ℕ)) Rule) → Alike n m second both →
     (parts texts : List (List ℕ)) → AllMoved n m parts texts
     → given_by both parts ≡ given_by second texts
-given_alike n m second both h [] [] moved = refl
-given_alike n m second both h [] (text ∷ texts) moved = absurd moved
-given_alike n m second both h (part ∷ parts) [] moved = absurd moved
 given_alike n m second both h (part ∷ parts) (text ∷ texts) moved = rw (h part text moved.0, given_alike n m second both h parts texts moved.1) refl
+given_alike n m second both h parts texts k = grind (arith, nat_tests)
 
 -- a text has the first byte that it had, or begins with a pitch
 front_is : (part text : List ℕ) (x : ℕ) (more : List ℕ) → Becomes part text → text ≡ x ∷ more → x < 65 → (rest : List ℕ) × (part ≡ x ∷ rest)
 front_is part text x more (Stays e) is low = (more, sym e ∙ is)
-front_is part text x more (Moves zero end there small e) is low =
-    absurd (far (letters_begin there.step (there.octave -ℤ pos 4) (accidentals there.alteration) (drop end part)
-    small))
-  where
-    far : BeginsOver (spelling there ++ drop end part) → ⊥
-    far h = let same : h.first ∷ h.more ≡ x ∷ more = sym h.is ∙ (sym e ∙ is) in let first : h.first ≡ x = cc in let over = h.over in omega (arith, first, over)
-front_is [] text x more (Moves (suc n) end there small e) is low =
-    absurd (far (letters_begin there.step (there.octave -ℤ pos 4) (accidentals there.alteration) (drop end [])
-    small))
-  where
-    far : BeginsOver (spelling there ++ drop end []) → ⊥
-    far h = let same : h.first ∷ h.more ≡ x ∷ more = sym h.is ∙ (sym e ∙ is) in let first : h.first ≡ x = cc in let over = h.over in omega (arith, first, over)
-front_is (y ∷ part) text x more (Moves (suc n) end there small e) is low =
-    let same : y ∷ (take n part ++ (spelling there ++ drop end (y ∷ part))) ≡ x ∷ more = sym e ∙ is in
-    let first : y ≡ x = cc in
-    (part, ap (λ (z : ℕ). z ∷ part) first)
+front_is part text x more (Moves zero end there small e) is low = grind (arith, nat_tests)
+front_is [] text x more (Moves (suc n) end there small e) is low = grind (arith, nat_tests)
+front_is (y ∷ part) text x more (Moves (suc n) end there small e) is low = grind (arith, nat_tests)
 
 some_behind : (xs ys more : List ℕ) (y : ℕ) → ys ≡ y ∷ more → xs ++ ys ≡ [] → ⊥
 some_behind [] ys more y is e = let none : y ∷ more ≡ [] = sym is ∙ e in cc
@@ -102,26 +72,14 @@ some_behind (x ∷ xs) ys more y is e = cc
 -- only a null part becomes null
 dot_is : (part text : List ℕ) → Becomes part text → text ≡ 46 ∷ [] → part ≡ 46 ∷ []
 dot_is part text (Stays e) is = sym e ∙ is
-dot_is part text (Moves zero end there small e) is = absurd
-    (far (letters_begin there.step (there.octave -ℤ pos 4) (accidentals there.alteration) (drop end part)
-    small))
-  where
-    far : BeginsOver (spelling there ++ drop end part) → ⊥
-    far h = let same : h.first ∷ h.more ≡ 46 ∷ [] = sym h.is ∙ (sym e ∙ is) in let first : h.first ≡ 46 = cc in let over = h.over in omega (arith, first, over)
-dot_is [] text (Moves (suc n) end there small e) is = absurd
-    (far (letters_begin there.step (there.octave -ℤ pos 4) (accidentals there.alteration) (drop end []) small))
-  where
-    far : BeginsOver (spelling there ++ drop end []) → ⊥
-    far h = let same : h.first ∷ h.more ≡ 46 ∷ [] = sym h.is ∙ (sym e ∙ is) in let first : h.first ≡ 46 = cc in let over = h.over in omega (arith, first, over)
+dot_is part text (Moves zero end there small e) is = grind (arith, nat_tests)
+dot_is [] text (Moves (suc n) end there small e) is = grind (arith, nat_tests)
 dot_is (y ∷ part) text (Moves (suc n) end there small e) is = absurd
     (far (letters_begin there.step (there.octave -ℤ pos 4) (accidentals there.alteration) (drop end (y ∷ part))
     small))
   where
     far : BeginsOver (spelling there ++ drop end (y ∷ part)) → ⊥
-    far h =
-        let same : y ∷ (take n part ++ (spelling there ++ drop end (y ∷ part))) ≡ 46 ∷ [] = sym e ∙ is in
-        let none : take n part ++ (spelling there ++ drop end (y ∷ part)) ≡ [] = cc in
-        some_behind (take n part) (spelling there ++ drop end (y ∷ part)) h.more h.first h.is none
+    far = grind (arith, nat_tests)
 
 -- the first byte of a joined token, and of a token that is cut
 joined_front : (text : List ℕ) (texts : List (List ℕ)) (x : ℕ) (more : List ℕ) → joined (text ∷ texts) ≡ x ∷ more → 32 < x → (rest : List ℕ) × (text ≡ x ∷ rest)
@@ -143,8 +101,7 @@ cut_front (y ∷ token) part parts x more e is = by_bool (y == 32) (λ w. at_spa
         let same : y ≡ x = cc in (token, ap (λ (z : ℕ). z ∷ token) same)
 
 barline_head : (text : List ℕ) → is_barline text ≡ true → (more : List ℕ) × (text ≡ 61 ∷ more)
-barline_head [] h = cc
-barline_head (x ∷ text) h = let is : x ≡ 61 = grind (arith, nat_tests, h) in (text, ap (λ (z : ℕ). z ∷ text) is)
+barline_head = grind (arith, nat_tests)
 
 dot_alone : (token : List ℕ) → subtokens token ≡ (46 ∷ []) ∷ [] → token ≡ 46 ∷ []
 dot_alone token e = sym (join_with_byte-slice_split 32 token) ∙ ap (join_with_byte 32) e
@@ -179,11 +136,7 @@ stays_told n m token (part ∷ parts) (text ∷ texts) cut moved told =
         alone [] rest is = single parts cut rest (dot_is part text moves (sym is))
           where
             single : (parts : List (List ℕ)) → subtokens token ≡ part ∷ parts → AllMoved n m parts [] → part ≡ 46 ∷ [] → ⊥
-            single [] cut rest same =
-                let dot = dot_alone token (cut ∙ ap (λ (x : List ℕ). x ∷ []) same) in
-                let no : false ≡ true = rw dot at apart in
-                cc
-            single (other ∷ parts) cut rest same = absurd rest
+            single = grind (arith, nat_tests, dot_alone)
         alone (next ∷ others) rest is =
             let two = joined_front text (next ∷ others) 46 [] (sym is) (omega arith) in
             let whole : 46 ∷ [] ≡ (46 ∷ two.0) ++ 32 ∷ join_with_byte 32 (next ∷ others) = is

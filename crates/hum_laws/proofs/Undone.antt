@@ -1,26 +1,25 @@
 -- A transposition is undone by the opposite one.
-use Rattle.std.proofs.Common.{◌≡◌, refl, sym, ap, ◌∙◌, ℕ, ◌+◌, ◌<◌, ◌≤◌, ℤ, pos, negsuc, ◌+ℤ◌, Bool, true}
-use Rattle.std.proofs.Common.{false, List, [], ◌∷◌, ◌++◌, append_assoc, length, length-append, take, drop}
-use Rattle.std.proofs.Common.{arith, Option, None, Some, subst, ◌==◌}
+use Rattle.std.proofs.lemmas.Grind.{common_steps}
+use Rattle.std.proofs.Common.{◌≡◌, refl, sym, ap, ◌∙◌, ℕ, ◌+◌, ◌<◌, ℤ, pos, ◌+ℤ◌, Bool, true}
+use Rattle.std.proofs.Common.{List, ◌++◌, append_assoc, length, length-append, take, drop}
+use Rattle.std.proofs.Common.{arith, Option, None, Some, subst}
 use Rattle.std.specs.Prelude.{Result, Ok, Err, neg_ℤ, not, if◌then◌else◌}
-use Rattle.std.specs.List.{position}
 use Rattle.std.proofs.lemmas.Int.{ints}
 use Rattle.std.proofs.lemmas.Bool.Decides.{nat_tests}
-use Rattle.std.proofs.lemmas.List.Quantifiers.{position-Some}
-use Rattle.std.proofs.Math.Seq.{take-append_seam, drop-append_seam}
+use Rattle.std.proofs.Math.Seq.{drop-append_seam}
 use Rattle.hum_pitch.specs.Pitch.{Spelled, IsPitch, IsOctave, IsAlteration, IsAway, away, semitones}
-use Rattle.hum_pitch.specs.Spelling.{spelling, small_letters, capitals, read_small, read_capitals, altered_by}
+use Rattle.hum_pitch.specs.Spelling.{spelling}
 use Rattle.hum_pitch.proofs.Steps.{away_is, away_only}
 use Rattle.hum_kern.specs.declared.KernFault.{KernFault}
-use Rattle.hum_kern.specs.Note.{Notation, Reading, note, notation_of, pitch_of, alteration_of}
+use Rattle.hum_kern.specs.Note.{Notation, Reading, note, notation_of, pitch_of}
 use Rattle.hum_kern.proofs.Found.{IsFound, found_in, before_is, placed_there}
 use Rattle.hum_stage.specs.declared.faults.Rule.{Rule}
 use Rattle.hum_stage.specs.declared.faults.Rule.TheVariants.{TR1, TR2}
 use Rattle.std.specs.Prelude.{◌&&◌}
 use Rattle.std.specs.Fmt.{signed_decimal}
 use lib.Chars.{codes}
-use Rattle.hum_tones.specs.Semits.{semits_of, by_reading, of_pitch}
-use Rattle.hum_laws.specs.Shifting.{semits_higher, higher_by, higher_reading, higher_pitch}
+use Rattle.hum_tones.specs.Semits.{semits_of, by_reading}
+use Rattle.hum_laws.specs.Shifting.{semits_higher, higher_reading, higher_pitch}
 use Rattle.hum_tones.specs.Trans.{is_alteration, is_octave, if_spelled, put, moved, moved_as_read, transposed_part}
 
 -- the opposite way leads back
@@ -35,39 +34,19 @@ stay p small = sym (away_only (pos 0) (pos 0) p p (record { step = small; steps 
 
 -- what is read has one of seven steps
 step_in : (letters signs : List ℕ) (p : Spelled) → pitch_of letters signs ≡ Some p → p.step < 7
-step_in [] signs p e = cc
-step_in (b ∷ letters) signs p e = small (position (λ x. x == b) small_letters) refl e
-  where
-    large : (o : Option ℕ) → position (λ x. x == b) capitals ≡ o →
-        altered_by (read_capitals (length (b ∷ letters)) o) (Some (alteration_of signs)) ≡ Some p → p.step < 7
-    large None f e = cc
-    large (Some k) f e = let is : k ≡ p.step = cc in subst (λ (s : ℕ). s < 7) is (position-Some (λ x. x == b) capitals k 0 f).0
-
-    small : (o : Option ℕ) → position (λ x. x == b) small_letters ≡ o →
-        altered_by (read_small b (length (b ∷ letters)) o) (Some (alteration_of signs)) ≡ Some p → p.step < 7
-    small None f e = large (position (λ x. x == b) capitals) refl e
-    small (Some k) f e = let is : k ≡ p.step = cc in subst (λ (s : ℕ). s < 7) is (position-Some (λ x. x == b) small_letters k 0 f).0
+step_in = grind (arith, nat_tests)
 
 pub alteration_within : (a : ℤ) → is_alteration a ≡ true → IsAlteration a
-alteration_within (pos k) h = let b : k ≤ 7 = grind (arith, nat_tests, h) in (omega (arith, ints), omega (arith, ints))
-alteration_within (negsuc k) h = let b : k ≤ 6 = grind (arith, nat_tests, h) in (omega (arith, ints), omega (arith, ints))
+alteration_within = grind (arith, nat_tests)
 
 pub octave_within : (o : ℤ) → is_octave o ≡ true → IsOctave o
-octave_within (pos k) h = let b : k ≤ 11 = grind (arith, nat_tests, h) in (omega (arith, ints), omega (arith, ints))
-octave_within (negsuc k) h = let b : k ≤ 3 = grind (arith, nat_tests, h) in (omega (arith, ints), omega (arith, ints))
+octave_within = grind (arith, nat_tests)
 
 -- the text before and behind a pitch that was put there
 front_there : (bytes : List ℕ) (found : Reading) (p : Spelled) → IsFound bytes (notation_of bytes) found p →
     (xs : List ℕ) → take found.start (take found.start bytes ++ (xs ++ drop found.end bytes)) ≡ take found.start
     bytes
-front_there bytes found p h xs =
-    let parts : Notation = notation_of bytes in
-    let start : found.start ≡ length parts.before = ap (λ (r : Reading). r.start) h.is in
-    let front : take found.start bytes ≡ parts.before = ap (λ (n : ℕ). take n bytes) start ∙ before_is bytes parts h.are in
-    ap (λ (ys : List ℕ). take found.start (ys ++ (xs ++ drop found.end bytes))) front
-    ∙ ap (λ (n : ℕ). take n (parts.before ++ (xs ++ drop found.end bytes))) start
-    ∙ take-append_seam parts.before (xs ++ drop found.end bytes)
-    ∙ sym front
+front_there = grind (arith, common_steps)
 
 rest_there : (bytes : List ℕ) (found : Reading) (p : Spelled) → IsFound bytes (notation_of bytes) found p →
     (xs : List ℕ) → drop (found.start + length xs)
@@ -129,9 +108,7 @@ undone_there n m part text found p read there q is e = go (is_alteration q.alter
     go : (a : Bool) → is_alteration q.alteration ≡ a → (b : Bool) → is_octave q.octave ≡ b →
         put part found (if not a then Err TR1 else if not b then Err TR2 else Ok q) ≡ Ok (Some text) →
         transposed_part (neg_ℤ n) (neg_ℤ m) text ≡ put part found (if_spelled (away (pos 0) (pos 0) p))
-    go false f b g e = cc
-    go true f false g e = cc
-    go true f true g e = made (step_of, octave_within q.octave g, alteration_within q.alteration f) cc
+    go = grind (arith, nat_tests, made, step_of, octave_within, alteration_within)
 
 -- A transposition is undone by the opposite one.
 pub undone : (n m : ℤ) (part text : List ℕ) → transposed_part n m part ≡ Ok (Some text) →
@@ -141,17 +118,12 @@ undone n m part text e = go (note part) refl e
     there : (found : Reading) → note part ≡ Ok found → (o : Option Spelled) → found.pitch ≡ o →
         moved n m part found o ≡ Ok (Some text) → transposed_part (neg_ℤ n) (neg_ℤ m) text ≡ moved (pos 0)
         (pos 0) part found o
-    there found read None is e =
-        let same : part ≡ text = cc in
-        ap (transposed_part (neg_ℤ n) (neg_ℤ m)) (sym same)
-        ∙ ap (moved_as_read (neg_ℤ n) (neg_ℤ m) part) read
-        ∙ ap (moved (neg_ℤ n) (neg_ℤ m) part found) is
+    there found read None is e = grind (arith, nat_tests)
     there found read (Some p) is e = undone_there n m part text found p (sym read) is (away n m p) refl e
 
     go : (r : Result Reading KernFault) → note part ≡ r → moved_as_read n m part r ≡ Ok (Some text) →
         transposed_part (neg_ℤ n) (neg_ℤ m) text ≡ transposed_part (pos 0) (pos 0) part
-    go (Ok found) read e = there found read found.pitch refl e ∙ sym (ap (moved_as_read (pos 0) (pos 0) part) read)
-    go (Err fault) read e = cc
+    go = grind (arith, nat_tests, there, pos)
 
 shifted_there : (ties : Bool) (n m : ℤ) (part text : List ℕ) (found : Reading) (p : Spelled) →
     Ok found ≡ note part → found.pitch ≡ Some p → (q : Spelled) → q ≡ away n m p
@@ -176,25 +148,18 @@ shifted_there ties n m part text found p read there q is e = go (is_alteration q
     go : (a : Bool) → is_alteration q.alteration ≡ a → (b : Bool) → is_octave q.octave ≡ b →
         put part found (if not a then Err TR1 else if not b then Err TR2 else Ok q) ≡ Ok (Some text) →
         semits_of ties text ≡ Ok (higher_reading m ties found)
-    go false f b g e = cc
-    go true f false g e = cc
-    go true f true g e = made (step_of, octave_within q.octave g, alteration_within q.alteration f) cc
+    go = grind (arith, nat_tests, made, step_of, octave_within, alteration_within)
 
 pub shifted : (ties : Bool) (n m : ℤ) (part text : List ℕ) → transposed_part n m part ≡ Ok (Some text) → semits_of ties text ≡ semits_higher m ties part
 shifted ties n m part text e = go (note part) refl e
   where
     there : (found : Reading) → note part ≡ Ok found → (o : Option Spelled) → found.pitch ≡ o →
         moved n m part found o ≡ Ok (Some text) → semits_of ties text ≡ Ok (higher_reading m ties found)
-    there found read None is e =
-        let same : part ≡ text = cc in
-        ap (semits_of ties) (sym same) ∙ ap (by_reading ties) read
-        ∙ ap (λ (o : Option Spelled). Ok (if found.rest then Some (codes "r") else of_pitch (ties && found.continued) o)) is
-        ∙ ap (λ (o : Option Spelled). Ok (if found.rest then Some (codes "r") else higher_pitch m (ties && found.continued) o)) (sym is)
+    there found read None is e = grind (arith, nat_tests)
     there found read (Some p) is e = shifted_there ties n m part text found p (sym read) is (away n m p) refl e
 
     go : (r : Result Reading KernFault) → note part ≡ r → moved_as_read n m part r ≡ Ok (Some text) → semits_of ties text ≡ semits_higher m ties part
-    go (Ok found) read e = there found read found.pitch refl e ∙ sym (ap (higher_by m ties) read)
-    go (Err fault) read e = cc
+    go = grind (arith, nat_tests, there)
 
 -- two ways, one after the other
 both_ways : (n m k l : ℤ) (p q r : Spelled) → IsAway n m p q → IsAway k l q r → IsAway (n +ℤ k) (m +ℤ l) p r
@@ -231,9 +196,7 @@ added_there n m k l part text found p read there q is e = go (is_alteration q.al
     go : (a : Bool) → is_alteration q.alteration ≡ a → (b : Bool) → is_octave q.octave ≡ b →
         put part found (if not a then Err TR1 else if not b then Err TR2 else Ok q) ≡ Ok (Some text) →
         transposed_part k l text ≡ put part found (if_spelled (away (n +ℤ k) (m +ℤ l) p))
-    go false f b g e = cc
-    go true f false g e = cc
-    go true f true g e = made (step_of, octave_within q.octave g, alteration_within q.alteration f) cc
+    go = grind (arith, nat_tests, made, step_of, octave_within, alteration_within)
 
 -- Two transpositions are one by both together.
 pub added : (n m k l : ℤ) (part text : List ℕ) → transposed_part n m part ≡ Ok (Some text) → transposed_part k l text ≡ transposed_part (n +ℤ k) (m +ℤ l) part
@@ -242,12 +205,9 @@ added n m k l part text e = go (note part) refl e
     there : (found : Reading) → note part ≡ Ok found → (o : Option Spelled) → found.pitch ≡ o →
         moved n m part found o ≡ Ok (Some text) → transposed_part k l text ≡ moved (n +ℤ k) (m +ℤ l) part found
         o
-    there found read None is e =
-        let same : part ≡ text = cc in
-        ap (transposed_part k l) (sym same) ∙ ap (moved_as_read k l part) read ∙ ap (moved k l part found) is
+    there found read None is e = grind (arith, nat_tests)
     there found read (Some p) is e = added_there n m k l part text found p (sym read) is (away n m p) refl e
 
     go : (r : Result Reading KernFault) → note part ≡ r → moved_as_read n m part r ≡ Ok (Some text) →
         transposed_part k l text ≡ transposed_part (n +ℤ k) (m +ℤ l) part
-    go (Ok found) read e = there found read found.pitch refl e ∙ sym (ap (moved_as_read (n +ℤ k) (m +ℤ l) part) read)
-    go (Err fault) read e = cc
+    go = grind (arith, nat_tests, there)

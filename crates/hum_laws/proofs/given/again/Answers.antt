@@ -1,16 +1,14 @@
-use Rattle.std.proofs.Common.{◌∙◌}
+use Rattle.std.proofs.lemmas.Bool.Decides.{nat_tests}
+use Rattle.std.proofs.Common.{◌∙◌, arith}
 use Rattle.std.proofs.lemmas.Result.{err_from_is_err_and}
 use Rattle.hum_laws.proofs.given.again.Goals as goal
 
 pub alone-requires : goal.alone-requires
-alone-requires g c =
-    let first = c.requires.first in
-    record { fresh = (first.meaning, first.stand) }
+alone-requires = grind (arith, nat_tests)
 
 pub returns-in_err-once : goal.returns-in_err-once
 returns-in_err-once g c =
-    let p = err_from_is_err_and c.from_residual.result c.from_residual.ensures.1 in
-    rw p.1 tt
+    grind (arith, nat_tests, err_from_is_err_and c.from_residual.result c.from_residual.ensures.1)
 
 pub returns-in_err-copied : goal.returns-in_err-copied
 returns-in_err-copied g c =
