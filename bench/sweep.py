@@ -660,6 +660,7 @@ def sweep(crate):
     files = read_from(folder, [str(it.relative_to(folder / 'proofs')) for it in sorted((folder / 'proofs').glob('**/*.antt')) if is_swept(it)])
     swept = {CRATES / crate / 'proofs' / file for file in files}
     others = [path.read_text() for path in CRATES.glob('*/**/*') if path.suffix in ('.antt', '.rt') and 'out' not in path.parts and path not in swept]
+    scratch.check()
     holds, before = measured(scratch, files)
     if not holds:
         sys.exit(f'{crate}: not proved before, see {scratch.log}')
