@@ -5,14 +5,13 @@ use Rattle.std.proofs.Common.{Option, Some, None, append_assoc, append-nil}
 use Rattle.std.specs.Prelude.{is_some}
 use Rattle.std.proofs.lemmas.Bool.Decides.{nat_tests}
 use Rattle.std.proofs.lemmas.List.{length-map, length-take}
-use Rattle.hum_score.specs.Spines.{Unopened}
 use Rattle.hum_score.specs.InOrder.{IsClosed}
 use Rattle.hum_text.specs.declared.Limits.{Limits}
 use Rattle.hum_text.specs.declared.TextFault.{TextFault}
 use Rattle.hum_text.specs.declared.TextFault.TheVariants as text
 use Rattle.hum_text.specs.Text.{pieces, lines, without_cr, ends_in_lf, rule_at, rule_at_end, fault_after, fault_of}
 use Rattle.hum_text.proofs.PieceLemmas.{pieces-none}
-use Rattle.hum_read.specs.Denoted.{standard, up_to, score_of, text_rule}
+use Rattle.hum_read.specs.Denoted.{up_to, score_of, text_rule}
 use Rattle.hum_read.proofs.Denoting.{score-of}
 use Rattle.hum_nodes.specs.Settled.{fault_within}
 use Rattle.hum_nodes.proofs.Pieces.{one_piece}
@@ -43,9 +42,7 @@ text_named l q m f h = elim (faulty l [] q m f h) [
 ]
 
 pub closed_whole : (all : List ℕ) → (score_of all).fault ≡ None → IsClosed (score_of all).rows
-closed_whole all h =
-    let broken = fault_of standard all in
-    (score-of all, denoted_closed Unopened 0 (up_to broken (lines all)) broken (text_named standard all) h)
+closed_whole all h = grind (arith, nat_tests, score-of, denoted_closed, text_named)
 
 -- No more lines are read than a score may have.
 
@@ -79,6 +76,4 @@ few_lines l q (Some (m, f)) h =
     ]
 
 pub few_rows : (all : List ℕ) → length (score_of all).rows ≤ 4294967295
-few_rows all =
-    let broken = fault_of standard all in
-    omega (arith, row_a_line Unopened 0 (up_to broken (lines all)) broken, few_lines standard all broken refl)
+few_rows = grind (arith, nat_tests, row_a_line, few_lines)

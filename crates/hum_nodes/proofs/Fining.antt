@@ -1,6 +1,6 @@
 -- What may lie on a link, in the words of scores and as a test.
-use Rattle.std.proofs.Common.{◌≡◌, refl, sym, subst, ℕ, ◌≤◌, true, List, [], ◌∷◌, length, Some, arith, leb-true, le-leb}
-use Rattle.std.specs.Prelude.{nat_le}
+use Rattle.std.proofs.lemmas.Bool.Decides.{nat_tests}
+use Rattle.std.proofs.Common.{◌≡◌, refl, sym, subst, ℕ, ◌≤◌, true, List, [], ◌∷◌, length, arith, leb-true, le-leb}
 use Rattle.std.proofs.lemmas.Bool.{and_parts, and_from}
 use Rattle.std.proofs.lemmas.Option.{none-some, same_Some}
 use Rattle.hum_score.specs.Row.{Row}
@@ -22,26 +22,13 @@ is_follows path [] h = refl
 is_follows path (row ∷ rows) h = grind (arith, is_follows (after path row) rows, h)
 
 pub fine_is : (most : ℕ) (f : Flow Row) → is_fine most f ≡ true → IsFine most f
-fine_is most f h =
-    let p = and_parts (nat_le (length f.items) most) _ h in
-    let q = and_parts (follows Unopened f.items) _ p.1 in
-    let score = follows_is Unopened f.items q.0 in
-    record {
-      score = score;
-      closed = λ e. (score, grind (arith, q.1, e));
-      few = leb-true _ _ p.0;
-    }
+fine_is = grind (arith, nat_tests, and_parts, follows_is, leb-true)
 
 pub is_fine_by : (most : ℕ) (f : Flow Row) → IsFine most f → is_fine most f ≡ true
-is_fine_by most f h =
-    and_from _ _ (le-leb _ _ h.few)
-    (and_from _ _ (is_follows Unopened f.items h.score) (grind (arith, λ (e : f.end ≡ Some Closed). (h.closed e).1)))
+is_fine_by = grind (arith, nat_tests, and_from, le-leb, is_follows)
 
 pub are_fine : AreFine
-are_fine = record {
-  sound = fine_is 4294967295;
-  complete = is_fine_by 4294967295;
-}
+are_fine = grind (arith, nat_tests, fine_is, is_fine_by)
 
 -- So a stage of scores keeps to that.
 pub keeps_by : {stage : Stage Row}

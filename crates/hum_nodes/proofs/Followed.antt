@@ -1,39 +1,21 @@
 -- What sources have read, poll by poll.
-use Rattle.std.proofs.Common.{◌≡◌, ◌∙◌, Bool, true, List, [], ◌++◌, Option, None, Some, refl, sym, ap, ◌⊎◌, inl, inr, ℕ}
-use Rattle.std.proofs.Common.{append_assoc}
-use Rattle.std.proofs.lemmas.Option.{none-some, same_Some}
+use Rattle.std.proofs.lemmas.Bool.Decides.{nat_tests}
+use Rattle.std.proofs.Common.{◌≡◌, ◌∙◌, Bool, true, List, [], ◌++◌, Option, sym, ap, ◌⊎◌, inl, inr, ℕ}
+use Rattle.std.proofs.Common.{append_assoc, arith}
 use Rattle.std.specs.Io.KnownBytes.{Consumes, IsAtEnd}
-use Rattle.hum_nodes.specs.Polls.{HasStayed, IsFront, HasRead}
-
-told : (was is : Bool) (old new : Option (List ℕ)) (read all : List ℕ) → Consumes old new read
-    → (is ≡ true → (was ≡ true) ⊎ IsAtEnd new) → old ≡ Some all → IsFront was is new read all
-told was is None new read all c end e = absurd (none-some all e)
-told was is (Some xs) None read all c end e = absurd c
-told was is (Some xs) (Some ys) read all c end e = record {
-  rest = ys;
-  tells = refl;
-  split = sym (same_Some xs all e) ∙ c;
-  over = end;
-}
+use Rattle.hum_nodes.specs.Polls.{HasStayed, HasRead}
 
 pub read_once : (was is : Bool) (old new : Option (List ℕ)) (read : List ℕ) → Consumes old new read
     → (is ≡ true → (was ≡ true) ⊎ IsAtEnd new)
     → (was ≡ true → (read ≡ []) × (is ≡ true)) → HasRead was is old new read
-read_once was is old new read c end still = record {
-  front = λ all e. told was is old new read all c end e;
-  still = still;
-}
+read_once = grind (arith, nat_tests)
 
 pub read_none : (was : Bool) (old : Option (List ℕ)) → HasRead was was old old []
-read_none was old = record {
-  front = λ all e. record { rest = all; tells = e; split = refl; over = λ w. inl w };
-  still = λ w. (refl, w);
-}
+read_none = grind (arith, nat_tests)
 
 pub read_stayed : (was is : Bool) (old new : Option (List ℕ)) → HasStayed was is old new
     → HasRead was is old new []
-read_stayed was is old new h =
-    read_once was is old new [] h.consumes h.at_end (λ w. (refl, h.still w))
+read_stayed = grind (arith, nat_tests)
 
 pub read_more : (a b c : Bool) (x y z : Option (List ℕ)) (r s : List ℕ) → HasRead a b x y r
     → HasRead b c y z s → HasRead a c x z (r ++ s)

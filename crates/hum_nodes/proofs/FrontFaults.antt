@@ -1,4 +1,6 @@
 -- The faults that stand in a front, and those of what it goes on to.
+use Rattle.std.proofs.lemmas.Grind.{common_steps}
+use Rattle.std.proofs.lemmas.Bool.Decides.{nat_tests}
 use Rattle.std.proofs.Common.{◌≡◌, ◌∙◌, refl, sym, ap, ℕ, suc, ◌+◌, ◌≤◌, ◌<◌, List, [], ◌∷◌, ◌++◌, length, take, arith}
 use Rattle.std.proofs.Common.{append_assoc, append-nil, length-append, Option, Some, None}
 use Rattle.std.specs.Option.{option_or}
@@ -19,14 +21,7 @@ front_by : (l : Limits) (F : List ℕ → List ℕ → Option (ℕ × TextFault)
     → (before p q : List ℕ) → F before (p ++ q) ≡ option_or (fault_within l before p) (F (before ++ p) q)
 unfolding fault_within
 front_by l F next before [] q = rw append-nil refl
-front_by l F next before (b ∷ p) q =
-    let n = length (pieces (before ++ b ∷ [])) in
-    next before b (p ++ q) ∙ (elim (rule_at l (before ++ b ∷ []))
-    as (λ (o : Option TextFault). or_later o n (F (before ++ b ∷ []) (p ++ q))
-    ≡ option_or (or_later o n (fault_within l (before ++ b ∷ []) p)) (F (before ++ b ∷ p) q)) [
-      | None ↦ front_by l F next (before ++ b ∷ []) p q ∙ rw append_assoc refl
-      | Some f ↦ refl
-    ])
+front_by l F next before (b ∷ p) q = grind (arith, common_steps, front_by l F next (before ++ b ∷ []) p q)
 
 pub after_front : (l : Limits) (before p q : List ℕ)
     → fault_after l before (p ++ q) ≡ option_or (fault_within l before p) (fault_after l (before ++ p) q)
@@ -51,12 +46,6 @@ pub record Breaks (l : Limits) (before q : List ℕ) (m : ℕ) (f : TextFault) :
   pub line : length (pieces (before ++ (front ++ byte ∷ []))) ≡ m
   pub rule : rule_at l (before ++ (front ++ byte ∷ [])) ≡ Some f
 
-pub same_fault : (k m : ℕ) (g f : TextFault) → ◌≡◌ {A = Option (ℕ × TextFault)} (Some (k, g)) (Some (m, f))
-    → (k ≡ m) × (◌≡◌ {A = Option TextFault} (Some g) (Some f))
-same_fault k m g f h =
-    let same : ◌≡◌ {A = ℕ × TextFault} (k, g) (m, f) = cc in
-    (ap (λ (p : ℕ × TextFault). p.0) same, ap (λ (p : ℕ × TextFault). Some p.1) same)
-
 pub breaks : (l : Limits) (before q : List ℕ) (m : ℕ) (f : TextFault) → fault_within l before q ≡ Some (m, f)
     → Breaks l before q m f
 unfolding fault_within
@@ -67,9 +56,7 @@ breaks l before (b ∷ q) m f h = by (rule_at l (before ++ b ∷ [])) refl (brea
         → (fault_within l (before ++ b ∷ []) q ≡ Some (m, f) → Breaks l (before ++ b ∷ []) q m f)
         → or_later o (length (pieces (before ++ b ∷ []))) (fault_within l (before ++ b ∷ []) q) ≡ Some (m, f)
         → Breaks l before (b ∷ q) m f
-    by (Some g) is later e =
-        let same = same_fault _ m g f e in
-        record { front = []; byte = b; rest = q; split = refl; sound = refl; line = same.0; rule = is ∙ same.1 }
+    by (Some g) is later e = grind (arith, common_steps)
     by None is later e =
         let k = later e in
         let next = append_assoc before (b ∷ []) (k.front ++ k.byte ∷ []) in
@@ -97,13 +84,11 @@ faulty l before q m f h =
   where
     end : (o : Option TextFault) → fault_within l before q ≡ None → rule_at_end (before ++ q) ≡ o
         → or_later o (length (pieces (before ++ q))) None ≡ Some (m, f) → Faulty l before q m f
-    end None none is e = cc
-    end (Some g) none is e = let same = same_fault _ m g f e in AtEnd none same.0 (is ∙ same.1)
+    end = grind (arith, nat_tests)
 
     by : (o : Option (ℕ × TextFault)) → fault_within l before q ≡ o
         → option_or o (fault_after l (before ++ q) []) ≡ Some (m, f) → Faulty l before q m f
-    by (Some x) is e = AtByte (is ∙ e) (breaks l before q m f (is ∙ e))
-    by None is e = end (rule_at_end (before ++ q)) is refl e
+    by = grind (arith, nat_tests, breaks, end)
 
 some_bytes : (p : List ℕ) (b : ℕ) → 0 < length (p ++ b ∷ [])
 some_bytes p b = omega (arith, length-append p (b ∷ []))

@@ -1,5 +1,6 @@
 -- What a reader has read and given has settled of the bytes so far.
-use Rattle.std.proofs.Common.{◌≡◌, ◌∙◌, refl, sym, ap, subst, ℕ, ◌+◌, List, [], ◌∷◌, ◌++◌, length, map, arith, Option}
+use Rattle.std.proofs.lemmas.Bool.Decides.{nat_tests}
+use Rattle.std.proofs.Common.{◌≡◌, ◌∙◌, refl, sym, ap, subst, ℕ, ◌+◌, List, [], ◌∷◌, ◌++◌, length, arith, Option}
 use Rattle.std.proofs.Common.{Some, None, append_assoc, append-nil, length-append, inl, inr, add-one}
 use Rattle.std.proofs.lemmas.List.{length-map, map-append, append_cancel_right}
 use Rattle.hum_score.specs.Row.{Row}
@@ -14,7 +15,7 @@ use Rattle.hum_text.proofs.TextLemmas.{rule-at-line}
 use Rattle.hum_read.specs.Denoted.{Score, standard, up_to}
 use Rattle.hum_read.specs.Reading.{Scores, HasRead, AreRead, ahead}
 use Rattle.hum_turns.specs.Flow.{Begins}
-use Rattle.hum_nodes.specs.Settled.{whole_pieces, whole_lines, fault_in, fault_within, denoted_so_far, score_so_far}
+use Rattle.hum_nodes.specs.Settled.{whole_lines, fault_in, fault_within, denoted_so_far, score_so_far}
 use Rattle.hum_nodes.proofs.Pieces.{whole_at_start, start_whole, none_whole}
 use Rattle.hum_nodes.proofs.FrontFaults.{after_front, within_front, line_after, line_behind, line_begun, none_within}
 use Rattle.hum_nodes.proofs.Lines.{front_alone, broken_same}
@@ -41,14 +42,7 @@ none_before : (before rest : List ℕ) (start : IsAtStart before)
     → (o : Option (ℕ × TextFault)) → fault_within standard [] before ≡ o → o ≡ None
 none_before before rest start same None h = refl
 none_before before rest start same (Some (m, f)) h =
-    let stays : fault_after standard [] (before ++ rest) ≡ Some (m, f) =
-    after_front standard [] before rest ∙ rw h refl in
-    absurd (omega (
-      arith,
-      line_after standard before rest m f (sym same ∙ stays),
-      line_begun standard [] before m f h,
-      ap length (start_whole before start),
-    ))
+    grind (arith, nat_tests, after_front, line_after, line_begun, start_whole)
 
 -- One that hasn't ended stands so, since the bytes may go on.
 pub front_is : {R : Type 0} {v : Scores R} {seen : List ℕ} {rows : List Row} {b : ℕ}
@@ -61,17 +55,14 @@ front_is {v = v} {seen} {rows} {b} h =
       | inr none ↦ absurd (omega (arith, ap length none.0, length-append pending (b ∷ [])))
     ] in
     let cut : lines (seen ++ b ∷ []) ≡ lines st.before ++ lines (pending ++ b ∷ []) =
-    ap lines st.whole
-    ∙ ap (map without_cr) (pieces-append st.before (pending ++ b ∷ []) start)
-    ∙ map-append without_cr (pieces st.before) (pieces (pending ++ b ∷ [])) in
+    grind (arith, nat_tests, pieces-append, map-append) in
     let same : fault_after standard [] (st.before ++ (pending ++ b ∷ []))
     ≡ fault_after standard st.before (pending ++ b ∷ []) =
     ap (fault_after standard []) (sym st.whole) ∙ rw h.limits at st.fault in
     record {
       before = st.before;
       given = h.given;
-      split = append_cancel_right seen (st.before ++ pending) (b ∷ [])
-          (st.whole ∙ sym (append_assoc st.before pending (b ∷ [])));
+      split = grind (arith, nat_tests, append_cancel_right, append_assoc);
       start = start;
       whole = append_cancel_right (lines st.before) h.given (lines (pending ++ b ∷ [])) (sym cut ∙ st.left);
       sound = none_before st.before (pending ++ b ∷ []) start same _ refl;
@@ -98,19 +89,12 @@ some_so_far given more rows x are =
 pub read_so_far : (given more : List (List ℕ)) (rows : List Row) (o : Option (ℕ × TextFault)) → AreRead given rows
     → denoted_so_far Unopened 0 (given ++ more) o
     ≡ ahead rows (denoted_so_far (through Unopened rows) (length rows) more o)
-read_so_far given more rows (Some x) are = some_so_far given more rows x are
-read_so_far given more rows None are =
-    none_same Unopened 0 (given ++ more) ∙ some_so_far given more rows (0, text.Read) are
-    ∙ ap (ahead rows) (sym (none_same (through Unopened rows) (length rows) more))
+read_so_far = grind (arith, nat_tests, some_so_far, none_same)
 
 module _ {R : Type 0} {v : Scores R} {seen : List ℕ} {rows : List Row} (h : IsFront v seen rows) where
   -- The pieces of what was read.
   pub whole_split : whole_lines seen ≡ h.given ++ whole_lines v.lines.pending
-  whole_split =
-      ap whole_lines h.split
-      ∙ ap (map without_cr) (whole_at_start h.before v.lines.pending h.start)
-      ∙ map-append without_cr (pieces h.before) (whole_pieces v.lines.pending)
-      ∙ ap (λ ls. ls ++ whole_lines v.lines.pending) h.whole
+  whole_split = grind (arith, nat_tests, whole_at_start, map-append)
 
   pub given_pieces : length (pieces h.before) ≡ length h.given
   given_pieces = sym (length-map (pieces h.before) without_cr) ∙ ap length h.whole
@@ -139,8 +123,7 @@ module _ {R : Type 0} {v : Scores R} {seen : List ℕ} {rows : List Row} (h : Is
   pub needs_settled : NeedsRead v.lines → score_so_far seen ≡ record { rows = rows; fault = None }
   needs_settled needs =
       let pending = v.lines.pending in
-      let none : whole_lines seen ≡ h.given ++ [] =
-      whole_split ∙ ap (λ ps. h.given ++ map without_cr ps) (none_whole pending needs.unended) in
+      let none : whole_lines seen ≡ h.given ++ [] = grind (arith, nat_tests, whole_split, none_whole) in
       let lawful : fault_within standard h.before pending ≡ None =
       none_within standard h.before pending (λ k l.
       rw (← add-one k)

@@ -1,4 +1,5 @@
 -- How lines are read one after another: as records, until one is refused.
+use Rattle.std.proofs.lemmas.Bool.Decides.{nat_tests}
 use Rattle.std.proofs.Common.{◌≡◌, ◌∙◌, refl, sym, ap, ℕ, ◌+◌, ◌≤◌, Bool, true, false, List, [], ◌∷◌, ◌++◌, length}
 use Rattle.std.proofs.Common.{arith, Option, Some, None, Result, Ok, Err, append-nil, length-append}
 use Rattle.std.specs.Prelude.{not, is_some, IfSome}
@@ -61,9 +62,7 @@ line_rules path line o h = by (reading line) refl h
   where
     by : (read : Result Row RecordFault) → reading line ≡ read → on_spines path read ≡ Err o → of_line o ≡ true
     by (Ok row) is e = grind (arith, path_rules path row, e)
-    by (Err f) is e =
-        let same : record_rule f ≡ o = cc in
-        rw (← same) (record_rules f (λ m. no_memory line (is ∙ ap (λ x. Err x) m)))
+    by (Err f) is e = grind (arith, nat_tests, record_rules, no_memory)
 
 -- What comes behind records that were read: what follows the lines, or the rule that one breaks.
 abbrev pub behind : Option (ℕ × Option Rule) → Score → Score
@@ -149,11 +148,7 @@ never_stopped stop rest named h = grind (arith, named, h)
 
 pub broken_told : (path : Path) (n : ℕ) (ls : List (List ℕ)) (m : ℕ) (f : TextFault) → is_some (text_rule f) ≡ true
     → (denoted_so_far path n ls (Some (m, f))).fault ≡ None → ⊥
-broken_told path n ls m f named h =
-    let r = reads path n ls in
-    let told = ap (λ (s : Score). s.fault) (sym (front_alone path n ls (Some (m, f)))) ∙ h in
-    let none = never_stopped r.stop (broken_at m (text_rule f)) r.named told in
-    broken_some m (text_rule f) named (rw none at told)
+broken_told = grind (arith, nat_tests, reads, front_alone, never_stopped, broken_some)
 
 pub none_more : (path : Path) (n : ℕ) (ls : List (List ℕ)) → (denoted_so_far path n ls None).fault ≡ None
     → (denoted_so_far path n ls None).rows ≡ [] → ls ≡ []
@@ -177,10 +172,7 @@ no_rows path k broken stop = grind arith
 
 pub row_a_line : (path : Path) (n : ℕ) (ls : List (List ℕ)) (broken : Option (ℕ × TextFault))
     → length (denoted path n ls broken).rows ≤ length ls
-row_a_line path n ls broken =
-    let r = reads path n ls in
-    let few = r.few in
-    rw (whole_alone path n ls broken, no_rows (through path r.rows) r.k broken r.stop, append-nil r.rows) few
+row_a_line = grind (arith, nat_tests, reads, whole_alone, no_rows, append-nil)
 
 pub denoted_limits : (path : Path) (n : ℕ) (ls : List (List ℕ)) (broken : Option (ℕ × TextFault))
     → ((m : ℕ) (f : TextFault) → broken ≡ Some (m, f) → limits (text_rule f) ≡ false)

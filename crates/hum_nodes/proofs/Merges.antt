@@ -1,12 +1,13 @@
 -- What assemble gives and wants, whatever was put into its sources.
-use Rattle.std.proofs.Common.{◌≡◌, ◌∙◌, refl, ap, subst, ℕ, zero, suc, ◌+◌, ◌≤◌, List, [], ◌∷◌, ◌++◌, length, map}
+use Rattle.std.proofs.lemmas.Bool.Decides.{nat_tests}
+use Rattle.std.proofs.Common.{◌≡◌, ◌∙◌, refl, ap, ℕ, zero, suc, ◌+◌, ◌≤◌, List, [], ◌∷◌, ◌++◌, length, map}
 use Rattle.std.proofs.Common.{arith, Option, Some, None, append_assoc, append-nil, true}
 use Rattle.std.specs.Prelude.{is_none}
 use Rattle.std.specs.List.{AllByRecursion, position_from}
 use Rattle.hum_score.specs.Row.{Row}
 use Rattle.hum_stage.specs.declared.faults.End.{End}
 use Rattle.hum_assemble.specs.declared.places.Next as next
-use Rattle.hum_assemble.specs.declared.places.Next.TheVariants.{Gives, Refused, Wants, Over as NothingMore}
+use Rattle.hum_assemble.specs.declared.places.Next.TheVariants.{Gives}
 use Rattle.hum_assemble.specs.Change.{Input, Change, More, Ends, had, had_at, IsOpenInput}
 use Rattle.hum_assemble.specs.Round.{any_due}
 use Rattle.hum_assemble.specs.Merge.{Merge, ahead, given_on}
@@ -53,14 +54,7 @@ rest_ends xs = ends_on (total (opening xs).sources) (opening xs) ∙ begun_ends 
 
 wanted_in : (xs : List Input) (a : next.Next) → ahead (rest (opening xs)) ≡ a → (j : ℕ)
     → wanted a (ends xs) ≡ Some j → OpenIn j (ends xs)
-wanted_in xs (Wants k) e j h =
-    let m = rest (opening xs) in
-    let o = open_in k m.sources (waiting_open k m.sources (waits_at m k e)) in
-    let same : k ≡ j = cc in
-    subst (OpenIn j) (rest_ends xs) (rw same at o)
-wanted_in xs (Gives p) e j h = leftmost j (ends xs) h
-wanted_in xs (Refused rule) e j h = leftmost j (ends xs) h
-wanted_in xs NothingMore e j h = leftmost j (ends xs) h
+wanted_in = grind (arith, nat_tests, open_in, waiting_open, waits_at, rest_ends, leftmost)
 
 pub wanted_open : (xs : List Input) (j : ℕ) → wanted_of xs ≡ Some j → OpenIn j (ends xs)
 wanted_open xs j h = wanted_in xs (ahead (rest (opening xs))) refl j h
@@ -72,8 +66,7 @@ HaveEnded = AllByRecursion (λ x. (e : End) × (x.ended ≡ Some e))
 none_first : (i : ℕ) (x : Input) (xs : List Input) (o : Option End) → x.ended ≡ o
     → position_from is_none i (o ∷ ends xs) ≡ None
     → ((e : End) × (x.ended ≡ Some e)) × (position_from is_none (i + 1) (ends xs) ≡ None)
-none_first i x xs None e h = cc
-none_first i x xs (Some f) e h = ((f, e), h)
+none_first = grind (arith, nat_tests)
 
 none_open : (i : ℕ) (xs : List Input) → position_from is_none i (ends xs) ≡ None → HaveEnded xs
 none_open i [] h = tt

@@ -1,5 +1,7 @@
 -- Several scores side by side are a lawful stage of a plan, and keep what may lie on a link.
-use Rattle.std.proofs.Common.{◌≡◌, ◌∙◌, refl, ap, ℕ, zero, suc, List, [], ◌∷◌, ◌++◌, Option, Some, None, arith}
+use Rattle.std.proofs.lemmas.Grind.{common_steps}
+use Rattle.std.proofs.lemmas.Bool.Decides.{nat_tests}
+use Rattle.std.proofs.Common.{◌≡◌, ◌∙◌, refl, ap, ℕ, suc, List, [], ◌∷◌, ◌++◌, Option, Some, None, arith}
 use Rattle.std.proofs.Common.{append_assoc}
 use Rattle.hum_score.specs.Row.{Row}
 use Rattle.hum_stage.specs.declared.faults.End.{End}
@@ -11,7 +13,7 @@ use Rattle.hum_assemble.specs.Meaning.{output, own_fault, ends, AreScores}
 use Rattle.hum_assemble.proofs.Standings.{OpenIn}
 use Rattle.hum_assemble.proofs.Scores.{keeps_scores}
 use Rattle.hum_turns.specs.Flow.{Flow, Begins, Later, AllLater, AllOver, AllFine}
-use Rattle.hum_turns.specs.Plan.{IsOpenAt, IsLawful, KeepsFine, lower, or_own, inputs_end}
+use Rattle.hum_turns.specs.Plan.{IsOpenAt, IsLawful, KeepsFine, or_own, inputs_end}
 use Rattle.hum_turns.proofs.Fronts.{begins_refl, begins_trans}
 use Rattle.hum_nodes.specs.Fine.{fine}
 use Rattle.hum_nodes.specs.Single.{own_end}
@@ -25,14 +27,10 @@ use Rattle.hum_nodes.proofs.Merges.{few_given, wanted_open, HaveEnded, unwanted_
 one_later : (front tail : List Input) (a b : Flow Row) → Later a b → (o : Option End) → a.end ≡ o
     → Begins (output (front ++ input_of a ∷ tail)) (output (front ++ input_of b ∷ tail))
 one_later front tail a b h (Some e) is = rw (h.over e is) (begins_refl _)
-one_later front tail a b h None is =
-    rw (is, ← h.items.1) (source_on front tail a.items h.items.0 b.end)
+one_later front tail a b h None is = grind (arith, nat_tests, source_on front tail a.items h.items.0 b.end)
 
 all_later : (front : List Input) (a b : List (Flow Row)) → AllLater a b
     → Begins (output (front ++ inputs_of a)) (output (front ++ inputs_of b))
-all_later front [] [] h = begins_refl _
-all_later front [] (y ∷ b) h = absurd h
-all_later front (x ∷ a) [] h = absurd h
 all_later front (x ∷ a) (y ∷ b) h =
     let next = front ++ input_of y ∷ [] in
     begins_trans (output (front ++ input_of x ∷ inputs_of a))
@@ -40,15 +38,13 @@ all_later front (x ∷ a) (y ∷ b) h =
     (one_later front (inputs_of a) x y h.0 x.end refl)
     (rw (append_assoc front (input_of y ∷ []) (inputs_of a), append_assoc front (input_of y ∷ []) (inputs_of b))
     at (all_later next a b h.1))
+all_later front a b h = grind (arith, common_steps)
 
 -- What is wanted.
 
 open_there : (a : List (Flow Row)) (j : ℕ) → OpenIn j (ends (inputs_of a)) → IsOpenAt a j
-open_there [] j h = absurd h
-open_there (x ∷ a) zero h = record { input = x; is_there = refl; is_open = h }
-open_there (x ∷ a) (suc j) h =
-    let k = open_there a j h in
-    record { input = k.input; is_there = k.is_there; is_open = k.is_open }
+open_there (x ∷ a) (suc j) h = grind (arith, nat_tests, open_there a j h)
+open_there a j h = grind (arith, nat_tests)
 
 pub all_over : (a : List (Flow Row)) → HaveEnded (inputs_of a) → AllOver a
 all_over [] h = tt
@@ -59,32 +55,21 @@ lawful number from = record {
   apart = λ h. absurd (omega arith);
   grows = λ r s a b on. all_later [] a b on.inputs.later;
   reads = λ r a h. absurd (grind (arith, h));
-  asks = λ r a j n h.
-      open_there a j (wanted_open (inputs_of a) j (grind (arith, h)));
-  rests = λ r a are h. record {
-    over = all_over a (unwanted_ended (inputs_of a) (grind (arith, h)));
-    output = refl;
-    own = refl;
-  };
+  asks = grind (arith, nat_tests, open_there, wanted_open);
+  rests = grind (arith, nat_tests, all_over, unwanted_ended);
 }
 
 -- Scores of scores.
 
 are_scores : (a : List (Flow Row)) → AllFine fine a → AreScores (inputs_of a)
 are_scores [] h = tt
-are_scores (x ∷ a) h =
-    let f = fine_is 4294967295 x h.0 in ((f.score, f.closed), are_scores a h.1)
-
-same_lower : (a b : End) → merge.lower a b ≡ lower a b
-same_lower a b = grind arith
+are_scores (x ∷ a) h = grind (arith, nat_tests, are_scores a h.1, fine_is)
 
 -- the end of the inputs, once all have ended
 pub ends_are : (a : List (Flow Row)) → AllOver a
     → merge.inputs_end (ends (inputs_of a)) ≡ Some (inputs_end a)
 ends_are [] h = refl
-ends_are (x ∷ a) h =
-    let e = h.0.1 in
-    rw (e, ends_are a h.1) (ap Some (same_lower h.0.0 (inputs_end a)))
+ends_are (x ∷ a) h = grind (arith, nat_tests, ends_are a h.1)
 
 closed_output : (number : ℕ) (a : List (Flow Row)) → AllFine fine a → AllOver a
     → or_own (inputs_end a) (own_end (own_fault number (inputs_of a))) ≡ Closed

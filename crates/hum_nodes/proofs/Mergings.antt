@@ -1,5 +1,6 @@
 -- What several scores side by side stand for, as a node.
-use Rattle.std.proofs.Common.{◌≡◌, ◌∙◌, refl, sym, ap, subst, ℕ, zero, suc, Bool, true, false, if◌then◌else◌, nat_lt}
+use Rattle.std.proofs.lemmas.Bool.Decides.{nat_tests}
+use Rattle.std.proofs.Common.{◌≡◌, ◌∙◌, refl, sym, ap, subst, ℕ, zero, suc, Bool, true, if◌then◌else◌, nat_lt}
 use Rattle.std.proofs.Common.{List, [], ◌∷◌, ◌++◌, length, map, replicate, Option, Some, None, unwrap_or, arith, ◌+◌, ◌<◌}
 use Rattle.std.specs.Prelude.{MatchOption, slice_get}
 use Rattle.hum_score.specs.Row.{Row}
@@ -9,11 +10,11 @@ use Rattle.hum_stage.specs.declared.faults.State.{State}
 use Rattle.hum_stage.specs.declared.faults.State.TheVariants as state
 use Rattle.hum_stage.specs.declared.faults.Readiness.{Readiness}
 use Rattle.hum_stage.specs.Meaning.{resting_state, readiness_by, end_of as stage_end}
-use Rattle.hum_score.specs.InOrder.{IsScore, IsClosed}
+use Rattle.hum_score.specs.InOrder.{IsScore}
 use Rattle.hum_assemble.specs.Change.{Input, Change, More, Ends, had_at}
 use Rattle.hum_assemble.specs.Meaning as merge
-use Rattle.hum_assemble.specs.Meaning.{Moment, all_of, after_take, after, own_fault, ends, state_of, wants_of, put_of}
-use Rattle.hum_assemble.specs.Meaning.{output, waiting_at, MayPut, MayEnd, HasChanged, HasTaken}
+use Rattle.hum_assemble.specs.Meaning.{Moment, after_take, after, ends, state_of, wants_of, put_of}
+use Rattle.hum_assemble.specs.Meaning.{waiting_at, MayPut, MayEnd, HasChanged, HasTaken}
 use Rattle.hum_assemble.proofs.Standings.{OpenIn}
 use Rattle.hum_turns.specs.Flow.{Flow, so_far, AllFine}
 use Rattle.hum_turns.specs.Plan.{or_own, inputs_end}
@@ -48,9 +49,7 @@ ended o e = grind arith
 rests : (a : List (Flow Row)) (o : Option Fault) (w : Option ℕ) → wanted_of (inputs_of a) ≡ w
     → doing_by (want_from w) (or_own (inputs_end a) (own_end o))
     ≡ doing_for (resting_state o (merge.inputs_end (ends (inputs_of a)))) w
-rests a o (Some place) h = refl
-rests a o None h =
-    rw (ends_are a (all_over a (unwanted_ended (inputs_of a) h))) (ap Done (ended o (inputs_end a)))
+rests = grind (arith, nat_tests, ends_are, all_over, unwanted_ended, ended)
 
 by_test : (b : Bool) (a : List (Flow Row)) (o : Option Fault)
     → (if b then Gives
@@ -58,8 +57,7 @@ by_test : (b : Bool) (a : List (Flow Row)) (o : Option Fault)
     ≡ doing_for
     (if b then state.Gives else resting_state o (merge.inputs_end (ends (inputs_of a))))
     (if b then None else wanted_of (inputs_of a))
-by_test true a o = refl
-by_test false a o = rests a o (wanted_of (inputs_of a)) refl
+by_test = grind (arith, nat_tests, rests)
 
 -- What the assembler is ready for, in the same way.
 
@@ -73,16 +71,14 @@ rests_ready : (a : List (Flow Row)) (o : Option Fault) (w : Option ℕ) → want
     ≡ readiness_of (doing_for (resting_state o (merge.inputs_end (ends (inputs_of a)))) w)
 rests_ready a o (Some place) h =
     rw (open_end place (ends (inputs_of a)) (wanted_open (inputs_of a) place h)) refl
-rests_ready a o None h =
-    rw (ends_are a (all_over a (unwanted_ended (inputs_of a) h))) (grind arith)
+rests_ready a o None h = grind (arith, nat_tests, ends_are, all_over, unwanted_ended)
 
 by_readiness : (b : Bool) (a : List (Flow Row)) (o : Option Fault)
     → readiness_by (if b then state.Gives else resting_state o (merge.inputs_end (ends (inputs_of a))))
     ≡ readiness_of (doing_for
     (if b then state.Gives else resting_state o (merge.inputs_end (ends (inputs_of a))))
     (if b then None else wanted_of (inputs_of a)))
-by_readiness true a o = refl
-by_readiness false a o = rests_ready a o (wanted_of (inputs_of a)) refl
+by_readiness = grind (arith, nat_tests, rests_ready)
 
 doing_wants : (s : State) (o : Option ℕ) (p : ℕ) → doing_for s o ≡ Wants p → o ≡ Some p
 doing_wants s o p h = grind (arith, h)
@@ -93,9 +89,8 @@ doing_done s o e h = grind (arith, h)
 fine_there : (a : List (Flow Row)) (place : ℕ) (change : Flow Row → Flow Row)
     → OpenIn place (ends (inputs_of a)) → AllFine fine (change_at change place a)
     → (f : Flow Row) × (put_of place (inputs_of a) ≡ f.items) × (fine (change f) ≡ true)
-fine_there [] place change o h = absurd o
-fine_there (x ∷ a) zero change o h = (x, refl, h.0)
 fine_there (x ∷ a) (suc place) change o h = fine_there a place change o h.1
+fine_there a place change h k = grind (arith, nat_tests)
 
 -- The inputs after a change.
 
@@ -105,41 +100,24 @@ flow_change (Ends end) = with_end end
 
 changed_inputs : (change : Change) (a : List (Flow Row)) (place : ℕ)
     → inputs_of (change_at (flow_change change) place a) ≡ had_at place change (inputs_of a)
-changed_inputs change [] place = refl
-changed_inputs change (x ∷ a) zero = grind arith
 changed_inputs change (x ∷ a) (suc place) = ap (λ xs. input_of x ∷ xs) (changed_inputs change a place)
+changed_inputs change a place = grind (arith, nat_tests)
 
 module _ {stands : Moment → Type 0} {from : List ℕ} {t : At} (h : IsMerging stands from t) where
   doing_is : doing_of t ≡ doing_for (state_of h.moment) (wants_of h.moment)
-  doing_is =
-      let m = h.moment in
-      let inputs = inputs_of t.inputs in
-      ap doing_of (at_is t h.kind refl h.given)
-      ∙ by_test (nat_lt m.given (length (output inputs))) t.inputs (own_fault m.stage inputs)
-      ∙ ap (λ xs. doing_for (state_of (record m { inputs = xs })) (wants_of (record m { inputs = xs }))) h.inputs
+  doing_is = grind (arith, nat_tests, at_is, by_test, nat_lt)
 
   pub told : {s : State} {o : Option ℕ} → s ≡ state_of h.moment → o ≡ wants_of h.moment
       → doing_for s o ≡ doing_of t
-  told {s} {o} is wanted =
-      ap (λ x. doing_for x o) is ∙ ap (doing_for (state_of h.moment)) wanted ∙ sym doing_is
+  told = grind (arith, nat_tests, doing_is)
 
   -- what the assembler is ready for
   pub readiness_is : (is : Readiness) → ((m : Moment) → stands m → is ≡ readiness_by (state_of m))
       → is ≡ readiness_of (doing_of t)
-  readiness_is is shows =
-      let m = h.moment in
-      let inputs = inputs_of t.inputs in
-      shows m h.stand
-      ∙ ap (λ xs. readiness_by (state_of (record m { inputs = xs }))) (sym h.inputs)
-      ∙ by_readiness (nat_lt m.given (length (output inputs))) t.inputs (own_fault m.stage inputs)
-      ∙ ap (λ xs. readiness_of (doing_for (state_of (record m { inputs = xs })) (wants_of (record m { inputs = xs }))))
-      h.inputs
-      ∙ ap readiness_of (sym doing_is)
+  readiness_is = grind (arith, nat_tests, by_readiness, nat_lt, doing_is)
 
   pub waits_is : waits_of t ≡ waiting_at h.moment
-  waits_is =
-      ap waits_of (at_is t h.kind refl h.given)
-      ∙ ap (λ xs. waiting_at (record h.moment { inputs = xs })) h.inputs
+  waits_is = grind (arith, nat_tests)
 
   -- the end that the state tells
   pub end_told : {s : State} {end : End} → ((m : Moment) → stands m → s ≡ state_of m) → doing_of t ≡ Done end
@@ -156,16 +134,12 @@ module _ {stands : Moment → Type 0} {from : List ℕ} {t : At} (h : IsMerging 
   wanted_place shows wants = ap (λ o. unwrap_or o 0) (shows h.moment h.stand ∙ wanted wants)
 
   awaited : {place : ℕ} → doing_of t ≡ Wants place → OpenIn place (ends (inputs_of t.inputs))
-  awaited {place} wants =
-      subst (λ xs. OpenIn place (ends xs)) (sym h.inputs)
-      (grind (arith, wanted_open h.moment.inputs place, wanted wants))
+  awaited = grind (arith, nat_tests, wanted_open, wanted)
 
   -- The assembler may be given what the node may be given.
   input : (change : Flow Row → Flow Row) (place : ℕ) → MayChange t change place
       → (f : Flow Row) × (put_of place h.moment.inputs ≡ f.items) × IsFine 4294967295 (change f)
-  input change place p =
-      let f = fine_there t.inputs place change (awaited p.wants) p.fine in
-      (f.0, ap (put_of place) (sym h.inputs) ∙ f.1, fine_is 4294967295 (change f.0) f.2)
+  input = grind (arith, nat_tests, fine_there, awaited, fine_is)
 
   pub may_put : {at place : ℕ} (row : Row) → at ≡ place → MayChange t (with_record row) place → MayPut stands at row
   may_put {at} {place} row same p =
@@ -179,14 +153,7 @@ module _ {stands : Moment → Type 0} {from : List ℕ} {t : At} (h : IsMerging 
       })
 
   pub may_end : {at place : ℕ} (end : End) → at ≡ place → MayChange t (with_end end) place → MayEnd stands at end
-  may_end {at} {place} end same p =
-      let f = input (with_end end) place p in
-      rw same (record {
-        at = h.moment;
-        stand = h.stand;
-        wants = wanted p.wants;
-        closed = λ e. subst IsClosed (sym f.1) (f.2.closed (ap Some e));
-      })
+  may_end {at} {place} end same p = grind (arith, nat_tests, input, wanted)
 
   -- What it is then.
   pub changed : {later : Moment → Type 0} {at place : ℕ} (change : Change) → at ≡ place → doing_of t ≡ Wants place
@@ -199,32 +166,10 @@ module _ {stands : Moment → Type 0} {from : List ℕ} {t : At} (h : IsMerging 
     given = h.given;
   }
 
-  next_is : slice_get (all_of h.moment) h.moment.given ≡ slice_get (output_of t) t.given
-  next_is =
-      ap (λ xs. slice_get (output xs) h.moment.given) (sym h.inputs)
-      ∙ ap (λ (u : At). slice_get (output_of u) u.given) (sym (at_is t h.kind refl h.given))
-
   pub taken : (later : Moment → Type 0) (o : Option Row) → HasTaken stands later o
       → (After : At → Type 0) → ((u : At) → IsMerging later from u → After u)
       → (o ≡ slice_get (output_of t) t.given) × MatchOption o (After t) (λ _. After (node.after_take t))
-  taken later o took After so = let k = took h.moment h.stand in (k.0 ∙ next_is, by o k.1)
-    where
-      by : (o : Option Row) → MatchOption o (later h.moment) (λ _. later (after_take h.moment))
-          → MatchOption o (After t) (λ _. After (node.after_take t))
-      by None s = so t (record {
-        moment = h.moment;
-        stand = s;
-        kind = h.kind;
-        inputs = h.inputs;
-        given = h.given;
-      })
-      by (Some row) s = so (node.after_take t) (record {
-        moment = after_take h.moment;
-        stand = s;
-        kind = h.kind;
-        inputs = h.inputs;
-        given = ap (λ n. n + 1) h.given;
-      })
+  taken = grind (arith, nat_tests)
 
 -- Nothing was put yet.
 
@@ -238,10 +183,4 @@ none_put (s ∷ from) = ap (λ xs. empty_input ∷ xs) (none_put from)
 pub fresh_stands : {stands : Moment → Type 0} (stage n : ℕ) (from : List ℕ) → n ≡ length from
     → stands (merge.empty_moment stage n)
     → IsMerging stands from (node.fresh (merging stage from))
-fresh_stands stage n from count s = record {
-  moment = merge.empty_moment stage n;
-  stand = s;
-  kind = refl;
-  inputs = none_put from ∙ ap (λ k. replicate k empty_input) (sym count);
-  given = refl;
-}
+fresh_stands = grind (arith, nat_tests, none_put)

@@ -1,31 +1,22 @@
 -- The pieces of a front, and those of what it goes on to.
+use Rattle.std.proofs.lemmas.Grind.{common_steps}
+use Rattle.std.proofs.lemmas.Bool.Decides.{nat_tests}
 use Rattle.std.proofs.Common.{◌≡◌, ◌∙◌, refl, sym, ap, subst, ℕ, zero, suc, ◌+◌, ◌<◌, ◌≤◌, List, [], ◌∷◌, ◌++◌, length}
 use Rattle.std.proofs.Common.{arith, inl, inr, length-append, append_assoc, append-nil}
 use Rattle.std.proofs.lemmas.Bool.{cases_eq, ne_eqb}
-use Rattle.hum_text.specs.Text.{onto, pieces, IsAtStart}
+use Rattle.hum_text.specs.Text.{pieces, IsAtStart}
 use Rattle.hum_text.proofs.PieceLemmas.{NoLf, pieces-some, pieces-append, pieces-open, pieces-whole, pieces-none}
 use Rattle.hum_turns.specs.Flow.{Begins}
 use Rattle.hum_nodes.specs.Settled.{onto_first, whole_pieces}
 
 -- A front that ends where a line begins has whole pieces alone.
 
-onto_same : (b : ℕ) (p : List ℕ) (ps qs all : List (List ℕ)) → all ≡ p ∷ ps
-    → onto_first b (all ++ qs) ≡ onto b all ++ qs
-onto_same b p ps qs all is = rw is refl
-
 pub whole_at_start : (before q : List ℕ) → IsAtStart before
     → whole_pieces (before ++ q) ≡ pieces before ++ whole_pieces q
 unfolding whole_pieces pieces IsAtStart
-whole_at_start [] q s = refl
-whole_at_start (b ∷ []) q s = rw s refl
 whole_at_start (b ∷ c ∷ bs) q s =
-    let ih = whole_at_start (c ∷ bs) q s in
-    let some = pieces-some c bs in
-    elim (cases_eq b 10) [
-      | inl is ↦ rw is (ap (λ ps. [] ∷ ps) ih)
-      | inr other ↦ rw (ne_eqb b 10 other)
-          (ap (onto_first b) ih ∙ onto_same b some.0 some.1 (whole_pieces q) (pieces (c ∷ bs)) some.2)
-    ]
+    grind (arith, nat_tests, whole_at_start (c ∷ bs) q s, pieces-some c bs, cases_eq b 10)
+whole_at_start before q h = grind (arith, nat_tests)
 
 free_tail : (b : ℕ) (q : List ℕ) → NoLf (b ∷ q) → NoLf q
 free_tail b q free k l is = free (suc k) (omega arith) is
@@ -50,8 +41,7 @@ record Cut (p : List ℕ) : Type 0 where
   free : NoLf tail
 
 pub free_cons : (b : ℕ) (q : List ℕ) → (b ≡ 10 → ⊥) → NoLf q → NoLf (b ∷ q)
-free_cons b q other free zero l is = other is
-free_cons b q other free (suc k) l is = free k (omega arith) is
+free_cons = grind (arith, nat_tests)
 
 pub free_append : (a b : List ℕ) → NoLf a → NoLf b → NoLf (a ++ b)
 free_append [] b f g k i is = g k i is
@@ -65,8 +55,7 @@ cut_on b p (c ∷ x) y e s f =
     record { before = b ∷ c ∷ x; tail = y; split = ap (λ z. b ∷ z) e; start = s; free = f }
 cut_on b p [] y e s f = elim (cases_eq b 10) [
   | inl is ↦ record { before = b ∷ []; tail = y; split = ap (λ z. b ∷ z) e; start = is; free = f }
-  | inr other ↦
-      record { before = []; tail = b ∷ y; split = ap (λ z. b ∷ z) e; start = tt; free = free_cons b y other f }
+  | inr other ↦ grind (arith, nat_tests, free_cons)
 ]
 
 cut : (p : List ℕ) → Cut p
@@ -77,21 +66,13 @@ cut (b ∷ p) = let c = cut p in cut_on b p c.before c.tail c.split c.start c.fr
 -- So its whole pieces stay, and what follows them goes on with that line.
 
 whole_cut : (p : List ℕ) (c : Cut p) → whole_pieces p ≡ pieces c.before
-whole_cut p c =
-    ap whole_pieces c.split ∙ whole_at_start c.before c.tail c.start
-    ∙ ap (λ ps. pieces c.before ++ ps) (none_whole c.tail c.free) ∙ append-nil (pieces c.before)
+whole_cut = grind (arith, nat_tests, whole_at_start, none_whole, append-nil)
 
 whole_on : (p q : List ℕ) (c : Cut p) → whole_pieces (p ++ q) ≡ whole_pieces p ++ whole_pieces (c.tail ++ q)
-whole_on p q c =
-    ap (λ z. whole_pieces (z ++ q)) c.split ∙ ap whole_pieces (append_assoc c.before c.tail q)
-    ∙ whole_at_start c.before (c.tail ++ q) c.start
-    ∙ ap (λ ps. ps ++ whole_pieces (c.tail ++ q)) (sym (whole_cut p c))
+whole_on = grind (arith, nat_tests, append_assoc, whole_at_start, whole_cut)
 
 pieces_on : (p q : List ℕ) (c : Cut p) → pieces (p ++ q) ≡ whole_pieces p ++ pieces (c.tail ++ q)
-pieces_on p q c =
-    ap (λ z. pieces (z ++ q)) c.split ∙ ap pieces (append_assoc c.before c.tail q)
-    ∙ pieces-append c.before (c.tail ++ q) c.start
-    ∙ ap (λ ps. ps ++ pieces (c.tail ++ q)) (sym (whole_cut p c))
+pieces_on = grind (arith, nat_tests, append_assoc, pieces-append, whole_cut)
 
 pub whole_begins : (p q : List ℕ) → Begins (whole_pieces p) (whole_pieces (p ++ q))
 whole_begins p q = let c = cut p in (whole_pieces (c.tail ++ q), sym (whole_on p q c))
@@ -134,8 +115,7 @@ open_end p other =
     omega (arith, count p c, some_pieces c.tail (by c.before c.tail c.split c.start))
   where
     by : (x y : List ℕ) → p ≡ x ++ y → IsAtStart x → 0 < length y
-    by x [] e s = absurd (other (subst IsAtStart (sym (e ∙ append-nil x)) s))
-    by x (b ∷ y) e s = omega arith
+    by = grind (arith, common_steps)
 
 -- with bytes more there is a piece behind those of the front,
 pub some_more : (p q : List ℕ) → 0 < length q → length (whole_pieces p) + 1 ≤ length (pieces (p ++ q))
@@ -150,12 +130,7 @@ one_piece p b =
     omega (arith, count p c, count_on p (b ∷ []) c, one c.tail c.free)
   where
     one : (q : List ℕ) → NoLf q → length (pieces (q ++ b ∷ [])) ≤ 1
-    one q free = elim (cases_eq b 10) [
-      | inl is ↦ rw is (omega (arith, ap length (pieces-whole q free)))
-      | inr other ↦
-          let last = free_cons b [] other (λ k l. absurd (omega arith)) in
-          free_one (q ++ b ∷ []) (free_append q (b ∷ []) free last)
-    ]
+    one = grind (arith, nat_tests, cases_eq, pieces-whole, free_cons, free_one, free_append)
 
 -- More bytes make no fewer pieces.
 pub pieces_grow : (p q : List ℕ) → length (pieces p) ≤ length (pieces (p ++ q))

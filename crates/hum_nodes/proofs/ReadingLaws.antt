@@ -1,6 +1,7 @@
 -- A score that is read is a lawful stage of a plan, and may lie on a link.
-use Rattle.std.proofs.Common.{◌≡◌, ◌∙◌, refl, sym, ap, subst, ℕ, ◌+◌, ◌<◌, ◌≤◌, Bool, true, false, ◌||◌, List, [], ◌∷◌}
-use Rattle.std.proofs.Common.{◌++◌, length, take, drop, arith, Option, None, ltb-true, ltb-false, lt-ltb}
+use Rattle.std.proofs.lemmas.Grind.{common_steps}
+use Rattle.std.proofs.Common.{◌≡◌, ◌∙◌, refl, sym, ap, subst, ℕ, ◌+◌, ◌<◌, ◌≤◌, Bool, true, false, ◌||◌, List}
+use Rattle.std.proofs.Common.{◌++◌, length, take, drop, arith, Option, None, ltb-false, lt-ltb}
 use Rattle.std.proofs.Common.{take-append-drop}
 use Rattle.std.specs.Prelude.{is_some}
 use Rattle.std.proofs.lemmas.Bool.{false≢true}
@@ -11,7 +12,7 @@ use Rattle.hum_stage.specs.declared.faults.Rule.{Rule}
 use Rattle.hum_stage.specs.declared.faults.End.TheVariants.{Closed}
 use Rattle.hum_score.specs.InOrder.{IsScore}
 use Rattle.hum_stage.proofs.Growth.{Follow-front}
-use Rattle.hum_read.specs.Denoted.{Score, score_of, end_at}
+use Rattle.hum_read.specs.Denoted.{score_of, end_at}
 use Rattle.hum_read.proofs.Denoting.{score-of}
 use Rattle.hum_score.specs.Row.{Row}
 use Rattle.hum_turns.specs.Flow.{Flow, AllOver}
@@ -34,13 +35,10 @@ pub settles : (all : List ℕ) (r s : ℕ) → r ≤ s → Settles (settled_at a
 settles all r s h = by (is_ended all r) (is_ended all s) refl refl
   where
     by : (a b : Bool) → is_ended all r ≡ a → is_ended all s ≡ b → Settles (settled_at all r) (settled_at all s)
-    by true false e f =
-        absurd (omega (arith, ltb-true (length all) r e, ltb-false (length all) s f))
+    by true false e f = grind (arith, nat_tests)
     by true true e f = rw (e, f) (same_settles refl)
     by false true e f =
-        rw (e, f)
-        (subst (λ z. Settles (score_so_far (take r all)) (score_of z)) (take-append-drop r all)
-        (settles_whole (take r all) (drop r all)))
+        grind (arith, nat_tests, take-append-drop r all, settles_whole (take r all) (drop r all))
     by false false e f =
         let later = drop r (take s all) in
         let some = ltb-false (length all) s f in
@@ -56,8 +54,7 @@ settles all r s h = by (is_ended all r) (is_ended all s) refl refl
 at_rest : (all : List ℕ) (r : ℕ) (ended broken : Bool) → is_ended all r ≡ ended
     → is_some (settled_at all r).fault ≡ broken → (ended || broken) ≡ true
     → settled_at all r ≡ settled_at all (length all + 1)
-at_rest all r true broken e f h =
-    all_settled all r (ltb-true (length all) r e) ∙ sym (all_settled all (length all + 1) (omega arith))
+at_rest all r true broken e f h = grind (arith, nat_tests)
 at_rest all r false true e f h =
     let n = ltb-false (length all) r e in
     let x = is_set (settled_at all r).fault f in
@@ -65,8 +62,7 @@ at_rest all r false true e f h =
 at_rest all r false false e f h = absurd (false≢true h)
 
 no_inputs : (a : List (Flow Row)) → length a ≡ 0 → AllOver a
-no_inputs [] h = tt
-no_inputs (x ∷ a) h = absurd (omega arith)
+no_inputs = grind (arith, common_steps)
 
 pub lawful : (number : ℕ) (all : List ℕ) → IsLawful fine (reading number all).stage
 lawful number all = record {
@@ -74,13 +70,7 @@ lawful number all = record {
   grows = λ r s a b on. (settles all r s on.more).rows;
   reads = λ r a h. grind (arith, nat_tests, h);
   asks = λ r a j n h. absurd (grind (arith, h));
-  rests = λ r a are h.
-      let e = at_rest all r _ _ refl refl (grind (arith, h)) in
-      record {
-        over = no_inputs a are.count;
-        output = ap (λ (s : Score). s.rows) e;
-        own = ap (λ (s : Score). end_at number s.fault) e;
-      };
+  rests = grind (arith, nat_tests, at_rest, no_inputs);
 }
 
 -- Scores.

@@ -1,5 +1,6 @@
 -- What a reader's stage does, by what has settled of its bytes.
-use Rattle.std.proofs.Common.{◌≡◌, ◌∙◌, refl, sym, ap, subst, ℕ, ◌+◌, ◌≤◌, ◌<◌, Bool, true, false, ◌||◌, if◌then◌else◌}
+use Rattle.std.proofs.lemmas.Bool.Decides.{nat_tests}
+use Rattle.std.proofs.Common.{◌≡◌, ◌∙◌, refl, sym, ap, subst, ℕ, ◌+◌, ◌≤◌, Bool, true, false, ◌||◌, if◌then◌else◌}
 use Rattle.std.proofs.Common.{List, [], ◌∷◌, ◌++◌, length, take, arith, append-nil, length-append, le-ltb, None}
 use Rattle.std.specs.Prelude.{is_some}
 use Rattle.std.proofs.lemmas.Bool.{false≢true}
@@ -11,10 +12,8 @@ use Rattle.hum_read.proofs.Denoting.{front-rows}
 use Rattle.hum_turns.specs.Flow.{Begins}
 use Rattle.hum_nodes.specs.Doing as does
 use Rattle.hum_nodes.specs.Settled.{score_so_far}
-use Rattle.hum_turns.specs.Plan.{Bytes, Nothing}
-use Rattle.hum_nodes.specs.At.{At, doing_by, doing_of}
+use Rattle.hum_nodes.specs.At.{At, doing_of}
 use Rattle.hum_nodes.specs.Reading.{is_ended, settled_at, is_done, reading, HasGiven}
-use Rattle.hum_nodes.proofs.Polling.{at_is}
 use Rattle.hum_nodes.proofs.ReadingLaws.{all_settled}
 use Rattle.hum_nodes.proofs.Fronting.{front_is, given_settled, needs_settled}
 
@@ -22,14 +21,7 @@ use Rattle.hum_nodes.proofs.Fronting.{front_is, given_settled, needs_settled}
 pub rests_at : (stage : ℕ) (all : List ℕ) (t : At) → t.kind ≡ reading stage all → t.inputs ≡ []
     → length (settled_at all t.read).rows ≤ t.given → (done : Bool) → is_done all t.read ≡ done
     → doing_of t ≡ (if done then does.Done (end_at stage (settled_at all t.read).fault) else does.Reads)
-rests_at stage all t kind inputs few done is =
-    ap doing_of (at_is t kind inputs refl)
-    ∙ rw (le-ltb t.given (length (settled_at all t.read).rows) few) (by done is)
-  where
-    by : (done : Bool) → is_done all t.read ≡ done
-        → doing_by (if is_done all t.read then Nothing else Bytes) (end_at stage (settled_at all t.read).fault)
-        ≡ (if done then does.Done (end_at stage (settled_at all t.read).fault) else does.Reads)
-    by done is = grind (arith, is)
+rests_at = grind (arith, nat_tests)
 
 -- What has settled with the bytes so far, and with all and their end.
 
@@ -53,11 +45,7 @@ given_at {v = v} {all} {rest} {t} h =
     subst (λ r. Begins h.rows (settled_at all r).rows) (sym h.read) (by v.lines.ended refl)
   where
     by : (b : Bool) → v.lines.ended ≡ b → Begins h.rows (settled_at all (upto b h.seen)).rows
-    by true e =
-        let n : all ≡ h.seen ++ [] = h.whole ∙ ap (λ l. h.seen ++ l) (h.over e) in
-        let f = front-rows v (h.seen ++ []) h.rows [] (h.has [] (λ _. refl)) in
-        let few : length all < length h.seen + 1 = omega (arith, ap length n, ap length (append-nil h.seen)) in
-        rw (all_settled all (length h.seen + 1) few, n) (f.0, sym f.1)
+    by true e = grind (arith, nat_tests, front-rows, append-nil, all_settled)
     by false e =
         let front = front_is (h.has (97 ∷ []) (λ t. absurd (false≢true (sym e ∙ t)))) in
         rw (so_far_at all h.seen rest h.whole) (given_settled front)

@@ -1,5 +1,7 @@
 -- A stage of one input is a lawful stage of a plan, and keeps what may lie on a link.
-use Rattle.std.proofs.Common.{◌≡◌, ◌∙◌, refl, sym, ap, subst, ℕ, ◌≤◌, List, [], ◌∷◌, ◌++◌, length, Option, Some, None}
+use Rattle.std.proofs.lemmas.Grind.{common_steps}
+use Rattle.std.proofs.lemmas.Bool.Decides.{nat_tests}
+use Rattle.std.proofs.Common.{◌≡◌, ◌∙◌, sym, ap, subst, ℕ, ◌≤◌, List, [], ◌∷◌, ◌++◌, length, Option, Some, None}
 use Rattle.std.proofs.Common.{arith, unwrap_or, append_assoc, append-nil}
 use Rattle.hum_score.specs.Row.{Row}
 use Rattle.hum_score.specs.Spines.{Unopened}
@@ -13,7 +15,7 @@ use Rattle.hum_turns.specs.Flow.{Flow, Begins, AllLater, AllOver, AllFine, IsOve
 use Rattle.hum_turns.specs.Plan.{Source, Nothing, IsOpenAt, IsLawful, KeepsFine, lower, or_own, inputs_end}
 use Rattle.hum_turns.proofs.Fronts.{begins_refl, begins_trans}
 use Rattle.hum_nodes.specs.Fine.{fine}
-use Rattle.hum_nodes.specs.Single.{items_of, want_by, want_of, own_end, single}
+use Rattle.hum_nodes.specs.Single.{items_of, want_of, own_end, single}
 use Rattle.hum_nodes.proofs.Fining.{fine_is, keeps_by}
 
 -- what is settled goes on with the list
@@ -40,34 +42,14 @@ items_grow m law (x ∷ a) [] f h = absurd h
 
 -- No bytes are wanted; the first input is where it hasn't ended, and where it has, nothing is.
 
-first_open : (x : Flow Row) (a : List (Flow Row)) (j : ℕ) (o : Option End) → x.end ≡ o → want_by o ≡ Source j
-    → IsOpenAt (x ∷ a) j
-first_open x a j None e h =
-    let first : 0 ≡ j = cc in
-    subst (IsOpenAt (x ∷ a)) first (record { input = x; is_there = refl; is_open = e })
-first_open x a j (Some f) e h = cc
-
 asks_first : (a : List (Flow Row)) (j : ℕ) → want_of a ≡ Source j → IsOpenAt a j
-asks_first [] j h = cc
-asks_first (x ∷ a) j h = first_open x a j x.end refl h
-
-over_if : (x : Flow Row) (o : Option End) → x.end ≡ o → want_by o ≡ Nothing → IsOver x
-over_if x None e h = cc
-over_if x (Some f) e h = (f, e)
+asks_first = grind (arith, nat_tests)
 
 rests_over : (a : List (Flow Row)) → length a ≡ 1 → want_of a ≡ Nothing → AllOver a
-rests_over [] n h = tt
-rests_over (x ∷ []) n h = (over_if x x.end refl h, tt)
-rests_over (x ∷ y ∷ a) n h = absurd (omega arith)
+rests_over = grind (arith, common_steps)
 
 pub lawful : (from : ℕ) (m : Meaning) → IsLawfulMeaning m → IsLawful fine (single from m).stage
-lawful from m law = record {
-  apart = λ h. absurd (omega arith);
-  grows = λ r s a b on. items_grow m law a b on.inputs.after.each on.inputs.later;
-  reads = λ r a h. absurd (grind (arith, h));
-  asks = λ r a j n h. asks_first a j h;
-  rests = λ r a are h. record { over = rests_over a are.count h; output = refl; own = refl };
-}
+lawful = grind (arith, nat_tests, items_grow, asks_first, rests_over)
 
 -- What ends closed.
 
@@ -86,19 +68,13 @@ over_closed x over h = over.1 ∙ ap Some (sym (ap (λ o. unwrap_or o Closed) ov
 -- Scores of scores.
 
 items_score : (a : List (Flow Row)) → AllFine fine a → IsScore (items_of a) × (length (items_of a) ≤ 4294967295)
-items_score [] h = (tt, omega arith)
-items_score (x ∷ a) h = let f = fine_is 4294967295 x h.0 in (f.score, f.few)
+items_score = grind (arith, nat_tests, fine_is)
 
 output_closed : (m : Meaning) → KeepsScore m.outcomes → (a : List (Flow Row)) → length a ≡ 1
     → AllFine fine a → AllOver a
     → or_own (inputs_end a) (own_end (own_fault m (items_of a))) ≡ Closed
     → IsClosed (output m (items_of a))
-output_closed m keeps [] n each over h = absurd (omega arith)
-output_closed m keeps (x ∷ a) n each over h =
-    let c = or_closed (inputs_end (x ∷ a)) (own_end (own_fault m x.items)) h in
-    let e = over_closed x over.0 (lower_closed (unwrap_or x.end Closed) (inputs_end a) c.0).0 in
-    keeps.closed x.items ((fine_is 4294967295 x each.0).closed e)
-    (grind (arith, own_none (own_fault m x.items) c.1))
+output_closed = grind (arith, nat_tests, or_closed, over_closed, lower_closed, unwrap_or, fine_is, own_none)
 
 pub limited : (m : Meaning) → IsLawfulMeaning m → (a : List (Flow Row)) → AllFine fine a
     → length (output m (items_of a)) ≤ 4294967295
@@ -106,6 +82,4 @@ limited m law a each = law.limited (items_of a) (items_score a each).1
 
 pub keeps_fine : (from : ℕ) (m : Meaning) → IsLawfulMeaning m → KeepsScore m.outcomes
     → KeepsFine fine (single from m).stage
-keeps_fine from m law keeps = keeps_by
-    (λ r a within are. (keeps.score (items_of a) (items_score a are.each).0, limited m law a are.each))
-    (λ a are over e. output_closed m keeps a are.count are.each over e)
+keeps_fine = grind (arith, nat_tests, keeps_by, items_score, limited, output_closed)

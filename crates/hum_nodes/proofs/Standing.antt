@@ -1,4 +1,5 @@
 -- What nodes of each kind stand for, and what they show.
+use Rattle.std.proofs.lemmas.Bool.Decides.{nat_tests}
 use Rattle.std.proofs.Common.{◌≡◌, ◌∙◌, ℕ, ◌<◌, ◌≤◌, Bool, true, false, List, [], ◌++◌, Option, None, Some, refl, sym}
 use Rattle.std.proofs.Common.{ap, Global, subst, arith, length, Result, Ok, Err, ◌⊎◌}
 use Rattle.std.specs.Prelude.{◌≢◌, IfOk, IfSome, MatchOption}
@@ -13,15 +14,15 @@ use Rattle.hum_stage.specs.declared.faults.Readiness.{Readiness}
 use Rattle.hum_stage.specs.Meaning.{Moment, HasPutAndTaken, ShowsReadiness, TookFirst, after_put, readiness_by}
 use Rattle.hum_assemble.specs.Meaning as merge
 use Rattle.hum_assemble.specs.Standing.{Assembler, Stands}
-use Rattle.hum_nodes.specs.At.{Kind, At, doing_of, readiness_of, waits_of, MayChange, with_record, after_change}
-use Rattle.hum_nodes.specs.Reading.{some_read, IsReading}
+use Rattle.hum_nodes.specs.At.{At, doing_of, readiness_of, waits_of, MayChange, with_record, after_change}
+use Rattle.hum_nodes.specs.Reading.{IsReading}
 use Rattle.hum_nodes.specs.Polls.{most_bytes, HasPolled}
 use Rattle.hum_nodes.specs.Doing as does
 use Rattle.hum_nodes.specs.Doing.{Doing}
 use Rattle.hum_nodes.specs.declared.node.Node.{Node}
 use Rattle.hum_nodes.specs.declared.node.Work.{Work}
 use Rattle.hum_nodes.specs.declared.node.Work.TheVariants.{Read, Command, Assemble}
-use Rattle.hum_nodes.specs.Nodes.{reads, is_source, commands, readiness_at, readiness_in}
+use Rattle.hum_nodes.specs.Nodes.{reads, is_source, commands, readiness_at}
 use Rattle.hum_nodes.specs.Nodes.{WorksAs, KnowsSource, StandsAs, remaining_by}
 use Rattle.hum_nodes.specs.Nodes.{remaining_of, ended_by, ended_of, calls_by, calls_of, failed_by, failed_of}
 use Rattle.hum_record.specs.Room.{room_for, rooms_for}
@@ -29,7 +30,7 @@ use Rattle.hum_nodes.specs.Single.{IsSingle, IsAhead}
 use Rattle.hum_nodes.specs.Merging.{IsMerging}
 use Rattle.hum_nodes.proofs.Polling.{gives_if, polls_as}
 use Rattle.hum_nodes.proofs.Mergings.{readiness_is as merging_readiness}
-use Rattle.hum_nodes.proofs.Singles.{kind_is, not_ahead, takes_none, takes_first, readiness_is, changes, room_ahead, took_ahead}
+use Rattle.hum_nodes.proofs.Singles.{takes_none, changes, room_ahead, took_ahead}
 use Rattle.hum_nodes.proofs.Turns.{polled_by}
 
 module _ {S R : Type 0} (stands : S → Moment → Type 0) where
@@ -37,15 +38,7 @@ module _ {S R : Type 0} (stands : S → Moment → Type 0) where
       → WorksAs stands work node.from node.ahead node.behind rest t
       → (reads work ≡ true → 0 < t.kind.stage.bytes) × (reads work ≡ false → t.kind.stage.bytes ≡ 0)
       × (0 < t.kind.stage.bytes → t.read ≤ most_bytes)
-  bytes_by node rest t (Read reader) works =
-      ((λ e. some_read reader rest t works), (λ e. cc), (λ some. works.few))
-  bytes_by node rest t (Command stage) works =
-      let kind = (kind_is (stands stage) node.from node.ahead node.behind t works).1 in
-      let none = ap (λ (k : Kind). k.stage.bytes) kind in
-      ((λ e. cc), (λ e. none), (λ some. absurd (omega arith)))
-  bytes_by node rest t (Assemble stage sources) works =
-      let none = ap (λ (k : Kind). k.stage.bytes) works.kind in
-      ((λ e. cc), (λ e. none), (λ some. absurd (omega arith)))
+  bytes_by = grind (arith, nat_tests)
 
   -- a source reads bytes, or their end
   pub source_bytes : (node : Node S R) (rest : List ℕ) (t : At) → is_source node ≡ true
@@ -64,26 +57,18 @@ module _ {S R : Type 0} (stands : S → Moment → Type 0) where
   -- what is still to come of bytes is nothing to a stage that isn't a source
   pub any_rest : (node : Node S R) → is_source node ≡ false → (a b : List ℕ) (t : At)
       → StandsAs stands node a t → StandsAs stands node b t
-  any_rest node e a b t h =
-      record { works = by node.work e h.works; alone = h.alone; knows = h.knows; takes = h.takes }
-    where
-      by : (work : Work S R) → reads work ≡ false → WorksAs stands work node.from node.ahead node.behind a t
-          → WorksAs stands work node.from node.ahead node.behind b t
-      by work e works = grind (arith, e, works)
+  any_rest = grind (arith, nat_tests)
 
 -- A command that isn't about to give has no record ahead.
 pub alone_as : {S R : Type 0} {stands : S → Moment → Type 0} {node : Node S R} {stage : S} {rest : List ℕ} {t : At}
     {d : Doing} → node.work ≡ Command stage → StandsAs stands node rest t → doing_of t ≡ d → (d ≡ does.Gives → ⊥)
     → (node.ahead ≡ None) × IsSingle (stands stage) node.from t
-alone_as {stands = stands} {node} {stage} {rest} {t} is h doing other =
-    not_ahead (stands stage) node.from node.ahead node.behind t
-    (subst (λ w. WorksAs stands w node.from node.ahead node.behind rest t) is h.works) (λ e. other (sym doing ∙ e))
+alone_as = grind (arith, nat_tests)
 
 pub as_merging : {S R : Type 0} {stands : S → Moment → Type 0} {node : Node S R} {stage : Assembler}
     {sources : Vec ℕ Global} {rest : List ℕ} {t : At} → node.work ≡ Assemble stage sources
     → StandsAs stands node rest t → IsMerging (Stands stage) sources.items t
-as_merging {stands = stands} {node} {rest = rest} {t} is h =
-    subst (λ w. WorksAs stands w node.from node.ahead node.behind rest t) is h.works
+as_merging = grind (arith, nat_tests)
 
 -- What was taken ahead of a command waits in the node.
 pub ahead_room : {S R : Type 0} {stands : S → Moment → Type 0} {node : Node S R} {stage : S} {row : Row}
@@ -99,13 +84,7 @@ pub single_stands : {S R : Type 0} (stands : S → Moment → Type 0) {stage : S
     → IsSingle (stands stage) from t → ahead ≡ None → ShowsReadiness (stands stage) is
     → StandsAs {S = S} {R = R} stands
     (record { work = Command stage; ahead = ahead; behind = is; from = from }) rest t
-single_stands stands {is = is} works none shows =
-    rw none (record {
-      works = works;
-      alone = λ other. refl;
-      knows = readiness_is works is shows;
-      takes = λ other. takes_first works;
-    })
+single_stands = grind (arith, nat_tests)
 
 -- and what it is once a record was put, whether the first one of what it gives was taken ahead or not.
 pub put_stands : {S R : Type 0} {stands : S → Moment → Type 0} {node : Node S R} {old new : S} {row : Row}
@@ -152,12 +131,8 @@ pub merging_stands : {S R : Type 0} (stands : S → Moment → Type 0) {stage : 
     → ((t : At) → IsMerging (Stands stage) items t → KnowsSource from t) → items ≡ sources.items
     → StandsAs {S = S} {R = R} stands (record { work = Assemble stage sources; ahead = ahead; behind = behind; from = from })
     rest t
-merging_stands stands {stage} {sources} {behind = behind} {t = t} works none shows takes same = record {
-  works = works;
-  alone = λ other. none;
-  knows = ap (λ a. readiness_in a behind) none ∙ merging_readiness works behind shows;
-  takes = λ other. takes t (subst (λ l. IsMerging (Stands stage) l t) (sym same) works);
-}
+merging_stands stands {stage} {sources} {behind = behind} {t = t} works none shows takes same =
+    grind (arith, nat_tests, merging_readiness works behind shows)
 
 -- A stage that isn't a source has no reader.
 
@@ -185,10 +160,7 @@ module _ {S R : Type 0} (remaining : R → Option (List ℕ)) (calls : R → ℕ
 -- where no reader can fail, none has
 pub never_failed : {S R : Type 0} (failed : R → Bool) → ((r : R) → failed r ≡ false) → (n : Node S R)
     → failed_of failed n ≡ false
-never_failed {S} {R} failed never n = by n.work
-  where
-    by : (w : Work S R) → failed_by failed w ≡ false
-    by w = grind (arith, never)
+never_failed = grind (arith, nat_tests)
 
 -- What a poll of its reader has read and given.
 pub polled : {S R : Type 0} (stands : S → Moment → Type 0) (remaining : R → Option (List ℕ)) (node : Node S R)

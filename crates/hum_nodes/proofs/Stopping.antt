@@ -1,7 +1,7 @@
 -- Where a reader stops before the end of the bytes, however they go on, a rule is broken in what it
 -- has read. For with a line that is too long they would break another rule than where they end.
 use Rattle.std.proofs.Common.{◌≡◌, ◌∙◌, refl, sym, ap, ℕ, zero, suc, ◌+◌, ◌-◌, ◌≤◌, ◌<◌, Bool, true, false, ◌==◌}
-use Rattle.std.proofs.Common.{if◌then◌else◌, List, [], ◌∷◌, ◌++◌, length, take, arith, Option, Some, None, append_assoc}
+use Rattle.std.proofs.Common.{List, [], ◌∷◌, ◌++◌, length, take, arith, Option, Some, None, append_assoc}
 use Rattle.std.proofs.Common.{get_or, length-append}
 use Rattle.std.proofs.lemmas.Bool.{ne_eqb}
 use Rattle.std.proofs.lemmas.Bool.Decides.{nat_tests}
@@ -49,10 +49,7 @@ within_limits l p q free m f h =
 last_none : (l : Limits) (p q : List ℕ) (b : ℕ) → fault_within l p (q ++ b ∷ []) ≡ None
     → rule_at l (p ++ (q ++ b ∷ [])) ≡ None
 unfolding fault_within
-last_none l p q b h =
-    let last : fault_within l (p ++ q) (b ∷ []) ≡ None =
-    (or_none (fault_within l p q) _ (sym (within_front l p q (b ∷ [])) ∙ h)).1 in
-    ap (rule_at l) (sym (append_assoc p q (b ∷ []))) ∙ grind (arith, last)
+last_none = grind (arith, nat_tests, or_none, within_front, append_assoc)
 
 -- (97 is the letter a.)
 pub long_breaks : (l : Limits) (before held : List ℕ) → IsAtStart before → NoLf (held ++ 97 ∷ [])
@@ -70,8 +67,7 @@ long_breaks l before held start free long h =
     ∙ ap (λ z. rule_at l (before ++ z)) whole ∙ last_none l before held 97 h in
     let open_line : rule_in l (length (pieces before) + 1) all false (length before + (k + 1)) ≡ None =
     rw (byte, whole) at none in
-    let kept : without_cr all ≡ all =
-    ap (λ b. if b == 13 then take (length all - 1) all else all) (last-snoc held 97 0) in
+    let kept : without_cr all ≡ all = grind (arith, nat_tests, last-snoc) in
     grind (arith, nat_tests, n, long, kept, open_line)
 
 -- Bytes enough.

@@ -1,5 +1,6 @@
 -- What a reader tells before the end of the bytes has settled.
-use Rattle.std.proofs.Common.{◌≡◌, ◌∙◌, refl, sym, ap, ℕ, ◌-◌, ◌≤◌, ◌<◌, true, false, List, [], ◌∷◌, ◌++◌, length, map}
+use Rattle.std.proofs.lemmas.Bool.Decides.{nat_tests}
+use Rattle.std.proofs.Common.{◌≡◌, ◌∙◌, refl, sym, ap, ℕ, ◌-◌, ◌≤◌, ◌<◌, true, false, List, [], ◌∷◌, ◌++◌, length}
 use Rattle.std.proofs.Common.{take, arith, Option, Some, None, append_assoc, append-nil, length-append}
 use Rattle.std.proofs.lemmas.Bool.{false≢true}
 use Rattle.std.proofs.lemmas.List.{length-map, map-append, nil_from_length}
@@ -65,8 +66,7 @@ module _ {R : Type 0} {v : Scores R} {p : List ℕ} {rows : List Row} (h : IsFro
       ap (fault_of standard) (sym (append-nil (h.before ++ all)))
       ∙ after_front standard [] (h.before ++ all) [] ∙ rw stands refl in
       let cut : pieces (h.before ++ all) ≡ pieces h.before ++ all ∷ [] =
-      pieces-append h.before all h.start
-      ∙ ap (λ ps. pieces h.before ++ ps) (pieces-part all some free) in
+      grind (arith, nat_tests, pieces-append, pieces-part) in
       let n : m - 1 ≡ length h.given = omega (
         arith,
         line_behind standard h.before all m f e,
@@ -77,8 +77,7 @@ module _ {R : Type 0} {v : Scores R} {p : List ℕ} {rows : List Row} (h : IsFro
         given_pieces h,
       ) in
       let ls : lines (h.before ++ all) ≡ h.given ++ without_cr all ∷ [] =
-      ap (map without_cr) cut ∙ map-append without_cr (pieces h.before) (all ∷ [])
-      ∙ ap (λ l. l ++ without_cr all ∷ []) h.whole in
+      grind (arith, nat_tests, map-append) in
       let front : take (m - 1) (lines (h.before ++ all)) ≡ h.given ++ [] =
       rw (n, ls) (take-append_seam h.given (without_cr all ∷ []) ∙ sym (append-nil h.given)) in
       let score : score_of (h.before ++ all) ≡ ahead rows (broken_at m (text_rule f)) =
@@ -94,10 +93,7 @@ module _ {R : Type 0} {v : Scores R} {p : List ℕ} {rows : List Row} (h : IsFro
       let pending = v.lines.pending in
       let held = pending ++ q in
       let free = free_append held (97 ∷ []) (free_append pending q fp fq) one_free in
-      let at : p ++ (q ++ 97 ∷ []) ≡ h.before ++ (held ++ 97 ∷ []) =
-      ap (λ z. z ++ (q ++ 97 ∷ [])) h.split
-      ∙ append_assoc h.before pending (q ++ 97 ∷ [])
-      ∙ ap (λ z. h.before ++ z) (sym (append_assoc pending q (97 ∷ []))) in
+      let at : p ++ (q ++ 97 ∷ []) ≡ h.before ++ (held ++ 97 ∷ []) = grind (arith, nat_tests, append_assoc) in
       ap (λ z. limits_at (score_of z).fault) at
       ∙ long_limits (held ++ 97 ∷ []) free (omega (arith, length-append held (97 ∷ []))) _ refl
       (long_breaks standard h.before held h.start free (omega (arith, length-append pending q, long)))

@@ -1,5 +1,6 @@
 -- Trees of stages are plans.
-use Rattle.std.proofs.Common.{◌≡◌, ℕ, zero, suc, ◌+◌, ◌<◌, List, [], ◌∷◌, length, arith}
+use Rattle.std.proofs.lemmas.Bool.Decides.{nat_tests}
+use Rattle.std.proofs.Common.{◌≡◌, ℕ, suc, ◌+◌, ◌<◌, List, ◌∷◌, length, arith}
 use Rattle.std.specs.Prelude.{Some, slice_get}
 use Rattle.std.specs.List.{AllByRecursion}
 use Rattle.hum_score.specs.Row.{Row}
@@ -12,7 +13,7 @@ use Rattle.hum_nodes.specs.Fine.{fine}
 use Rattle.hum_nodes.proofs.SingleLaws as single
 use Rattle.hum_nodes.proofs.MergingLaws as merging
 use Rattle.hum_nodes.proofs.ReadingLaws as reading
-use Rattle.hum_nodes.specs.Trees.{Part, Reads, Through, Beside, sources_of, kind_of, kind_at, part_at, plan_of, IsPart}
+use Rattle.hum_nodes.specs.Trees.{Part, Reads, Through, Beside, sources_of, kind_of, part_at, plan_of, IsPart}
 use Rattle.hum_nodes.specs.Trees.{IsRead, IsTree}
 
 below_part : (count k : ℕ) (part : Part) → IsPart count k part
@@ -33,13 +34,7 @@ keeps_part count k (Through from command) h less =
 keeps_part count k (Beside from) h less = merging.keeps_fine (k + 1) from
 
 pub is_plan : (parts : List Part) → IsTree parts → turns.IsPlan (plan_of parts)
-is_plan parts h = record {
-  some = h.some;
-  below = λ k less. below_part (length parts) k (part_at parts k) (h.each k less);
-  lawful = λ k less. lawful_part (length parts) k (part_at parts k) (h.each k less);
-  keeps = λ k less.
-      keeps_part (length parts) k (part_at parts k) (h.each k (omega arith)) less;
-}
+is_plan = grind (arith, nat_tests, below_part, lawful_part, keeps_part)
 
 -- Faults bear the number of their stage.
 
@@ -53,24 +48,12 @@ sources_kind n part = grind arith
 
 later : (k : ℕ) (xs : List ℕ) (place s : ℕ) → AllByRecursion (λ x. x < k) xs
     → slice_get xs place ≡ Some s → s < k
-later k [] place s h e = cc
-later k (x ∷ xs) zero s h e = let w : x ≡ s = cc in rw (← w) h.0
 later k (x ∷ xs) (suc place) s h e = later k xs place s h.1 e
+later k xs place s h w = grind (arith, nat_tests)
 
 read_later : (parts : List Part) → IsTree parts → (k : ℕ) → IsRead parts k
     → whole.IsRead (plan_of parts) k
-read_later parts h k r =
-    let source : slice_get (kind_at parts r.reader).stage.sources r.place ≡ Some k =
-    rw (sources_kind (r.reader + 1) (part_at parts r.reader)) r.read.source in
-    record {
-      reader = r.reader;
-      place = r.place;
-      later = later r.reader _ r.place k
-          (below_part (length parts) r.reader (part_at parts r.reader) (h.each r.reader r.read.within))
-          source;
-      within = r.read.within;
-      is_there = source;
-    }
+read_later parts h k r = grind (arith, nat_tests, sources_kind, later, below_part)
 
 pub is_numbered : (parts : List Part) → IsTree parts → whole.IsNumbered (plan_of parts)
 is_numbered parts h = record {

@@ -1,4 +1,5 @@
 -- A poll of a reader is a turn of its node.
+use Rattle.std.proofs.lemmas.Bool.Decides.{nat_tests}
 use Rattle.std.proofs.Common.{◌≡◌, ◌∙◌, refl, sym, ap, subst, ℕ, ◌+◌, ◌≤◌, ◌<◌, inr, Bool, true, false, ◌||◌, List, [], ◌∷◌}
 use Rattle.std.proofs.Common.{◌++◌, length, slice_get, arith, Option, Some, None, Result, Ok, Err, append_assoc}
 use Rattle.std.proofs.Common.{append-nil, length-append, lt-ltb}
@@ -8,7 +9,7 @@ use Rattle.hum_score.specs.Row.{Row}
 use Rattle.hum_stage.specs.declared.faults.End.{End}
 use Rattle.hum_text.specs.Reading.{Reader, NeedsRead, IsUnread, IsFed, bytes_read, left_to_do}
 use Rattle.hum_read.specs.declared.ReadError.{ReadError}
-use Rattle.hum_read.specs.Denoted.{Score, score_of, end_at}
+use Rattle.hum_read.specs.Denoted.{Score, end_at}
 use Rattle.hum_read.specs.Reading.{Scores, Polled, Gave, ReadOn, Ended, IsFresh, HasRead, GivesNext, Gives, Denotes}
 use Rattle.hum_read.specs.Reading.{Nears, answer_of, stop_of}
 use Rattle.hum_turns.specs.Flow.{Begins}
@@ -19,7 +20,7 @@ use Rattle.hum_nodes.specs.Reading.{is_ended, is_done, settled_at, reading, HasG
 use Rattle.hum_nodes.proofs.Fronting.{front_is}
 use Rattle.hum_nodes.proofs.Polling.{polls_goes}
 use Rattle.hum_nodes.proofs.ReadingLaws.{all_settled}
-use Rattle.hum_nodes.proofs.Readings.{rests_at, so_far_at, upto, upto_range, given_at, needs_at}
+use Rattle.hum_nodes.proofs.Readings.{so_far_at, upto, upto_range, given_at, needs_at}
 use Rattle.hum_nodes.proofs.Stops.{told_settled}
 
 -- What stands at a place behind a front.
@@ -35,15 +36,7 @@ stands_so : {R : Type 0} {v w : Scores R} {before rest : List ℕ} {t : At} {r g
     {o : Option (Result End ReadError)} (a : IsReading v before t) → w.stage ≡ v.stage → r ≤ most_bytes → w.stopped ≡ o
     → StandsBy o (HasGiven w a.all rest (record t { read = r; given = g })) (record t { read = r; given = g })
     → IsReading w rest (record t { read = r; given = g })
-stands_so {w = w} {rest = rest} {t} {r} {g} a stage few stopped stands =
-    let u = record t { read = r; given = g } in
-    record {
-      all = a.all;
-      kind = a.kind ∙ ap (λ s. reading s a.all) (sym stage);
-      inputs = a.inputs;
-      few = few;
-      stands = subst (λ o. StandsBy o (HasGiven w a.all rest u) u) (sym stopped) stands;
-    }
+stands_so = grind (arith, nat_tests)
 
 -- A poll that read no byte: the bytes so far are those from before, and perhaps their end was read.
 module _ {R : Type 0} {v : Scores R} (w : Scores R) (bs rest : List ℕ) {t : At} (a : IsReading v (bs ++ rest) t)
@@ -60,20 +53,14 @@ module _ {R : Type 0} {v : Scores R} (w : Scores R) (bs rest : List ℕ) {t : At
   unread_same u = h.read ∙ ap (λ b. upto b h.seen) (sym u.1)
 
   no_less : (b : Bool) → v.lines.ended ≡ b → t.read ≤ r
-  no_less true e = let same = unread_same (unread (λ n. false≢true (sym n.going ∙ e))) in omega arith
-  no_less false e = omega (arith, h.read, ap (λ b. upto b h.seen) e, upto_range w.lines.ended h.seen)
+  no_less = grind (arith, nat_tests)
 
   few : r ≤ most_bytes
   few = omega (arith, upto_range w.lines.ended h.seen, h.few)
 
   -- where it has read, it was the end
   last : (b c : Bool) → v.lines.ended ≡ b → w.lines.ended ≡ c → t.read < r → t.read + 1 ≡ t.kind.stage.bytes
-  last true c e f less = let same = unread_same (unread (λ n. false≢true (sym n.going ∙ e))) in omega arith
-  last false false e f less =
-      omega (arith, h.read, ap (λ b. upto b h.seen) e, ap (λ b. upto b h.seen) f, less)
-  last false true e f less =
-      let all = ap length whole ∙ length-append h.seen rest in
-      omega (arith, h.read, ap (λ b. upto b h.seen) e, all, ap length (over f), ap (λ k. k.stage.bytes) a.kind)
+  last = grind (arith, nat_tests, unread_same, false≢true, upto, whole, length-append)
 
   goes : (p : Polled) (after : At → Type 0) → GoesOn (read_to r t) p after → Polls t p after
   goes p after on =
@@ -108,20 +95,12 @@ module _ {R : Type 0} {v : Scores R} (w : Scores R) (bs rest : List ℕ) {t : At
   -- an end
   told_at : {s : Score} {end : End} → settled_at a.all r ≡ s → s.rows ≡ h.rows → end_at v.stage s.fault ≡ end
       → is_done a.all r ≡ true → doing_of (read_to r t) ≡ does.Done end
-  told_at same rows ends is_done =
-      rests_at v.stage a.all (read_to r t) a.kind a.inputs
-      (omega (arith, ap (λ (x : Score). length x.rows) same, ap length rows, h.given)) true is_done
-      ∙ ap (λ (x : Score). does.Done (end_at v.stage x.fault)) same ∙ ap does.Done ends
+  told_at = grind (arith, nat_tests)
 
   done : (b : Bool) → w.lines.ended ≡ b → (end : End)
       → ((more : List ℕ) → (w.lines.ended ≡ true → more ≡ []) → Denotes v.stage (h.seen ++ more) h.rows end)
       → doing_of (read_to r t) ≡ does.Done end
-  done true is end told =
-      let d = rw append-nil at (told [] (λ _. refl)) in
-      let n : a.all ≡ h.seen = whole ∙ ap (λ l. h.seen ++ l) (over is) ∙ append-nil h.seen in
-      let beyond : length a.all < r = omega (arith, ap (λ b. upto b h.seen) is, ap length n) in
-      told_at (all_settled a.all r beyond ∙ ap score_of n) d.records d.ending
-      (ap (λ b. b || is_some (settled_at a.all r).fault) (lt-ltb (length a.all) r beyond))
+  done true is end told = grind (arith, nat_tests, append-nil, whole, upto, told_at, all_settled, lt-ltb)
   done false is end told =
       let front = front_is (h.has (97 ∷ []) (λ e. absurd (false≢true (sym is ∙ stays e)))) in
       let d = told_settled front (λ more. told more (λ e. absurd (false≢true (sym is ∙ e)))) in
