@@ -1,6 +1,7 @@
 -- What is chosen of a list, and what is kept of a record.
 use Rattle.std.proofs.Common.{◌≡◌, ◌≢◌, refl, sym, ap, ℕ, Bool, true, false, not, List, [], ◌∷◌, ◌++◌, length, arith, Option, None, Some}
 use Rattle.std.proofs.Common.{◌+◌, ◌<◌, ◌≤◌, ◌∙◌, drop, get_or, drop-cons, add-one, append-nil, append_assoc}
+use Rattle.std.proofs.lemmas.Bool.Decides.{nat_tests}
 use Rattle.std.proofs.lemmas.List.{drop_all}
 use Rattle.std.specs.List.{list_any, list_all}
 use Rattle.std.specs.Option.{option_to_list}
@@ -17,16 +18,12 @@ use Rattle.hum_extract.specs.Kept.{kept}
 pub chosen_whole : {X : Type 0} (fs : List Bool) (xs : List X) → list_all (λ b. b) fs ≡ true
     → length fs ≡ length xs → chosen fs xs ≡ xs
 chosen_whole [] [] h e = refl
-chosen_whole [] (x ∷ xs) h e = absurd (omega (arith, e))
-chosen_whole (f ∷ fs) [] h e = absurd (omega (arith, e))
 chosen_whole (true ∷ fs) (x ∷ xs) h e = ap (λ rest. x ∷ rest) (chosen_whole fs xs h (omega (arith, e)))
-chosen_whole (false ∷ fs) (x ∷ xs) h e = cc
+chosen_whole fs xs h k = grind (arith, nat_tests)
 
 pub chosen_nothing : {X : Type 0} (fs : List Bool) (xs : List X) → list_any (λ b. b) fs ≡ false → chosen fs xs ≡ []
-chosen_nothing [] xs h = refl
-chosen_nothing (f ∷ fs) [] h = refl
-chosen_nothing (true ∷ fs) (x ∷ xs) h = cc
 chosen_nothing (false ∷ fs) (x ∷ xs) h = chosen_nothing fs xs h
+chosen_nothing fs xs h = grind (arith, nat_tests)
 
 pub filled_one : (kind : SpinedKind) (ts : List (List ℕ)) → ts ≢ [] → filled kind (ts ∷ []) ≡ Spined kind ts ∷ []
 filled_one kind [] some = absurd (some refl)
@@ -36,9 +33,8 @@ filled_one kind (t ∷ ts) some = refl
 
 -- a comment has no tokens
 pub none_chosen : (fs : List Bool) (row : Row) → IsTextOf row (text_of row) → width_of row ≡ 0 → row ∷ [] ≡ kept fs row
-none_chosen fs (Comment text) is none = refl
 none_chosen fs (Spined kind []) is none = absurd (is.1 refl)
-none_chosen fs (Spined kind (t ∷ ts)) is none = absurd (omega (arith, none))
+none_chosen fs row h k = grind (arith, nat_tests)
 
 -- nothing of it
 pub none_kept : (fs : List Bool) (row : Row) → width_of row ≢ 0 → list_any (λ b. b) fs ≡ false → [] ≡ kept fs row

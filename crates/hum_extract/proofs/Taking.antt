@@ -1,6 +1,7 @@
 -- One record more of a score.
 use Rattle.std.proofs.Common.{◌≡◌, ◌≢◌, ◌∙◌, refl, sym, ap, ℕ, suc, ◌+◌, Bool, true, false, not}
-use Rattle.std.proofs.Common.{List, [], ◌∷◌, length, map, None}
+use Rattle.std.proofs.Common.{List, [], ◌∷◌, length, map, None, arith}
+use Rattle.std.proofs.lemmas.Bool.Decides.{nat_tests}
 use Rattle.std.specs.Prelude.{Ok}
 use Rattle.std.specs.List.{list_all}
 use Rattle.std.proofs.lemmas.Bool.{and_parts}
@@ -30,28 +31,12 @@ use Rattle.hum_extract.specs.Kept.{kept}
 -- an interpretation that asks nothing
 
 plain_torn : (fs : List Bool) (signs : List Sign) → list_all is_plain signs ≡ true → is_torn fs signs ≡ false
-plain_torn [] signs h = refl
-plain_torn (f ∷ []) signs h = refl
-plain_torn (f ∷ g ∷ fs) [] h = refl
-plain_torn (f ∷ g ∷ fs) (s ∷ []) h = refl
 plain_torn (f ∷ g ∷ fs) (Plain ∷ t ∷ signs) h = plain_torn (g ∷ fs) (t ∷ signs) h
-plain_torn (f ∷ g ∷ fs) (Split ∷ t ∷ signs) h = cc
-plain_torn (f ∷ g ∷ fs) (Join ∷ t ∷ signs) h = cc
-plain_torn (f ∷ g ∷ fs) (Exchange ∷ t ∷ signs) h = cc
-plain_torn (f ∷ g ∷ fs) (Add ∷ t ∷ signs) h = cc
-plain_torn (f ∷ g ∷ fs) (End ∷ t ∷ signs) h = cc
-plain_torn (f ∷ g ∷ fs) (Exclusive ∷ t ∷ signs) h = cc
+plain_torn fs signs h = grind (arith, nat_tests)
 
 plain_exchanged : (fs : List Bool) (signs : List Sign) → list_all is_plain signs ≡ true → exchanged_flags fs signs ≡ []
-plain_exchanged [] signs h = refl
-plain_exchanged (f ∷ fs) [] h = refl
 plain_exchanged (f ∷ fs) (Plain ∷ signs) h = plain_exchanged fs signs h
-plain_exchanged (f ∷ fs) (Split ∷ signs) h = cc
-plain_exchanged (f ∷ fs) (Join ∷ signs) h = cc
-plain_exchanged (f ∷ fs) (Exchange ∷ signs) h = cc
-plain_exchanged (f ∷ fs) (Add ∷ signs) h = cc
-plain_exchanged (f ∷ fs) (End ∷ signs) h = cc
-plain_exchanged (f ∷ fs) (Exclusive ∷ signs) h = cc
+plain_exchanged fs signs h = grind (arith, nat_tests)
 
 pub softened_none : (ts : List (List ℕ)) → map (softened false) ts ≡ ts
 softened_none [] = refl
@@ -67,14 +52,13 @@ not_join End h = cc
 not_join Exclusive h = cc
 
 plain_touches : (after : Bool) (fs : List Bool) (ts : List (List ℕ)) → all_plain ts ≡ true → touches false (chosen fs (each_piece after ts)) ≡ false
-plain_touches after [] ts h = refl
-plain_touches after (f ∷ fs) [] h = refl
 plain_touches after (true ∷ fs) (t ∷ ts) h =
     let both = and_parts (is_plain (sign_of t)) (all_plain ts) h in
     let same = not_join (sign_of t) both.0 in
     rw same (plain_touches false fs ts both.1)
 plain_touches after (false ∷ fs) (t ∷ ts) h =
     let both = and_parts (is_plain (sign_of t)) (all_plain ts) h in plain_touches (is_join (sign_of t)) fs ts both.1
+plain_touches after fs ts h = grind (arith, nat_tests)
 
 pub plain_cut : (fs : List Bool) (ts : List (List ℕ)) → all_plain ts ≡ true
     → cut fs ts ≡ Ok (filled Interpretation (chosen fs ts ∷ []))
