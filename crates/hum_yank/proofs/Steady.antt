@@ -41,22 +41,18 @@ last_grows (Labels name) row seen = filter_more (is_counted (Labels name)) row s
 -- a range that chooses for good, and one that drops for good
 now_stays : (least more x : ℕ) (range : YankRange) → least ≤ more → chooses_now least x range ≡ true
     → chooses_now more x range ≡ true
-now_stays least more x (Through a b) h e = cc
-now_stays least more x (Onward a) h e = cc
 now_stays least more x (ToEnd a n) h e = both (nat_le a x) (nat_le (x + n) least)
     (nat_le (x + n) more) (λ k. grind (arith, nat_tests, k, h)) e
   where
     both : (b c d : Bool) → (c ≡ true → d ≡ true) → (b && c) ≡ true → (b && d) ≡ true
     both true c d f e = f e
     both false c d f e = cc
-now_stays least more x (FromEnd m n) h e = cc
+now_stays least more x range h e = cc
 
 now_late : (least x : ℕ) (range : YankRange) → chooses_now least x range ≡ true → chooses_late least
     x range ≡ true
-now_late least x (Through a b) e = cc
-now_late least x (Onward a) e = cc
 now_late least x (ToEnd a n) e = e
-now_late least x (FromEnd m n) e = cc
+now_late least x range e = cc
 
 drop_stays : (least more x : ℕ) (range : YankRange) → least ≤ more → drops_now least x range ≡ true
     → drops_now more x range ≡ true
@@ -89,9 +85,7 @@ any_stays p q (x ∷ xs) h e = on (p x) (q x) (h x) e (any_stays p q xs h)
   where
     on : (a b : Bool) → (a ≡ true → b ≡ true) → (a || list_any p xs) ≡ true
         → (list_any p xs ≡ true → list_any q xs ≡ true) → (b || list_any q xs) ≡ true
-    on true b f e k = rw (f refl) refl
-    on false true f e k = refl
-    on false false f e k = k e
+    on = grind (arith, nat_tests)
 
 all_stays : {X : Type 0} (p q : X → Bool) (xs : List X) → ((x : X) → p x ≡ true → q x ≡ true)
     → list_all p xs ≡ true → list_all q xs ≡ true
@@ -100,8 +94,7 @@ all_stays p q (x ∷ xs) h e = on (p x) (q x) (h x) e (all_stays p q xs h)
   where
     on : (a b : Bool) → (a ≡ true → b ≡ true) → (a && list_all p xs) ≡ true
         → (list_all p xs ≡ true → list_all q xs ≡ true) → (b && list_all q xs) ≡ true
-    on true b f e k = rw (f refl) (k e)
-    on false b f e k = cc
+    on = grind (arith, nat_tests)
 
 all_none : {X : Type 0} (p q : X → Bool) (xs : List X) → ((x : X) → p x ≡ true → q x ≡ false)
     → list_all p xs ≡ true → list_any q xs ≡ false
@@ -110,8 +103,7 @@ all_none p q (x ∷ xs) h e = on (p x) (q x) (h x) e (all_none p q xs h)
   where
     on : (a b : Bool) → (a ≡ true → b ≡ false) → (a && list_all p xs) ≡ true
         → (list_all p xs ≡ true → list_any q xs ≡ false) → (b || list_any q xs) ≡ false
-    on true b f e k = rw (f refl) (k e)
-    on false b f e k = cc
+    on = grind (arith, nat_tests)
 
 -- what is chosen or dropped while a spine is open stays so, with a greater last number and
 -- after the close
@@ -163,10 +155,8 @@ unfinished_opened Unopened e = cc
 unfinished_opened (Spines names) e = tt
 
 stays_opened : (path : Path) (row : Row) → IsOpened path → IsOpened (after path row)
-stays_opened path (Comment text) h = h
-stays_opened path (Spined Local tokens) h = h
 stays_opened path (Spined Interpretation tokens) h = tt
-stays_opened path (Spined Values tokens) h = h
+stays_opened path row h = h
 
 all_opened : (past rows : List Row) → IsOpened (path_after past) → IsOpened
     (path_after (passed past rows))
@@ -177,13 +167,12 @@ all_opened past (row ∷ rows) h = all_opened (row ∷ past) rows (stays_opened 
 closed_then : (path : Path) (kind : SpinedKind) (tokens : List (List ℕ)) → IsOpened path → is_closed
     path ≡ true → fault_of path (Spined kind tokens) ≡ None → ⊥
 closed_then Unopened kind tokens opened c e = opened
-closed_then (Spines []) Local tokens opened c e = cc
-closed_then (Spines []) Interpretation tokens opened c e = cc
-closed_then (Spines []) Values tokens opened c e = cc
 closed_then (Spines (name ∷ names)) kind tokens opened c e =
     let k : (length (name ∷ names) == 0) ≡ false = grind (arith, nat_tests) in
     let l : true ≡ false = cc in
     cc
+closed_then (Spines []) Interpretation tokens opened c e = cc
+closed_then path kind tokens opened c e = cc
 
 -- What is decided of a number, by the records so far, stays with one more.
 pub seen_stays : (o : Choice) (seen : List Row) (next : Row) (x : ℕ) (d : Bool) → IsOpened
@@ -252,9 +241,7 @@ numbered_stays o past row rows next (Some x) d score e = kept_stays row
 
 one_kept : (row : Row) (b : Option Bool) (new : List Row) → kept row b ≡ Some (Ok new) → length new
     ≤ 1
-one_kept row None new e = cc
-one_kept row (Some true) new e = let k : row ∷ [] ≡ new = cc in rw (← k) (omega arith)
-one_kept row (Some false) new e = let k : [] ≡ new = cc in rw (← k) (omega arith)
+one_kept = grind (arith, nat_tests)
 
 one_numbered : (o : Choice) (past : List Row) (row : Row) (rows : List Row) (n : Option ℕ)
     (new : List Row) → yank_numbered o past row rows n ≡ Some (Ok new) → length new ≤ 1
