@@ -1,10 +1,10 @@
 //! One source: its spines, and its next record.
-ghost use Rattle.std.specs.Prelude.{◌≡◌, ◌++◌, ◌∷◌, ◌≤◌, [], Bool, false, None, Some, IfOk, OnOk};
+ghost use Rattle.std.specs.Prelude.{◌≡◌, ◌≢◌, ◌++◌, ◌∷◌, ◌≤◌, [], Bool, false, None, Some, IfOk, OnOk};
 ghost use Rattle.std.specs.Prelude.{length, if◌then◌else◌};
 ghost use Rattle.std.specs.List.{AllByRecursion};
+ghost use Rattle.std.specs.Option.{ForSome};
 ghost use Rattle.hum_record.specs.{Building.spelled, Room.rooms_for};
-ghost use Rattle.std.specs.Prelude.{◌≢◌};
-ghost use Rattle.hum_score.specs.{Spelling.IsToken, Row.tokens_of, Row.kind_of, Row.Spined};
+ghost use Rattle.hum_score.specs.{Spelling.IsToken, Row.tokens_of, Row.kind_of, Row.text_of, Row.Spined};
 ghost use Rattle.hum_score.specs.declared.records.Kind.TheVariants.{Global as GlobalKind};
 ghost use Rattle.hum_score.specs.{Spines.width, Rules.fault_of};
 ghost use Rattle.hum_assemble.specs.{Head.first_of, Head.AreLawful, Source.untouched};
@@ -43,7 +43,7 @@ pub struct SourceHead {
     due: bool,
     head: Option<Head>,
     // what is left of the record before it, until the next one is put
-    past: Option<Record>,
+    past: LaidBy,
     ended: Option<End>,
 }
 
@@ -70,14 +70,38 @@ fn bring_behind(row: Record, pool: &mut Spare) {
     pool.keep(row);
 }
 
-/// What is left of a record goes to the pool, mostly to its front.
-#[inline(always)]
-fn bring(past: &mut Option<Record>, pool: &mut Spare) {
-    if let Some(row) = past.take() {
-        if pool.has_first() {
+/// What is left of a record that was given: none with a long text.
+#[derive(Drop)]
+struct LaidBy {
+    row: Option<Record>,
+    ghost short: { ForSome row (λ row. length (text_of row) ≤ 2048) },
+}
+
+impl LaidBy {
+    /// Nothing was given as yet.
+    fn none() -> LaidBy {
+        LaidBy { row: None }
+    }
+
+    /// Keeps it, if it takes little memory; or else it goes to the pool.
+    #[inline(always)]
+    fn keep(&mut self, row: Record, pool: &mut Spare) {
+        if self.row.is_some() || row.text().len() > MOST_LAID_BY {
             bring_behind(row, pool);
-        } else {
-            pool.keep(row);
+            return;
+        }
+        self.row = Some(row);
+    }
+
+    /// Brings it to the pool, mostly to its front.
+    #[inline(always)]
+    fn bring(&mut self, pool: &mut Spare) {
+        if let Some(row) = self.row.take() {
+            if pool.has_first() {
+                bring_behind(row, pool);
+            } else {
+                pool.keep(row);
+            }
         }
     }
 }
@@ -152,7 +176,7 @@ impl SourceHead {
             inside: false,
             due: false,
             head: None,
-            past: None,
+            past: LaidBy::none(),
             ended: None,
         }
     }
@@ -173,7 +197,7 @@ impl SourceHead {
         {
             let (place, width) = (Place::Note, self.paths.width());
             self.head = Some(Head { row, place, width });
-            bring(&mut self.past, pool);
+            self.past.bring(pool);
         } else {
             self.put_any(row, pool);
         }
@@ -188,7 +212,7 @@ impl SourceHead {
         ensures lawful { AreLawful self.old.path (row ∷ []) }
     {
         let (place, width) = stand(self.opened, self.inside, &self.paths, &row);
-        bring(&mut self.past, pool);
+        self.past.bring(pool);
         self.head = Some(Head { row, place, width });
     }
 
@@ -198,11 +222,7 @@ impl SourceHead {
     pub fn lay_by(&mut self, row: Record, pool: &mut Spare)
         ensures { self.new ≡ self.old }
     {
-        if self.past.is_some() || row.text().len() > MOST_LAID_BY {
-            bring_behind(row, pool);
-            return;
-        }
-        self.past = Some(row);
+        self.past.keep(row, pool);
     }
 
     /// Says how the source ends.
