@@ -1,6 +1,7 @@
 -- What a web stands for after an actor has done something.
+use Rattle.std.proofs.lemmas.Bool.Decides.{nat_tests}
 use Rattle.std.proofs.Common.{◌≡◌, sub-one, ◌∙◌, ℕ, pred, ◌-◌, ◌<◌, true, false, List, length, Option, Some, refl, sym, ap}
-use Rattle.std.proofs.Common.{subst, arith, get_or, slice_get, slice_set, slice_index, length-set, inl, inr}
+use Rattle.std.proofs.Common.{subst, arith, get_or, slice_get, slice_set, slice_index, length-set}
 use Rattle.std.proofs.lemmas.Option.{get_or_from_slice_get}
 use Rattle.std.proofs.lemmas.List.{set-get_or}
 use Rattle.circular_buffer.proofs.Places.{slice_get-some}
@@ -52,8 +53,7 @@ module _ {S R : Type 0} {stage : Stage S} {old : Web S R} {s : Scene} {n : ℕ} 
   is_last = rw sub-one (ap pred (many ∙ at.stand.as_many))
 
   last_there : slice_get old.links.items (n - 1) ≡ Some link
-  last_there =
-      nth old.links.items (n - 1) link (omega (arith, many, at.reached.ok.some, at.stand.as_many)) value
+  last_there = grind (arith, nat_tests, nth)
 
   pub sunk : {new : Web S R} (after : port.Link) → Goes link after (λ l. popped l l.waiting)
       → new.nodes.items ≡ old.nodes.items → new.links.items ≡ slice_set old.links.items (n - 1) after
@@ -95,14 +95,7 @@ finished {S} {R} {stage} {k} {old} {new} {s} {e} {link} after may at goes en el 
 
 pub keeps : {S R : Type 0} {k : ℕ} {old new : Web S R} (node : Node S R) → is_source node ≡ false
     → new.nodes.items ≡ slice_set old.nodes.items k node → Keeps k old new
-keeps {S} {R} {k} {old} {new} node kind e = record {
-  others = λ i o. ap (λ (ns : List (Node S R)). slice_get ns i) e ∙ set_other old.nodes.items k node i o;
-  kind = λ x at.
-      elim (set_cases old.nodes.items k node k x (ap (λ (ns : List (Node S R)). slice_get ns k) (sym e) ∙ at)) [
-        | inl here ↦ rw here.1 at kind
-        | inr there ↦ absurd (there.0 refl)
-      ];
-}
+keeps = grind (arith, nat_tests, slice_get, set_other, set_cases)
 
 module _ {S R : Type 0} {stage : Stage S} {k : ℕ} {old : Web S R} {s : Scene} (may : MayAct stage k does.Gives old s) where
   pub gives_room : {link : port.Link} → link ≡ get_or old.links.items k link → room link ≡ true
@@ -162,8 +155,7 @@ module _ {S R : Type 0} {stage : Stage S} {k place : ℕ} {old : Web S R} {s : S
   module _ {change : Flow Row → Flow Row} (w : Passing stage k place old s i link)
       (v : view (left s i) ≡ change (view (s.links i))) where
     pub may_take : MayChange (at_of s.kinds s.links k) change place
-    may_take =
-        may_change s k place i change w.may.about.actor.at.reached w.may.about.actor.less w.lower w.at w.some v w.may.about.does
+    may_take = grind (arith, nat_tests, may_change)
 
     pub passed : {new : Web S R} {node : Node S R} (after : Node S R) (put : port.Link)
         → slice_get old.nodes.items k ≡ Some node

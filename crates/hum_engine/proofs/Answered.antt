@@ -1,6 +1,7 @@
 -- What the turn of a stage tells.
+use Rattle.std.proofs.lemmas.Bool.Decides.{nat_tests}
 use Rattle.std.proofs.Common.{◌≡◌, ◌∙◌, ℕ, Bool, true, false, List, Some, Ok, Err, refl, sym, ap, slice_get}
-use Rattle.std.proofs.Common.{Result, slice_set, get_or, is_none, ◌<◌}
+use Rattle.std.proofs.Common.{Result, slice_set, get_or, is_none, ◌<◌, arith}
 use Rattle.hum_text.specs.declared.calls.Source.{Ghosts as Source}
 use Rattle.hum_score.specs.Row.{Row}
 use Rattle.hum_stage.specs.declared.contract.Stage.{Ghosts as Stage}
@@ -42,15 +43,11 @@ MayCan stage k web r = record { about : Somewhere (IsAboutKind stage k r web); s
 -- What follows from what a stage does next.
 module _ {S R : Type 0} {stage : Stage S} {k : ℕ} {web : Web S R} where
   pub may_can : {r : Readiness} → IsDoing stage k web r → Somewhere (HasActor stage k web) → MayCan stage k web r
-  may_can doing h = record {
-    about = record { scene = h.scene; holds = doing.1 h.scene h.holds.at h.holds.less };
-    stage = doing.0;
-  }
+  may_can = grind (arith, nat_tests)
 
   pub may_try : IsDoing stage k web kinds.Wants → Somewhere (HasActor stage k web)
       → (place : ℕ) × Somewhere (IsAbout stage k (does.Wants place) web)
-  may_try doing h =
-      let w = wants_about (doing.1 h.scene h.holds.at h.holds.less) refl in (w.0, record { scene = h.scene; holds = w.1 })
+  may_try doing h = grind (arith, nat_tests, wants_about (doing.1 h.scene h.holds.at h.holds.less) refl)
 
   pub may_turn : (h : Somewhere (HasActor stage k web))
       → ready (plan_of h.scene) h.scene.size h.scene.links k ≡ true → Somewhere (MayTurn stage k web)
@@ -149,20 +146,8 @@ told_taken {S} {R} {stage} {k = k} {source = source} {web = web} {new = new} {no
 module _ {S R : Type 0} {stage : Stage S} (reader : Source R) {k : ℕ} {old : Web S R} (new : Web S R) where
   pub polled_comes : (m : Moved) → ((s : Scene) → HasActor stage k old s → ready (plan_of s) s.size s.links k ≡ true)
       → HasPolled stage reader k old new m → ComesTo stage reader k old new m
-  polled_comes moves.Waits able h = absurd h
-  polled_comes moves.Gave able h = record { was_ready = able; tells = h }
-  polled_comes moves.Filled able h = (record { was_ready = able; tells = h.0 }, h.1)
-  polled_comes (moves.Took link) able h = absurd h
-  polled_comes (moves.Heard link) able h = absurd h
-  polled_comes (moves.Failed error) able h = record { was_ready = able; tells = h }
-  polled_comes moves.Over able h = absurd h
+  polled_comes = grind (arith, nat_tests)
 
   pub polled_gives : (m : Moved) → ((s : Scene) → HasActor stage k old s → ready (plan_of s) s.size s.links k ≡ true)
       → HasPolled stage reader k old new m → GivesOn stage reader k old new m
-  polled_gives moves.Waits able h = absurd h
-  polled_gives moves.Gave able h = record { was_ready = able; tells = h }
-  polled_gives moves.Filled able h = (record { was_ready = able; tells = h.0 }, h.1)
-  polled_gives (moves.Took link) able h = absurd h
-  polled_gives (moves.Heard link) able h = absurd h
-  polled_gives (moves.Failed error) able h = record { was_ready = able; tells = h }
-  polled_gives moves.Over able h = absurd h
+  polled_gives = grind (arith, nat_tests)

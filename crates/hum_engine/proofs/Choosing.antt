@@ -1,4 +1,5 @@
 -- One step of a run: the actor that is asked, and what its turn leaves known of who is ready.
+use Rattle.std.proofs.lemmas.Bool.Decides.{nat_tests}
 use Rattle.std.proofs.Common.{◌≡◌, ◌∙◌, ℕ, ◌+◌, ◌-◌, ◌<◌, ◌≤◌, Bool, true, false, List, [], ◌∷◌, length, Option, Some, None, refl}
 use Rattle.std.proofs.Common.{sym, ap, subst, arith, ⊎_elim, slice_get, get_or, is_none, ◌&&◌}
 use Rattle.std.proofs.Math.Bool.{and-false}
@@ -297,15 +298,7 @@ module _ {S R W : Type 0} {stage : Stage S} {writer : Sink W} {look : Look} {k :
     (left : (s : Scene) (now : Now Row) → IsNetPlan s.count s.kinds s.size → Sees look s now → Sees (FromLeft k) s now)
     (may : MayStep stage writer look net) where
   may_left : MayStep stage writer (FromLeft k) net
-  may_left = record {
-    start = may.start;
-    scene = may.scene;
-    now = may.now;
-    rests = may.rests;
-    at = may.at;
-    going = may.going;
-    sees = λ rests over. left (may.scene rests over) (may.now rests over) (may.at rests over).plan (may.sees rests over);
-  }
+  may_left = grind (arith, nat_tests)
 
   next_asked : Asked stage writer (leaning side.Left) look k tt tt net
   next_asked =
@@ -318,8 +311,7 @@ module _ {S R W : Type 0} {stage : Stage S} {writer : Sink W} {look : Look} {k :
 -- as of a stage from which another has just taken,
 beside_left : {k by : ℕ} (s : Scene) (now : Now Row) → IsNetPlan s.count s.kinds s.size → Sees (Beside k by) s now
     → Sees (FromLeft k) s now
-beside_left s now plan sees =
-    (omega (arith, sees.0, sees.1), λ j less. sees.3 j (omega (arith, less, sees.0)) (λ e. omega (arith, less, e)))
+beside_left = grind (arith, nat_tests)
 
 module _ {S R W : Type 0} {stage : Stage S} {writer : Sink W} {k by : ℕ} {net : Net S R W}
     (may : MayStep stage writer (Beside k by) net) where
@@ -366,9 +358,7 @@ module _ {S R W : Type 0} {stage : Stage S} {writer : Sink W} {k by : ℕ} {net 
 
   module _ {behind : Net S R W} (h : HasRested stage writer k net behind) where
     pub along_within : k < by → k < length behind.takers.items
-    along_within more =
-        let m = pick_now may in
-        omega (arith, more, m.sees.1, m.running.at.takers.many, ap (λ n. length n.takers.items) h.same)
+    along_within more = grind (arith, nat_tests, pick_now may)
 
     module _ {taker : ℕ} (is : slice_get behind.takers.items k ≡ Some taker) where
       was_taker : slice_get net.takers.items k ≡ Some taker
@@ -382,9 +372,7 @@ module _ {S R W : Type 0} {stage : Stage S} {writer : Sink W} {k by : ℕ} {net 
           (record { alone = λ j takes. at.takers.alone k taker j was_taker takes; behind = most.0; most = most.1 }) sees)
 
       pub along_closer : 256 - taker < 256 - k
-      along_closer =
-          let r = (pick_now may).running in
-          omega (arith, r.at.takers.behind k taker was_taker, r.at.plan.few, (pick_now may).sees.0)
+      along_closer = grind (arith, nat_tests, pick_now may)
 
 module _ {S R W : Type 0} {stage : Stage S} {reader : Source R} {writer : Sink W} {k by : ℕ} {net behind : Net S R W}
     (may : MayStep stage writer (Along k by) net) (less : k ≤ by) where

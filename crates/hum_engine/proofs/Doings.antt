@@ -1,5 +1,6 @@
 -- What a stage does next, by its kind.
-use Rattle.std.proofs.Common.{◌≡◌, ◌∙◌, ℕ, false, List, Some, slice_get, get_or, refl, sym, ap, arith}
+use Rattle.std.proofs.lemmas.Bool.Decides.{nat_tests}
+use Rattle.std.proofs.Common.{◌≡◌, ◌∙◌, ℕ, false, List, Some, slice_get, get_or, sym, ap, arith}
 use Rattle.hum_stage.specs.declared.faults.End.{End}
 use Rattle.hum_stage.specs.declared.contract.Stage.{Ghosts as Stage}
 use Rattle.hum_nodes.specs.At.{At, doing_of, readiness_of}
@@ -20,16 +21,10 @@ pub gives_of : (d : Doing) → readiness_of d ≡ kind.Gives → (d ≡ does.Rea
 gives_of d h never = grind (arith, h, never)
 
 pub wants_of : (d : Doing) → readiness_of d ≡ kind.Wants → (p : ℕ) × (d ≡ does.Wants p)
-wants_of does.Gives h = absurd cc
-wants_of does.Reads h = absurd cc
-wants_of (does.Wants p) h = (p, refl)
-wants_of (does.Done e) h = absurd cc
+wants_of = grind (arith, nat_tests)
 
 done_of : (d : Doing) → readiness_of d ≡ kind.Done → (e : End) × (d ≡ does.Done e)
-done_of does.Gives h = absurd cc
-done_of does.Reads h = absurd cc
-done_of (does.Wants p) h = absurd cc
-done_of (does.Done e) h = (e, refl)
+done_of = grind (arith, nat_tests)
 
 -- A stage that is about to do something of a kind is about to do that.
 module _ {S R : Type 0} {stage : Stage S} {k : ℕ} {web : Web S R} {s : Scene}

@@ -1,6 +1,8 @@
 -- A turn of a source of a web.
+use Rattle.std.proofs.lemmas.Grind.{common_steps}
+use Rattle.std.proofs.lemmas.Bool.Decides.{nat_tests}
 use Rattle.std.proofs.Common.{◌≡◌, ◌∙◌, ℕ, ◌<◌, Bool, true, false, ◌||◌, List, ◌++◌, length, Option, Some, refl, sym}
-use Rattle.std.proofs.Common.{ap, arith, slice_get, slice_set, get_or, length-set, eq-eqb, ne_eqb, nat_lt, is_none}
+use Rattle.std.proofs.Common.{ap, arith, slice_get, slice_set, get_or, length-set, eq-eqb, ne_eqb, is_none}
 use Rattle.std.proofs.Common.{Result, Ok, Err}
 use Rattle.std.specs.Prelude.{IfOk, OnErr}
 use Rattle.std.proofs.lemmas.Option.{slice_get_within, same_Some}
@@ -63,18 +65,12 @@ module _ {S R : Type 0} (stage : Stage S) (k : ℕ) (web : Web S R) (s : Scene) 
 -- A link has room where the plan's has.
 pub room_same : {S R : Type 0} {stage : Stage S} (k : ℕ) {web : Web S R} {s : Scene} {link : port.Link}
     → Stands stage web s → slice_get web.links.items k ≡ Some link → room link ≡ has_room s.size (s.links k)
-room_same k {s = s} {link = link} st at =
-    let p = st.links k link at in
-    ap (λ n. nat_lt n link.waiting.capacity) (ap length p.waiting) ∙ ap (nat_lt (length (s.links k).waiting)) p.capacity
+room_same = grind (arith, nat_tests)
 
 -- What was just put lies there.
 pub still_here : {A : Type 0} (nodes : List A) (k : ℕ) (node after x : A)
     → slice_get nodes k ≡ Some node → x ≡ get_or (slice_set nodes k after) k x → x ≡ after
-still_here nodes k node after x was e =
-    let n = slice_get_within nodes k node was in
-    let len = length-set nodes k after in
-    same_Some x after
-    (sym (nth (slice_set nodes k after) k x (omega (arith, n, len)) e) ∙ set_here nodes k after node was)
+still_here = grind (arith, nat_tests, slice_get_within, length-set, same_Some, nth, slice_set, set_here)
 
 -- A source that is ready is polled.
 module _ {S R : Type 0} {stage : Stage S} {k : ℕ} {old : Web S R} {node : Node S R}
@@ -94,8 +90,7 @@ module _ {S R : Type 0} {stage : Stage S} {k : ℕ} {old : Web S R} {node : Node
   -- what it tells of why it has stopped
   pub why_stopped : {x : Node S R} {o : Option (Result End ReadError)} (after : Node S R)
       → x ≡ get_or (slice_set old.nodes.items k after) k x → o ≡ stopped_of x → stopped_of after ≡ o
-  why_stopped {x} after e told =
-      sym (told ∙ ap stopped_of (still_here old.nodes.items k node after x polled_at e))
+  why_stopped = grind (arith, common_steps)
 
   -- its node is this one then, and no other has changed
   module _ (new : Web S R) (after : Node S R) (nodes : new.nodes.items ≡ slice_set old.nodes.items k after) where

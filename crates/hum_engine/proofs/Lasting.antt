@@ -1,5 +1,6 @@
 -- A net that stands for a plan, however its bytes go on, does so after its turns.
-use Rattle.std.proofs.Common.{◌≡◌, ◌∙◌, ℕ, Bool, true, List, [], ◌++◌, Option, refl, ap, subst, arith}
+use Rattle.std.proofs.lemmas.Bool.Decides.{nat_tests}
+use Rattle.std.proofs.Common.{◌≡◌, ℕ, Bool, true, List, [], ◌++◌, Option, refl, subst, arith}
 use Rattle.std.specs.Prelude.{if◌then◌else◌}
 use Rattle.std.proofs.lemmas.Bool.{cond-true}
 use Rattle.std.proofs.Math.Path.{fun_ext}
@@ -48,9 +49,7 @@ module _ {S R W : Type 0} (stage : Stage S) (reader : Source R) (writer : Sink W
       → (to : Now Row) × NetAt stage writer r.start (record (r.scene (all rests)) { rests = left rests }) new to
   unfolding all
   gone rests =
-      let was : AreOver old.web.nodes.items (all rests) = λ i e.
-      let s = (h.read i).still e in
-      ap (λ l. l ++ left rests i) s.0 ∙ none_left rests i s.1 in
+      let was : AreOver old.web.nodes.items (all rests) = grind (arith, nat_tests, left, none_left) in
       h.goes r.start (record (r.scene (all rests)) { rests = left rests }) (r.now (all rests)) (none_left rests)
       (subst (λ f. NetAt stage writer r.start (record (r.scene (all rests)) { rests = f }) old (r.now (all rests)))
       (r.rests (all rests)) (r.at (all rests) was))

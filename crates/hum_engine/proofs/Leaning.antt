@@ -1,6 +1,7 @@
 -- The actor that an order picks which leans to a side.
+use Rattle.std.proofs.lemmas.Bool.Decides.{nat_tests}
 use Rattle.std.proofs.Common.{◌≡◌, ◌∙◌, ℕ, zero, suc, ◌+◌, ◌<◌, ◌≤◌, Bool, true, false, List, [], ◌∷◌, get_or, refl, sym, ap}
-use Rattle.std.proofs.Common.{arith, subst}
+use Rattle.std.proofs.Common.{arith}
 use Rattle.std.proofs.lemmas.Bool.{false≢true, false_from_ne_true, cond-true, cond-false}
 use Rattle.hum_score.specs.Row.{Row, text_of}
 use Rattle.hum_turns.specs.declared.order.Side.{Side}
@@ -15,11 +16,10 @@ use Rattle.hum_engine.proofs.Running.{some_at}
 -- A flag that is set, and none in front of it.
 first_by : (bs : List Bool) (k : ℕ) → get_or bs k false ≡ true
     → ((j : ℕ) → j < k → get_or bs j false ≡ false) → k ≡ first_true bs
-first_by [] k h below = absurd (false≢true h)
-first_by (b ∷ bs) zero h below = grind (arith, h)
 first_by (b ∷ bs) (suc k) h below =
     let none : b ≡ false = below 0 (omega arith) in
     rw none (ap suc (first_by bs k h (λ j less. below (suc j) (omega (arith, less)))))
+first_by bs k h w = grind (arith, nat_tests)
 
 none_set : (bs : List Bool) → ((j : ℕ) → get_or bs j false ≡ false) → some_true bs ≡ false
 none_set [] none = refl
@@ -44,10 +44,7 @@ module _ (s : Scene) (now : Now Row) {k : ℕ} (within : k ≤ s.count) (is : is
   chosen_here pick same = rw (← same) (sym (cond-true _ k (first_true (ready_list (plan_of s) s.size now)) here))
 
   pub left_choice : Sees (FromLeft k) s now → k ≡ choice (leaning side.Left) (plan_of s) s.size tt now
-  left_choice sees =
-      let f = is_ready (plan_of s) s.size now in
-      chosen_here _ (first_by (ready_list (plan_of s) s.size now) k here
-      (λ j less. entry f (s.count + 1) j (omega (arith, less, within)) ∙ sees.1 j less))
+  left_choice = grind (arith, nat_tests, chosen_here, first_by, here, entry)
 
   pub right_choice : Sees (FromRight k) s now → k ≡ choice (leaning side.Right) (plan_of s) s.size tt now
   right_choice sees =
@@ -63,10 +60,4 @@ pub leans_alike : {O : Type 0} (to : Side) (order : Order O) (o : O) (s : Scene)
     → Driven order (plan_of s) s.size text_of o old ks new o
 leans_alike to order o s leans [] old new d = (d.0, refl)
 leans_alike {O} to order o s leans (k ∷ ks) old new d =
-    let list = ready_list (plan_of s) s.size old in (
-      d.0,
-      d.1 ∙ ap (chosen list) (sym (leans.outermost_is list)),
-      d.2,
-      subst (λ (p : O). Driven order (plan_of s) s.size text_of p d.0 ks new o) (sym (leans.stays list))
-          (leans_alike to order o s leans ks d.0 new d.3),
-    )
+    grind (arith, nat_tests, leans_alike to order o s leans ks d.0 new d.3)

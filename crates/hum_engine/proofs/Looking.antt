@@ -1,14 +1,14 @@
 -- Who is known not to be ready once an actor was asked.
+use Rattle.std.proofs.lemmas.Bool.Decides.{nat_tests}
 use Rattle.std.proofs.Common.{◌≡◌, ◌≢◌, ◌∙◌, ◌⊎◌, ℕ, zero, suc, ◌+◌, ◌-◌, ◌<◌, ◌≤◌, true, false, List, [], ◌∷◌, Some, None}
 use Rattle.std.proofs.Common.{is_none, ◌&&◌, refl, sym, ap, subst, arith, inl, inr, ⊎_elim, slice_get}
 use Rattle.std.specs.List.{AllByRecursion}
 use Rattle.std.proofs.lemmas.Bool.{false≢true, false_from_ne_true, cases_eq, cases_lt}
-use Rattle.std.proofs.lemmas.Option.{none-some, same_Some}
+use Rattle.std.proofs.lemmas.Option.{none-some}
 use Rattle.hum_score.specs.Row.{Row, text_of}
 use Rattle.hum_turns.specs.Turns.{State, Gives, Reads, Takes, Ends, state, ready, Step}
 use Rattle.hum_turns.specs.Failures.{Now, Turn, is_ready, result}
 use Rattle.hum_turns.specs.Near.{touched, LooksAt, IsOneOf}
-use Rattle.hum_turns.specs.Plan.{last}
 use Rattle.hum_turns.proofs.Near.{ready_untouched}
 use Rattle.hum_turns.proofs.States.{taker, last_next}
 use Rattle.hum_engine.specs.Looks.{Sees, FromLeft, Beside, Along, FromRight, Reaches}
@@ -19,9 +19,8 @@ use Rattle.hum_engine.specs.Scene.{Scene, plan_of, TakesFrom, IsNetPlan}
 
 pub index_all : (P : ℕ → Type 0) (ss : List ℕ) (place t : ℕ) → AllByRecursion P ss
     → slice_get ss place ≡ Some t → P t
-index_all P [] place t h e = absurd (none-some t e)
-index_all P (x ∷ ss) zero t h e = subst P (same_Some x t e) h.0
 index_all P (x ∷ ss) (suc place) t h e = index_all P ss place t h.1 e
+index_all P ss place t h k = grind (arith, nat_tests)
 
 one_of : (ss : List ℕ) (t : ℕ) → IsOneOf ss t ⊎ (IsOneOf ss t → ⊥)
 one_of [] t = inr (λ one. none-some t one.1)
@@ -31,8 +30,7 @@ one_of (x ∷ ss) t = elim (cases_eq x t) [
 ]
   where
     behind : (place : ℕ) → x ≢ t → (IsOneOf ss t → ⊥) → slice_get (x ∷ ss) place ≡ Some t → ⊥
-    behind zero apart none e = apart (same_Some x t e)
-    behind (suc place) apart none e = none (place, e)
+    behind = grind (arith, nat_tests)
 
 -- Who takes from a link is told.
 takes_or : (s : Scene) (r t : ℕ) → TakesFrom s.count s.kinds r t ⊎ (TakesFrom s.count s.kinds r t → ⊥)
@@ -40,19 +38,12 @@ takes_or s r t = elim (cases_lt r s.count) [
   | inl less ↦ ⊎_elim (λ one. inl (inl (less, one)))
       (λ none. inr (⊎_elim (λ w. none w.1) (λ w. omega (arith, less, w.0))))
       (one_of (s.kinds r).stage.sources t)
-  | inr more ↦ elim (cases_eq r s.count) [
-    | inl sink ↦ ⊎_elim (λ at. inl (inr (sink, at)))
-        (λ apart. inr (⊎_elim (λ w. omega (arith, more, w.0)) (λ w. apart w.1)))
-        (cases_eq t (last (plan_of s)))
-    | inr apart ↦ inr (⊎_elim (λ w. omega (arith, more, w.0)) (λ w. apart w.0))
-  ]
+  | inr more ↦ grind (arith, nat_tests, cases_eq, ⊎_elim)
 ]
 
 -- It stands behind that, and so does each actor that a stage reaches.
 takes_above : (s : Scene) → IsNetPlan s.count s.kinds s.size → (r t : ℕ) → TakesFrom s.count s.kinds r t → t < r
-takes_above s plan r t = ⊎_elim
-    (λ w. index_all (λ i. i < r) (s.kinds r).stage.sources w.1.0 t (plan.ok.below r w.0) w.1.1)
-    (λ w. omega (arith, w.0, w.1, last_next s.count plan.ok.some))
+takes_above = grind (arith, nat_tests, ⊎_elim, index_all, last_next)
 
 reaches_up : (s : Scene) → IsNetPlan s.count s.kinds s.size → {k j : ℕ} → Reaches s.count s.kinds k j → k ≤ j
 reaches_up s plan Itself = omega arith
@@ -73,10 +64,7 @@ module _ {s : Scene} {k link : ℕ} {old new : Now Row} (t : IsTurn s k link old
   by_state Gives e is apart = absurd (apart (sym is))
   by_state Reads e is apart = absurd (apart (sym is))
   by_state Ends e is apart = absurd (apart (sym is))
-  by_state (Takes i) e is apart = ⊎_elim
-      (λ w. inl (w.0, (w.1.place, w.1.is_there ∙ ap Some (sym is))))
-      (λ w. inr (omega (arith, w.0, t.within), is ∙ w.1))
-      (taker (plan_of s) t.plan.ok old.links k i e)
+  by_state (Takes i) e is apart = grind (arith, nat_tests, taker (plan_of s) t.plan.ok old.links k i e)
 
   pub took : k ≢ link → TakesFrom s.count s.kinds k link
   took = by_state (state (plan_of s) old.links k) refl t.link_is
@@ -107,10 +95,7 @@ module _ {s : Scene} {k link taker : ℕ} {old new : Now Row} (t : IsTurn s k li
   apart_as_ready : (j : ℕ) → j ≤ s.count → j ≢ link → (TakesFrom s.count s.kinds j link → ⊥)
       → is_ready (plan_of s) s.size new j ≡ is_ready (plan_of s) s.size old j
   apart_as_ready j less apart other =
-      let far : LooksAt (plan_of s) j link → ⊥ = λ looks. ⊎_elim
-      (λ w. ⊎_elim (λ (own : link ≡ j). apart (sym own)) (λ one. other (inl (w.0, one))) w.1)
-      (λ w. let p = w.0 in other (inr (omega (arith, p, less), w.1)))
-      looks in
+      let far : LooksAt (plan_of s) j link → ⊥ = grind (arith, nat_tests, ⊎_elim) in
       ap (λ o. is_none o && ready (plan_of s) s.size new.links j) t.none
       ∙ ready_untouched (plan_of s) t.plan.ok s.size k old.links new.links (moves t) j
       (subst (λ i. LooksAt (plan_of s) j i → ⊥) t.link_is far)

@@ -1,8 +1,9 @@
 -- Nodes and links after one of each has changed.
+use Rattle.std.proofs.lemmas.Bool.Decides.{nat_tests}
 use Rattle.std.proofs.Common.{◌≡◌, ◌≢◌, ℕ, ◌+◌, ◌<◌, ◌⊎◌, if◌then◌else◌, nat_eq, List, [], ◌∷◌, map, length, Some}
 use Rattle.std.proofs.Common.{slice_get, slice_set, get_or, refl, sym, ap, ◌∙◌, subst, inl, inr, arith, append_assoc}
-use Rattle.std.proofs.Common.{length-append, length-set, eq-eqb, ne_eqb}
-use Rattle.std.proofs.lemmas.Bool.{cases_eq, cond-true, cond-false}
+use Rattle.std.proofs.Common.{length-append, length-set}
+use Rattle.std.proofs.lemmas.Bool.{cases_eq}
 use Rattle.std.proofs.lemmas.Option.{same_Some, slice_get_read, slice_get_within}
 use Rattle.std.proofs.Math.Path.{fun_ext}
 use Rattle.circular_buffer.proofs.Places.{slice_get-set_same, slice_get-set_other}
@@ -26,9 +27,7 @@ pub set_cases : {X : Type 0} (xs : List X) (k : ℕ) (y : X) (i : ℕ) (x : X)
 set_cases xs k y i x h =
     let within = slice_get_within (slice_set xs k y) i x h in
     elim (cases_eq i k) [
-      | inl is ↦
-          let put = slice_get-set_same xs k y (omega (arith, within, length-set xs k y, is)) in
-          inl (is, same_Some y x (sym put ∙ rw is at h))
+      | inl is ↦ grind (arith, nat_tests, slice_get-set_same, length-set, same_Some)
       | inr other ↦ inr (other, sym (slice_get-set_other xs k i y other) ∙ h)
     ]
 
@@ -51,10 +50,7 @@ put_at m k l = λ i. if nat_eq i k then l else m i
 
 pub put_becomes : (m : Moment Row) (k : ℕ) (l : Link Row) → Becomes k l m (put_at m k l)
 unfolding put_at
-put_becomes m k l = record {
-  here = cond-true _ _ _ (eq-eqb k k refl);
-  elsewhere = λ i h. cond-false _ _ _ (ne_eqb i k h);
-}
+put_becomes = grind (arith, nat_tests)
 
 -- What a node stands for, by its parts.
 
@@ -72,8 +68,7 @@ at_same kinds old new i a r g = rw (a, r, g)
 -- what a link shows that was changed, and others, where that shows the same
 pub shows_same : {R A : Type 0} (f : Link R → A) {l : Link R} {old new : ℕ → Link R} {k : ℕ} → Becomes k l old new
     → f l ≡ f (old k) → (i : ℕ) → f (new i) ≡ f (old i)
-shows_same f {k = k} d e i =
-    elim (cases_eq i k) [ inl here ↦ rw (here, d.here) e | inr other ↦ ap f (d.elsewhere i other) ]
+shows_same = grind (arith, nat_tests)
 
 -- where one link changes but its reader's view doesn't, each stage has its inputs
 pub ins_same : (kinds : ℕ → Kind) (l : Link Row) (old new : Moment Row) (k : ℕ)
@@ -110,24 +105,13 @@ module _ {S R : Type 0} (stage : Stage S) (s : Scene) where
 pub links_set : (size : ℕ) (l : Link Row) (old new : Moment Row) (links : List port.Link) (k : ℕ)
     (link : port.Link) → LinksStand size old links → IsLink size link l → Becomes k l old new
     → LinksStand size new (slice_set links k link)
-links_set size l old new links k link h p d i x at =
-    elim (set_cases links k link i x at) [
-      | inl here ↦ rw (here.0, sym here.1, d.here) p
-      | inr there ↦ rw (d.elsewhere i there.0) (h i x there.1)
-    ]
+links_set size l old new links k link h p d i x at = grind (arith, nat_tests, set_cases links k link i x)
 
 -- a source has read: its link is as it was
 pub links_read : (size : ℕ) (old new : Moment Row) (links : List port.Link) (k n : ℕ)
     → LinksStand size old links → Becomes k (record (old k) { read = n }) old new
     → LinksStand size new links
-links_read size old new links k n h d i x at =
-    let p = h i x at in
-    record {
-      waiting = p.waiting ∙ sym (shows_same (λ (l : Link Row). l.waiting) d refl i);
-      capacity = p.capacity;
-      mark = p.mark ∙ sym (shows_same (λ (l : Link Row). l.mark) d refl i);
-      heard = p.heard ∙ sym (shows_same (λ (l : Link Row). l.heard) d refl i);
-    }
+links_read = grind (arith, nat_tests)
 
 -- What is so after an actor has done this.
 pub record Did {S R : Type 0} (stage : Stage S) (s : Scene) (k : ℕ) (doing : State)

@@ -2,7 +2,7 @@
 use Rattle.std.proofs.Common.{◌≡◌, ◌≢◌, ◌⊎◌, ◌∙◌, ℕ, ◌+◌, ◌<◌, ◌≤◌, Bool, true, false, ◌&&◌, if◌then◌else◌, nat_eq, pred}
 use Rattle.std.proofs.Common.{List, [], ◌∷◌, ◌++◌, length, slice_get, append-nil, length-append, Option, Some, None, is_none}
 use Rattle.std.proofs.Common.{refl, sym, ap, subst, inl, inr, arith}
-use Rattle.std.proofs.lemmas.Bool.{and_parts, false≢true, cases_eq}
+use Rattle.std.proofs.lemmas.Bool.{and_parts, false≢true}
 use Rattle.std.proofs.lemmas.Bool.Decides.{nat_tests}
 use Rattle.std.proofs.lemmas.Option.{none-some}
 use Rattle.std.proofs.Math.Path.{fun_ext}
@@ -24,7 +24,7 @@ use Rattle.hum_turns.proofs.Near.{step_taken, step_heard, step_does, ready_sink}
 use Rattle.hum_turns.proofs.States.{sink_state, last_less, source_is}
 use Rattle.hum_nodes.specs.Nodes.{ended_of}
 use Rattle.hum_nodes.specs.Polls.{HasRead}
-use Rattle.hum_nodes.proofs.Followed.{read_once, read_none, read_stayed}
+use Rattle.hum_nodes.proofs.Followed.{read_once, read_stayed}
 use Rattle.hum_nodes.proofs.Standing.{source_bytes}
 use Rattle.hum_engine.specs.declared.web.Web.{Web}
 use Rattle.hum_engine.specs.declared.net.Net.{Net}
@@ -52,18 +52,7 @@ module _ {S R W : Type 0} {stage : Stage S} {writer : Sink W} {start : Option (L
     {now : Now Row} (h : NetAt stage writer start s net now) where
   -- While no failure has ended the run, as the web sees it.
   pub web_at : now.failure ≡ None → IsAt stage net.web (moved s now.links)
-  web_at none = record {
-    reached = record {
-      ok = h.plan.ok;
-      tree = h.plan.tree;
-      some = h.plan.some;
-      first = h.first.links;
-      turns = h.turns;
-      start = h.begin.links;
-      run = (walk_going (plan_of s) s.size text_of h.turns h.first now h.begin none h.walk).0;
-    };
-    stand = h.going none;
-  }
+  web_at = grind (arith, nat_tests, walk_going)
 
   -- While the run goes on.
   module _ (none : result (plan_of s) now ≡ None) where
@@ -89,10 +78,7 @@ module _ {S R W : Type 0} {stage : Stage S} {writer : Sink W} {start : Option (L
 
     -- the sink
     pub may_write : s.count ≤ k → MayWrite stage net.web (moved s now.links)
-    may_write past = record {
-      at = at_now ready_result;
-      some = sym (ready_sink (plan_of s) s.size k now.links past) ∙ ready_now;
-    }
+    may_write = grind (arith, nat_tests, at_now, ready_result, ready_sink, ready_now)
 
 -- The same with all arguments.
 module _ {S R W : Type 0} (stage : Stage S) (writer : Sink W) (start : Option (List ℕ)) (s : Scene) (net : Net S R W)
@@ -104,9 +90,6 @@ module _ {S R W : Type 0} (stage : Stage S) (writer : Sink W) (start : Option (L
   unfailed_now none = unfailed_at h none
 
 -- The bytes of one source alone.
-
-only_at : (k : ℕ) (read : List ℕ) → only k read k ≡ read
-only_at k read = grind (arith, nat_tests)
 
 only_else : (k : ℕ) (read : List ℕ) (i : ℕ) → i ≢ k → only k read i ≡ []
 only_else k read i o = grind (arith, nat_tests, o)
@@ -160,9 +143,7 @@ module _ {S R W : Type 0} {stage : Stage S} {writer : Sink W} {start : Option (L
           takers = h.takers;
           going = going;
           failure = refl;
-          written = subst (Appends start (writer.contents sink))
-              (ap (λ p. (was ++ p) ++ sent) part ∙ ap (λ l. l ++ sent) (append-nil was) ∙ sym sum)
-              (appends_trans start (writer.contents old.sink) (writer.contents sink) (was ++ now.part) sent h.written appends);
+          written = grind (arith, nat_tests, append-nil, appends_trans);
           is_flushed = over;
         };
         tells = tells;
@@ -195,10 +176,7 @@ module _ {S R : Type 0} (reader : Source R) (k : ℕ) (old new : Web S R) (other
     (here : HasRead (ended_at k old.nodes.items) (ended_at k new.nodes.items) (remaining_at reader k old.nodes.items) (remaining_at reader k new.nodes.items) read) where
   read_by : (i : ℕ) → HasRead (ended_at i old.nodes.items) (ended_at i new.nodes.items) (remaining_at reader i old.nodes.items)
       (remaining_at reader i new.nodes.items) (only k read i)
-  read_by i = elim (cases_eq i k) [
-    | inl is ↦ rw (is, only_at k read) here
-    | inr other ↦ rw (others i other, only_else k read i other) (read_none _ _)
-  ]
+  read_by = grind (arith, nat_tests)
 
 -- What a stage's turn comes to that fails or doesn't.
 abbrev pub ComesTo : {S R : Type 0} → Stage S → Source R → ℕ → Web S R → Web S R → Option RunResult → Type 0
@@ -273,8 +251,7 @@ module _ {S R W : Type 0} {stage : Stage S} {reader : Source R} {writer : Sink W
 -- How a run ended.
 
 pub none_of : {A : Type 0} (o : Option A) → ((x : A) → o ≡ Some x → ⊥) → o ≡ None
-none_of None h = refl
-none_of (Some x) h = absurd (h x refl)
+none_of = grind (arith, nat_tests)
 
 -- told by a test
 pub not_over : {A : Type 0} {b : Bool} (o : Option A) → b ≡ is_some o → b ≡ false → o ≡ None

@@ -1,6 +1,7 @@
 -- What a stage that isn't a source gives or takes next.
+use Rattle.std.proofs.lemmas.Bool.Decides.{nat_tests}
 use Rattle.std.proofs.lemmas.Option.{same_Some}
-use Rattle.std.proofs.Common.{◌≡◌, ◌∙◌, ◌<◌, ℕ, length, true, false, List, [], Some}
+use Rattle.std.proofs.Common.{◌≡◌, ◌∙◌, ◌<◌, ℕ, length, true, false, List, [], Some, arith}
 use Rattle.std.proofs.Common.{slice_get, slice_set, slice_index, get_or, refl, sym, ap}
 use Rattle.hum_stage.specs.declared.contract.Stage.{Ghosts as Stage}
 use Rattle.hum_turns.specs.Links.{view}
@@ -64,11 +65,7 @@ module _ {S R : Type 0} {stage : Stage S} {k : ℕ} {web : Web S R} {node : Node
             let stand = here.stand.nodes k node there in
             let h = gives _ _ stand in
             record {
-              about = record {
-                actor = record { at = here; less = less };
-                bytes = stage_bytes stage.stands node (u.rests k) _ kind stand;
-                does = h.1;
-              };
+              about = grind (arith, nat_tests, stage_bytes);
               can = ap (can u.size u.links k) (state_gives u u.links k less h.1) ∙ room_in here.stand room;
             };
       }
@@ -122,8 +119,7 @@ wanting {stage = stage} {k = k} {web = web} {s = s} {node = node} a stage_kind v
       node = node;
       is = there;
       kind = kind;
-      wants = λ rest t h.
-          wants_of (doing_of t) (ap (λ b. readiness_at b (doing_of t)) (sym kind) ∙ sym h.knows ∙ knows);
+      wants = grind (arith, nat_tests, wants_of);
       from = from kind;
     }
 
@@ -144,11 +140,7 @@ module _ {S R : Type 0} {stage : Stage S} {k source : ℕ} {web : Web S R} (w : 
     next_place = (w.wants (s.rests k) _ standing).0
 
     pub next_about : IsAbout stage k (does.Wants next_place) web s
-    next_about = record {
-      actor = h;
-      bytes = stage_bytes stage.stands w.node (s.rests k) _ w.kind standing;
-      does = (w.wants (s.rests k) _ standing).1;
-    }
+    next_about = grind (arith, nat_tests, stage_bytes stage.stands w.node (s.rests k) _ w.kind standing)
 
     pub next_source : source ≡ slice_index (s.kinds k).stage.sources next_place
     next_source = w.from (s.rests k) _ next_place standing next_about.does

@@ -1,8 +1,9 @@
 -- Who takes from each link, as it is noted stage by stage.
-use Rattle.std.proofs.Common.{◌≡◌, ◌≢◌, ◌∙◌, ℕ, zero, suc, ◌+◌, ◌<◌, ◌≤◌, ◌⊎◌, List, [], ◌∷◌, length, Some}
+use Rattle.std.proofs.lemmas.Bool.Decides.{nat_tests}
+use Rattle.std.proofs.Common.{◌≡◌, ◌≢◌, ◌∙◌, ℕ, suc, ◌+◌, ◌<◌, ◌≤◌, ◌⊎◌, List, [], ◌∷◌, length, Some}
 use Rattle.std.proofs.Common.{refl, sym, ap, subst, arith, inl, inr, ⊎_elim, slice_get, slice_set, length-set}
 use Rattle.std.proofs.lemmas.Bool.{cases_eq}
-use Rattle.std.proofs.lemmas.Option.{none-some, same_Some}
+use Rattle.std.proofs.lemmas.Option.{none-some}
 use Rattle.hum_turns.specs.Plan.{last}
 use Rattle.hum_turns.specs.Near.{IsOneOf}
 use Rattle.hum_turns.proofs.States.{last_next}
@@ -30,8 +31,7 @@ set_each_cases (place ∷ places) k list t r h = ⊎_elim
     (set_each_cases places k (slice_set list place k) t r h)
   where
     apart : (IsOneOf places t → ⊥) → t ≢ place → (i : ℕ) → slice_get (place ∷ places) i ≡ Some t → ⊥
-    apart none other zero e = other (sym (same_Some place t e))
-    apart none other (suc i) e = none (i, e)
+    apart = grind (arith, nat_tests)
 
 -- So far the takers among the first stages are noted, and the sink is that of all other links.
 pub record AreNoted (k : ℕ) (s : Scene) (takers : List ℕ) : Type 0 where
@@ -43,19 +43,13 @@ pub record AreNoted (k : ℕ) (s : Scene) (takers : List ℕ) : Type 0 where
 module _ (s : Scene) (plan : IsNetPlan s.count s.kinds s.size) where
   pub none_noted : (takers : List ℕ) → length takers ≡ s.count
       → ((t r : ℕ) → slice_get takers t ≡ Some r → (t < s.count) × (r ≡ s.count)) → AreNoted 0 s takers
-  none_noted takers many all = record {
-    many = many;
-    behind = λ t r h. let e = all t r h in (omega (arith, e.0, e.1), omega (arith, e.1));
-    alone = λ t r j h less. absurd (omega (arith, less));
-    sink = λ r h. (all (last (plan_of s)) r h).1;
-  }
+  none_noted = grind (arith, nat_tests)
 
   pub one_noted : (k : ℕ) (takers : List ℕ) → k < s.count → AreNoted k s takers
       → AreNoted (k + 1) s (set_each (s.kinds k).stage.sources k takers)
   one_noted k takers less noted =
       let sources = (s.kinds k).stage.sources in
-      let lower : (t : ℕ) → IsOneOf sources t → t < k =
-      λ t one. index_all (λ i. i < k) sources one.0 t (plan.ok.below k less) one.1 in
+      let lower : (t : ℕ) → IsOneOf sources t → t < k = grind (arith, nat_tests, index_all) in
       record {
         many = length-set_each sources k takers ∙ noted.many;
         behind = λ t r h. ⊎_elim

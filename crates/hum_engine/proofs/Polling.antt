@@ -1,4 +1,5 @@
 -- A turn of a source.
+use Rattle.std.proofs.lemmas.Bool.Decides.{nat_tests}
 use Rattle.std.proofs.Common.{◌≡◌, ℕ, ◌+◌, ◌<◌, ◌≤◌, true, List, Some, slice_get}
 use Rattle.std.proofs.Common.{slice_set, slice_index, refl, sym, ◌∙◌, subst, ⊎_elim, inl, arith, lt-ltb}
 use Rattle.std.proofs.lemmas.Bool.{cond-true}
@@ -94,8 +95,7 @@ module _ {S R : Type 0} (stage : Stage S) (s : Scene) (k : ℕ) (nodes : List (N
         let d = moves_on p s.links others hl h l in
         record {
           new = d.new;
-          step = step_does (plan_of s) s.size k (state (plan_of s) s.links k) s.links d.new
-              (omega (arith, less)) is_ready refl other d.does;
+          step = grind (arith, nat_tests, step_does);
           at_nodes = d.at_nodes;
           at_links = d.at_links;
         }
@@ -112,9 +112,7 @@ module _ {S R : Type 0} (stage : Stage S) (s : Scene) (k : ℕ) (nodes : List (N
         (subst (λ t. GoesOn t p (StandsAs stage.stands node (s.rests k))) (sym r.at) h) l in
         record {
           new = d.new;
-          step = step_reads (plan_of s) s.size k s.links r.mid d.new (omega (arith, less)) is_ready
-              (state_at s s.links k less e)
-              (record { upto = n; more = more; within = within; becomes = r.becomes }) last d.does;
+          step = grind (arith, nat_tests, step_reads, state_at);
           at_nodes = d.at_nodes;
           at_links = d.at_links;
         }

@@ -1,11 +1,12 @@
 -- What a web tells of who is ready.
+use Rattle.std.proofs.lemmas.Bool.Decides.{nat_tests}
 use Rattle.std.proofs.Common.{◌≡◌, ◌∙◌, ℕ, ◌<◌, Bool, true, false, length, Some, ◌&&◌, is_none, is_some, ◌||◌, nat_lt}
 use Rattle.std.proofs.Common.{None, sym, ap, ap₂, arith, slice_get, slice_index, get_or}
 use Rattle.hum_stage.specs.declared.contract.Stage.{Ghosts as Stage}
 use Rattle.hum_turns.specs.Links.{has_room, has_some}
 use Rattle.hum_turns.specs.Turns.{state, can, ready}
 use Rattle.hum_turns.proofs.Near.{ready_reader}
-use Rattle.hum_turns.proofs.States.{reads_bytes, wanted}
+use Rattle.hum_turns.proofs.States.{wanted}
 use Rattle.hum_stage.specs.declared.faults.End.{End}
 use Rattle.hum_nodes.specs.Doing.{Doing}
 use Rattle.hum_nodes.specs.Doing as does
@@ -59,9 +60,7 @@ module _ {S R : Type 0} {stage : Stage S} {k : ℕ} {web : Web S R} {s : Scene} 
 
   -- it never reads
   pub never : IsAbout stage k does.Reads web s → ⊥
-  never a =
-      let n = reads_bytes (plan_of s) a.actor.at.reached.ok s.links k a.actor.less (state_at s s.links k a.actor.less a.does) in
-      omega (arith, n, a.bytes)
+  never = grind (arith, nat_tests)
 
   pub touched_gives : IsAbout stage k does.Gives web s → k ≡ touched k (state (plan_of s) s.links k)
   touched_gives a = sym (ap (touched k) (state_gives s s.links k a.actor.less a.does))

@@ -1,12 +1,12 @@
 -- Turns that an order drives, and what they lead to.
+use Rattle.std.proofs.lemmas.Bool.Decides.{nat_tests}
 use Rattle.std.proofs.Common.{◌≡◌, ◌∙◌, ℕ, ◌+◌, ◌<◌, ◌≤◌, Bool, true, false, List, [], ◌∷◌, ◌++◌, map, length, length-set, take}
-use Rattle.std.proofs.Common.{Option, Some, None, refl, sym, ap, subst, arith, inl, inr, ⊎_elim, add-one, slice_set, get_or}
-use Rattle.std.proofs.Common.{zero, suc, Vec, Global}
-use Rattle.std.specs.Prelude.{is_some, is_none, IfSome}
-use Rattle.std.proofs.lemmas.Bool.{false≢true, and_from}
+use Rattle.std.proofs.Common.{Option, Some, None, refl, sym, ap, subst, arith, ⊎_elim, add-one, slice_set, get_or}
+use Rattle.std.proofs.Common.{suc, Vec, Global}
+use Rattle.std.specs.Prelude.{is_some, IfSome}
+use Rattle.std.proofs.lemmas.Bool.{and_from}
 use Rattle.std.proofs.Math.Seq.{take-suc-set}
 use Rattle.std.proofs.lemmas.List.{map-append}
-use Rattle.std.proofs.lemmas.Option.{none-some, same_Some}
 use Rattle.std.specs.Io.KnownBytes.{Appends}
 use Rattle.hum_text.specs.declared.calls.Sink.{Ghosts as Sink}
 use Rattle.hum_score.specs.Row.{Row, text_of}
@@ -20,30 +20,27 @@ use Rattle.hum_turns.specs.Meaning.{plan_meaning}
 use Rattle.hum_turns.specs.Failures.{Now, HoldsNow, ended_by, result, written, is_ready}
 use Rattle.hum_turns.specs.Orders.{Order, upto, some_true, ready_list, chosen, Driven}
 use Rattle.hum_turns.specs.Holds.{SomeReady}
-use Rattle.hum_turns.proofs.Writing.{every_turn, same_now}
+use Rattle.hum_turns.proofs.Writing.{every_turn}
 use Rattle.hum_turns.proofs.Picking.{going_on, goes_on, entry}
 use Rattle.hum_turns.proofs.Ending.{every_end}
 use Rattle.hum_turns.proofs.Against.{meaning_fine}
 use Rattle.hum_nodes.proofs.Fining.{fine_is}
 use Rattle.hum_engine.specs.declared.net.Net.{Net}
-use Rattle.hum_engine.specs.Looks.{Look, FromLeft, Beside, Along, FromRight, Unseen, Sees}
+use Rattle.hum_engine.specs.Looks.{Look, Sees}
 use Rattle.hum_engine.specs.Scene.{Scene, plan_of, moved, Stands}
 use Rattle.hum_engine.specs.Nets.{NetAt, AtEach, AreOver, IsRunning, IsNet, Leads, RunsTo, Outcome, WroteFront, WroteAll}
 use Rattle.hum_engine.proofs.Netting.{unfailed_now}
 use Rattle.hum_engine.proofs.Looking.{AnyReady}
 
 pub at_some : {A : Type 0} (P : A → Type 0) (o : Option A) (x : A) → o ≡ Some x → IfSome o P → P x
-at_some P (Some y) x is h = subst P (same_Some y x is) h
-at_some P None x is h = absurd (none-some x is)
+at_some = grind (arith, nat_tests)
 
 -- what an order drives, and what it drives then
 pub driven_on : {O : Type 0} (order : Order O) (s : Scene) (ks js : List ℕ) (o p q : O) (old mid new : Now Row)
     → Driven order (plan_of s) s.size text_of o old ks mid p
     → Driven order (plan_of s) s.size text_of p mid js new q
     → Driven order (plan_of s) s.size text_of o old (ks ++ js) new q
-driven_on {O} order s [] js o p q old mid new d e =
-    subst (λ (x : O). Driven order (plan_of s) s.size text_of x old js new q) d.1
-    (subst (λ (x : Now Row). Driven order (plan_of s) s.size text_of p x js new q) (same_now old mid d.0) e)
+driven_on {O} order s [] js o p q old mid new d e = grind (arith, nat_tests)
 driven_on order s (k ∷ ks) js o p q old mid new d e =
     let rest = driven_on order s ks js (order.next o (ready_list (plan_of s) s.size old)) p q d.0 mid new d.3 e in
     (d.0, d.1, d.2, rest)
@@ -54,16 +51,11 @@ no_rests net i e = refl
 -- What is known of who is ready hangs on no bytes that are still to come.
 pub seen : (look : Look) (s : Scene) (rests : ℕ → List ℕ) (now : Now Row) → Sees look s now
     → Sees look (record s { rests = rests }) now
-seen (FromLeft k) s rests now sees = sees
-seen (Beside k taker) s rests now sees = sees
-seen (Along k taker) s rests now sees = sees
-seen (FromRight k) s rests now sees = sees
-seen Unseen s rests now sees = tt
+seen = grind (arith, nat_tests)
 
 pub some_at : (bs : List Bool) (k : ℕ) → get_or bs k false ≡ true → some_true bs ≡ true
-some_at [] k h = absurd (false≢true h)
-some_at (b ∷ bs) zero h = grind (arith, h)
 some_at (b ∷ bs) (suc k) h = grind (arith, some_at bs k h)
+some_at bs k h = grind (arith, nat_tests)
 
 -- The flags of the actors before this one are set.
 pub record Marked {S R W : Type 0} (stage : Stage S) (writer : Sink W)
@@ -80,27 +72,13 @@ module _ {S R W : Type 0} {stage : Stage S} {writer : Sink W} where
       → (now.failure ≡ None → Stands stage net.web (moved (record s { rests = rests }) now.links))
       → NetAt stage writer start s net now
       → NetAt stage writer start (record s { rests = rests }) (record net { actors = flags }) now
-  restated flags rests len going h = record {
-    plan = h.plan;
-    first = h.first;
-    turns = h.turns;
-    begin = h.begin;
-    walk = h.walk;
-    counted = h.counted;
-    actors = len ∙ h.actors;
-    takers = h.takers;
-    going = going;
-    failure = h.failure;
-    written = h.written;
-    is_flushed = h.is_flushed;
-  }
+  restated = grind (arith, nat_tests)
 
   -- The flags of its actors are nothing that a net stands for.
   pub relisted : {old new : Net S R W} {start : Option (List ℕ)} {s : Scene} {now : Now Row}
       → new ≡ record old { actors = new.actors } → length new.actors.items ≡ length old.actors.items
       → NetAt stage writer start s old now → NetAt stage writer start s new now
-  relisted {old} {new} {start} {s} {now} same len h =
-      subst (λ n. NetAt stage writer start s n now) (sym same) (restated new.actors s.rests len h.going h)
+  relisted = grind (arith, nat_tests)
 
   abbrev pub running_relisted : {old new : Net S R W} → new ≡ record old { actors = new.actors }
       → length new.actors.items ≡ length old.actors.items
@@ -165,9 +143,7 @@ module _ {S R W : Type 0} {stage : Stage S} {writer : Sink W}
       (holds_at.holds n.0).1.progress (ap is_some n.1)
 
   pub any_ready : result (plan_of s) now ≡ None → AnyReady s now
-  any_ready none =
-      let some = some_actor none in
-      record { actor = some.actor; within = some.within; is_ready = and_from _ _ (ap is_none none) some.is_ready }
+  any_ready = grind (arith, nat_tests, some_actor, and_from)
 
   -- What was written at the end.
 
@@ -209,8 +185,5 @@ runs_to {S} {R} {W} {O} {stage} {writer} {order} {o} {p} {start} {s} {now} {befo
       over = e;
       outcome = at_some _ _ by e (outcome h d.to.failure (d.to.links (last (plan_of s))).heard refl refl);
       valid = λ keeps. fine_is 4294967295 (plan_meaning (plan_of s)) (meaning_fine (plan_of s) h.plan.ok keeps);
-      whose = λ numbered. ⊎_elim
-          (λ failed. inl failed)
-          (λ meant. inr meant.result)
-          (every_end (plan_of s) s.size text_of h.plan.ok numbered h.plan.some h.turns h.first d.to h.begin h.walk by e);
+      whose = grind (arith, nat_tests, ⊎_elim, every_end);
     }

@@ -1,6 +1,7 @@
 -- What the sink writes.
+use Rattle.std.proofs.lemmas.Bool.Decides.{nat_tests}
 use Rattle.std.proofs.Common.{◌≡◌, ◌∙◌, ℕ, List, [], ◌∷◌, ◌++◌, Option, Some, None, refl, sym, ap, append-nil, true, false}
-use Rattle.std.proofs.Common.{Bool, is_some, if◌then◌else◌}
+use Rattle.std.proofs.Common.{Bool, is_some, if◌then◌else◌, arith}
 use Rattle.std.proofs.lemmas.Bool.{and_parts}
 use Rattle.std.proofs.lemmas.Option.{none-some}
 use Rattle.std.specs.Io.KnownBytes.{Appends}
@@ -13,7 +14,6 @@ use Rattle.hum_turns.specs.Flow.{Flow}
 use Rattle.hum_turns.specs.Plan.{last}
 use Rattle.hum_turns.specs.Links.{Link, has_some}
 use Rattle.hum_turns.specs.Turns.{Takes}
-use Rattle.hum_turns.specs.Text.{text}
 use Rattle.hum_turns.proofs.Writing.{text_append}
 use Rattle.hum_engine.specs.Links.{next_of}
 use Rattle.hum_engine.specs.declared.net.Net.{Net}
@@ -21,7 +21,7 @@ use Rattle.hum_engine.specs.declared.web.Web.{Web}
 use Rattle.hum_engine.specs.Scene.{Scene, plan_of, Done}
 use Rattle.hum_engine.specs.Nets.{HasSent, Sent, SinkWent}
 use Rattle.hum_engine.proofs.Netting.{none_by}
-use Rattle.hum_engine.proofs.Taking.{next_record, next_end, next_front, some_mark}
+use Rattle.hum_engine.proofs.Taking.{next_record, next_end, some_mark}
 
 -- how the run has failed, where a record wasn't written whole
 abbrev pub failed_so : Bool → Option RunResult
@@ -41,15 +41,7 @@ pub sent_record : {S R W : Type 0} {stage : Stage S} {writer : Sink W} {row : Ro
     → Done stage s.count (Takes (last (plan_of s))) web s
     → Some row ≡ next_of (s.links (last (plan_of s))).waiting → (s.links (last (plan_of s))).heard ≡ None
     → SinkWent stage (failed_so is_over) (writer.contents old.sink) (writer.contents new.sink) flushed is_over web s
-sent_record {row = row} flushed true h {s} d next none =
-    let wrote = h.part refl in (
-      record {
-        part = wrote.bytes;
-        may = (refl, next_front (s.links (last (plan_of s))).waiting row next wrote.bytes wrote.front);
-        appends = wrote.appends;
-      },
-      refl,
-    )
+sent_record {row = row} flushed true h {s} d next none = grind (arith, nat_tests)
 sent_record {row = row} flushed false h {s} d next none =
     let l = s.links (last (plan_of s)) in
     let v = next_record l l.waiting row next in
@@ -59,8 +51,7 @@ sent_record {row = row} flushed false h {s} d next none =
       done = d;
       sent = text_of row ++ 10 ∷ [];
       appends = h.whole refl;
-      taken = ap (λ (j : Link Row). text text_of j.taken) d.does.here ∙ ap (λ (f : Flow Row). text text_of f.items) v
-          ∙ text_append text_of l.taken (row ∷ []) ∙ ap (λ t. text text_of l.taken ++ t) (append-nil (text_of row ++ 10 ∷ []));
+      taken = grind (arith, nat_tests, text_append, append-nil);
       over = λ e h. absurd (none-some e (sym still ∙ h));
       tells = sym (ap is_some still);
     }
@@ -78,8 +69,7 @@ sent_end s d next some appends done =
       done = d;
       sent = [];
       appends = appends;
-      taken = ap (λ (j : Link Row). text text_of j.taken) d.does.here ∙ ap (λ (f : Flow Row). text text_of f.items) v
-          ∙ sym (append-nil (text text_of l.taken));
+      taken = grind (arith, nat_tests, append-nil);
       over = λ e h. done;
       tells = sym (ap is_some (ap (λ (j : Link Row). j.heard) d.does.here ∙ ap (λ (f : Flow Row). f.end) v));
     }

@@ -1,24 +1,19 @@
 -- What sources show where they stay as they were, and where no byte was read.
-use Rattle.std.proofs.Common.{◌≡◌, ℕ, false, List, [], None}
-use Rattle.std.proofs.Common.{ap, slice_get}
+use Rattle.std.proofs.lemmas.Bool.Decides.{nat_tests}
+use Rattle.std.proofs.Common.{◌≡◌, ℕ, List, [], arith}
+use Rattle.std.proofs.Common.{slice_get}
 use Rattle.hum_text.specs.declared.calls.Source.{Ghosts as Source}
 use Rattle.hum_nodes.specs.declared.node.Node.{Node}
-use Rattle.hum_nodes.specs.Nodes.{remaining_of, ended_of, calls_of, failed_of}
 use Rattle.hum_nodes.specs.Polls.{HasRead}
 use Rattle.hum_nodes.proofs.Followed.{read_none}
-use Rattle.hum_engine.specs.Readers.{ShowsSame, or_none, remaining_at, ended_at}
+use Rattle.hum_engine.specs.Readers.{ShowsSame, remaining_at, ended_at}
 use Rattle.hum_engine.specs.Scene.{only}
 
 module _ {S R : Type 0} {reader : Source R} where
   -- a node that is as it was shows what it showed
   pub shows_alike : (old new : List (Node S R)) (i : ℕ) → slice_get new i ≡ slice_get old i
       → ShowsSame reader old new i
-  shows_alike old new i e = record {
-    remains = ap (or_none None (remaining_of reader.remaining)) e;
-    ends = ap (or_none false (ended_of)) e;
-    calls_made = ap (or_none 0 (calls_of reader.calls)) e;
-    mark = ap (or_none false (failed_of reader.failed)) e;
-  }
+  shows_alike = grind (arith, nat_tests)
 
   -- no byte was read
   pub shows_read : (k : ℕ) {old new : List (Node S R)} (i : ℕ) → ShowsSame reader old new i → only k [] i ≡ []

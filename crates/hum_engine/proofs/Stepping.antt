@@ -1,6 +1,6 @@
 -- The turn of a stage that isn't a source, by the kind of what it does next.
-use Rattle.std.proofs.Common.{◌≡◌, ◌∙◌, ℕ, false, sym, subst, arith, nat_lt, ap, le-ltb}
-use Rattle.std.proofs.lemmas.Bool.{cond-false}
+use Rattle.std.proofs.lemmas.Bool.Decides.{nat_tests}
+use Rattle.std.proofs.Common.{◌≡◌, ℕ, sym, subst, arith}
 use Rattle.hum_stage.specs.declared.contract.Stage.{Ghosts as Stage}
 use Rattle.hum_turns.specs.Plan.{last}
 use Rattle.hum_turns.specs.Near.{touched}
@@ -15,6 +15,4 @@ has_done {S} {R} {stage} {k} {new} {s} is done = subst (λ d. Done stage k d new
 -- the link that the sink takes from
 pub sink_touches : (s : Scene) (k link : ℕ) → k ≡ s.count → link ≡ last (plan_of s)
     → link ≡ touched k (state (plan_of s) s.links k)
-sink_touches s k link is e =
-    let past : nat_lt k s.count ≡ false = le-ltb k s.count (omega (arith, is)) in
-    e ∙ sym (ap (touched k) (cond-false _ _ _ past))
+sink_touches = grind (arith, nat_tests)

@@ -1,15 +1,16 @@
 -- What is taken from a link, by a stage or by the sink.
+use Rattle.std.proofs.lemmas.Grind.{common_steps}
+use Rattle.std.proofs.lemmas.Bool.Decides.{nat_tests}
 use Rattle.std.proofs.Common.{◌≡◌, ◌≢◌, ◌∙◌, ℕ, zero, suc, ◌+◌, ◌<◌, true, List, []}
-use Rattle.std.proofs.Common.{◌∷◌, ◌++◌, map, length, Option, Some, None, is_some, slice_get, slice_set, slice_index, refl}
-use Rattle.std.proofs.Common.{sym, ap, subst, inl, inr, arith, append_assoc}
-use Rattle.std.proofs.lemmas.Bool.{cases_eq, false≢true, and_parts}
+use Rattle.std.proofs.Common.{◌∷◌, map, length, Option, Some, None, is_some, slice_get, slice_set, slice_index, refl}
+use Rattle.std.proofs.Common.{sym, ap, subst, inl, inr, arith}
+use Rattle.std.proofs.lemmas.Bool.{cases_eq, and_parts}
 use Rattle.std.proofs.lemmas.Option.{none-some, same_Some, slice_get_within, slice_get-get_or}
 use Rattle.std.proofs.lemmas.List.{length-map}
-use Rattle.hum_score.specs.Row.{Row, text_of}
+use Rattle.hum_score.specs.Row.{Row}
 use Rattle.hum_stage.specs.declared.faults.End.{End}
 use Rattle.hum_stage.specs.declared.contract.Stage.{Ghosts as Stage}
-use Rattle.hum_turns.specs.Flow.{Flow, AllFine, Begins}
-use Rattle.hum_turns.specs.Text.{next_text}
+use Rattle.hum_turns.specs.Flow.{Flow, AllFine}
 use Rattle.hum_turns.specs.Plan.{IsPlan, last}
 use Rattle.hum_turns.specs.Links.{Link, Moment, given, view, has_some, inputs}
 use Rattle.hum_turns.specs.Turns.{Takes, Becomes, popped}
@@ -26,7 +27,6 @@ use Rattle.hum_nodes.specs.Nodes.{StandsAs}
 use Rattle.hum_nodes.specs.declared.node.Node.{Node}
 use Rattle.hum_engine.specs.declared.link.Link as port
 use Rattle.hum_engine.specs.Links.{Goes, next_of}
-use Rattle.hum_engine.specs.Writing.{IsFront}
 use Rattle.hum_engine.specs.Scene.{Scene, plan_of, at_of, NodesStand, LinksStand, IsTree, IsReached}
 use Rattle.hum_engine.proofs.Looking.{index_all}
 use Rattle.hum_engine.proofs.Moving.{Did, put_at, put_becomes, ins_of, at_same, shows_same, nodes_set, links_set}
@@ -37,19 +37,11 @@ pub popped_read : (l : Link Row) (ws : List Row) → (popped l ws).read ≡ l.re
 popped_read l ws = grind arith
 
 pub popped_given : {R : Type 0} (l : Link R) (ws : List R) → l.waiting ≡ ws → given (popped l ws) ≡ given l
-popped_given l [] w = refl
-popped_given l (x ∷ ws) w = append_assoc l.taken (x ∷ []) ws ∙ ap (λ v. l.taken ++ v) (sym w)
+popped_given = grind (arith, common_steps)
 
 pub next_record : (l : Link Row) (ws : List Row) (x : Row) → Some x ≡ next_of ws
     → view (popped l ws) ≡ with_record x (view l)
 next_record l ws x h = grind (arith, h)
-
--- a prefix of the record is one of what is written next
-pub next_front : (ws : List Row) (x : Row) → Some x ≡ next_of ws
-    → (bytes : List ℕ) → IsFront bytes (text_of x ++ 10 ∷ []) → Begins bytes (next_text text_of ws)
-next_front [] x h bytes front = absurd (none-some x (sym h))
-next_front (y ∷ ws) x h bytes front =
-    subst (λ r. Begins bytes (text_of r ++ 10 ∷ [])) (same_Some x y h) front
 
 -- where no record waits the end is heard
 pub next_end : (l : Link Row) (ws : List Row) (e : End) → None ≡ next_of ws → l.mark ≡ Some e
@@ -57,8 +49,7 @@ pub next_end : (l : Link Row) (ws : List Row) (e : End) → None ≡ next_of ws 
 next_end l ws e h is = grind (arith, h, is)
 
 mark_of : (o : Option End) → is_some o ≡ true → (e : End) × (o ≡ Some e)
-mark_of None h = absurd (false≢true h)
-mark_of (Some e) h = (e, refl)
+mark_of = grind (arith, nat_tests)
 
 -- and there is one, where there is something to take
 pub some_mark : (l : Link Row) (ws : List Row) → l.waiting ≡ ws → None ≡ next_of ws → has_some l ≡ true

@@ -1,4 +1,5 @@
 -- What a run has come to, also of sources that tell their bytes.
+use Rattle.std.proofs.lemmas.Bool.Decides.{nat_tests}
 use Rattle.std.proofs.Common.{◌≡◌, ◌∙◌, ℕ, ◌+◌, ◌-◌, ◌*◌, ◌<◌, ◌≤◌, Bool, true, List, [], ◌∷◌, ◌++◌, length, Option, Some}
 use Rattle.std.proofs.Common.{None, false, refl, sym, ap, subst, arith, inl, inr, ⊎_elim, slice_get}
 use Rattle.std.specs.Prelude.{is_some}
@@ -19,7 +20,7 @@ use Rattle.hum_nodes.specs.Nodes.{StandsAs, is_source}
 use Rattle.hum_nodes.proofs.Followed.{read_none}
 use Rattle.hum_nodes.proofs.Standing.{any_rest, reads_few}
 use Rattle.hum_engine.specs.declared.net.Net.{Net}
-use Rattle.hum_engine.specs.Looks.{Look, FromLeft, Beside, Along, FromRight, Unseen, leaning, still_to_ask}
+use Rattle.hum_engine.specs.Looks.{Look, FromLeft, FromRight, Unseen, leaning, still_to_ask}
 use Rattle.hum_engine.specs.Readers.{ended_at}
 use Rattle.hum_engine.specs.Scene.{Scene, plan_of, at_of, before_all}
 use Rattle.hum_engine.specs.Nets.{NetAt, AtEach, IsNet, IsRunning, MayStep, HasAdvanced, MarksFailures, IsCloser}
@@ -33,11 +34,7 @@ use Rattle.hum_engine.proofs.Running.{no_rests}
 
 -- few actors are still to be asked
 few_still : (look : Look) → still_to_ask look ≤ 256
-few_still (FromLeft k) = omega arith
-few_still (Beside k taker) = omega arith
-few_still (Along k taker) = omega arith
-few_still (FromRight k) = omega arith
-few_still Unseen = omega arith
+few_still = grind (arith, nat_tests)
 
 second_nil : (xs ys : List ℕ) → xs ++ ys ≡ [] → ys ≡ []
 second_nil [] ys h = h
@@ -76,13 +73,10 @@ module _ {S R W : Type 0} {stage : Stage S} {writer : Sink W} where
     left_by i (Some n) e = elim (cases_Bool (is_source n)) [
       | inl src ↦
           let front = (ran.read i).front (rests i) (rw e (tells.tells i n e src)) in
-          let none : ended_at i new.web.nodes.items ≡ true → front.rest ≡ [] = λ over. elim (front.over over) [
-            | inl was ↦ second_nil (ran.reads i) front.rest (sym front.split ∙ tells.over i was)
-            | inr none ↦ none
-          ] in
+          let none : ended_at i new.web.nodes.items ≡ true → front.rest ≡ [] =
+          grind (arith, nat_tests, second_nil) in
           (front.rest, (λ m is src. front.split), none)
-      | inr isnt ↦
-          ([], (λ m is src. absurd (false≢true (sym isnt ∙ ap is_source (same_Some n m is) ∙ src))), (λ over. refl))
+      | inr isnt ↦ grind (arith, nat_tests, false≢true, same_Some)
     ]
 
     abbrev left_at : (i : ℕ) → Left i (slice_get old.web.nodes.items i)
@@ -135,10 +129,7 @@ module _ {S R W O : Type 0} {stage : Stage S} {reader : Source R} {writer : Sink
       ran_all = advanced_twice ran.may ran.advanced more
 
       pub ran_on : is_over ≡ false → Ran stage reader writer order o q first after old new
-      ran_on on = record {
-        may = ran.may;
-        advanced = subst (HasAdvanced stage reader writer order o q first after old new) on ran_all;
-      }
+      ran_on = grind (arith, nat_tests, ran_all)
 
       pub ran_out : is_over ≡ true → HasAdvanced stage reader writer order o q first after old new true
       ran_out over = subst (HasAdvanced stage reader writer order o q first after old new) over ran_all

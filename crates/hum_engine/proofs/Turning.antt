@@ -1,6 +1,6 @@
 -- A turn of any stage, and who is ready.
 use Rattle.std.proofs.Common.{◌≡◌, ◌∙◌, ℕ, ◌<◌, Bool, true, false, if◌then◌else◌, nat_eq, List, [], ◌++◌, Option}
-use Rattle.std.proofs.Common.{Some, None, refl, sym, ap₂, subst, ◌||◌, inl, arith, slice_get, get_or, Result, Ok, Err}
+use Rattle.std.proofs.Common.{Some, None, refl, sym, ap₂, subst, arith, slice_get, get_or, Result}
 use Rattle.std.specs.Prelude.{OnErr}
 use Rattle.std.proofs.lemmas.Bool.{false≢true}
 use Rattle.std.proofs.lemmas.Bool.Decides.{nat_tests}
@@ -107,39 +107,20 @@ quiet : {S R : Type 0} (reader : Source R) (k : ℕ) (web : Web S R)
     → IsKind false k web → (o : Option (Node S R)) → slice_get web.nodes.items k ≡ o
     → (or_none false (failed_of reader.failed) o ≡ false) × (or_none 0 (calls_of reader.calls) o ≡ 0)
     × (or_none false ended_of o ≡ false) × (or_none None (remaining_of reader.remaining) o ≡ None)
-quiet reader k web kind None e = (refl, refl, refl, refl)
-quiet reader k web kind (Some n) e =
-    let is = kind n e in (
-      no_mark reader.remaining reader.calls reader.failed n is,
-      no_call reader.remaining reader.calls reader.failed n is,
-      no_end reader.remaining reader.calls reader.failed n is,
-      no_rest reader.remaining reader.calls reader.failed n is,
-    )
+quiet = grind (arith, nat_tests, no_mark, no_call, no_end, no_rest)
 
 on_err : {A E P : Type 0} (r : Result A E) → P → OnErr r P
-on_err (Ok x) h = tt
-on_err (Err e) h = h
+on_err = grind (arith, nat_tests)
 
 act_stays : {S R : Type 0} (reader : Source R) {k : ℕ} {old new : Web S R} → IsKind false k old → Keeps k old new
     → HasReadNone reader k old.nodes.items new.nodes.items
 act_stays reader {k} {old} {new} was keep =
-    let a = quiet reader k old was _ refl in
-    let b = quiet reader k new keep.kind _ refl in
-    rw (a.2, b.2, a.3, b.3)
-    (record { consumes = tt; at_end = λ e. absurd (false≢true e); still = λ e. absurd (false≢true e) })
+    grind (arith, nat_tests, quiet reader k old was _ refl, quiet reader k new keep.kind _ refl)
 
 module _ {S R : Type 0} {reader : Source R} {k : ℕ} {old new : Web S R} (was : IsKind false k old) (keep : Keeps k old new) where
   pub asks_no_one : {A : Type 0} (told : Result A ReadError) → is_failed_read told ≡ false
       → AsksOne reader k old new told
-  asks_no_one told none =
-      let a = quiet reader k old was _ refl in
-      let b = quiet reader k new keep.kind _ refl in
-      record {
-        others = keep.others;
-        marks = b.0 ∙ ap₂ (λ x y. x || y) (sym a.0) (sym none);
-        once = inl (b.1 ∙ sym a.1, b.0 ∙ sym a.0);
-        stays = on_err told (act_stays reader was keep);
-      }
+  asks_no_one = grind (arith, nat_tests, quiet, ap₂, on_err, act_stays)
 
 -- How many records wait inside a stage.
 

@@ -1,10 +1,11 @@
 -- Each record that a stage of one input has taken was taken when the stage wanted it.
-use Rattle.std.proofs.Common.{◌≡◌, ◌≢◌, ℕ, ◌<◌, ◌≤◌, Bool, false, if◌then◌else◌, List, [], ◌∷◌, ◌++◌, map, length}
-use Rattle.std.proofs.Common.{take, slice_get, Some, is_some, refl, sym, ap, ◌∙◌, subst, arith, ltb-false, inl, inr}
+use Rattle.std.proofs.lemmas.Grind.{common_steps}
+use Rattle.std.proofs.lemmas.Bool.Decides.{nat_tests}
+use Rattle.std.proofs.Common.{◌≡◌, ◌≢◌, ℕ, ◌<◌, ◌≤◌, List, [], ◌∷◌, map, length}
+use Rattle.std.proofs.Common.{take, slice_get, Some, is_some, refl, sym, ap, ◌∙◌, subst, arith, inl, inr}
 use Rattle.std.proofs.Common.{append_assoc, length-append}
 use Rattle.std.specs.List.{AllByRecursion}
-use Rattle.std.proofs.lemmas.Bool.{cases_eq, cases_lt}
-use Rattle.std.proofs.lemmas.List.{take-append-le, take_all}
+use Rattle.std.proofs.lemmas.Bool.{cases_eq}
 use Rattle.std.proofs.Math.Path.{fun_ext}
 use Rattle.hum_score.specs.Row.{Row}
 use Rattle.hum_score.specs.InOrder.{IsScore}
@@ -12,10 +13,10 @@ use Rattle.hum_stage.specs.Lag.{ArePutAtWants}
 use Rattle.hum_stage.specs.Meaning.{Meaning, output}
 use Rattle.hum_stage.specs.Outcome.{held_of as held_by}
 use Rattle.hum_turns.specs.Flow.{Flow, AllFine}
-use Rattle.hum_turns.specs.Plan.{Want, Plan, IsPlan}
-use Rattle.hum_turns.specs.Links.{Link, Moment, given, view, inputs, Same}
-use Rattle.hum_turns.specs.Turns.{State, Gives, Reads, Takes, Ends, by_want, state, popped, Becomes, Does, Turns, Run}
-use Rattle.hum_turns.proofs.States.{state_is, taker, last_next}
+use Rattle.hum_turns.specs.Plan.{Plan, IsPlan}
+use Rattle.hum_turns.specs.Links.{Link, Moment, given, view, Same}
+use Rattle.hum_turns.specs.Turns.{State, Gives, Reads, Takes, Ends, state, popped, Becomes, Does, Turns, Run}
+use Rattle.hum_turns.proofs.States.{taker, last_next}
 use Rattle.hum_turns.proofs.Keeping.{fine_inputs}
 use Rattle.hum_turns.proofs.Every.{reached}
 use Rattle.hum_nodes.specs.At.{Kind}
@@ -33,17 +34,11 @@ abbrev Wanted : {R : Type 0} → (List R → ℕ) → ℕ → ℕ → Moment R �
 Wanted many k s m =
     (j : ℕ) → j < length (m s).taken → many (take j (m s).taken) ≤ length (given (m k))
 
-takes_not : (ss : List ℕ) (s : ℕ) (b : Bool) (w : Want) → (if b then Gives else by_want ss w) ≡ Takes s
-    → b ≡ false
-takes_not ss s b w h = grind (arith, h)
-
 module _ {R : Type 0} (many : List R → ℕ) (k s : ℕ) where
   -- the same was taken, and no less given
   same_taken : (old new : Moment R) → (new s).taken ≡ (old s).taken
       → length (given (old k)) ≤ length (given (new k)) → Wanted many k s old → Wanted many k s new
-  same_taken old new e more h j less =
-      let w = h j (rw e at less) in
-      rw e (omega (arith, w, more))
+  same_taken = grind (arith, nat_tests)
 
   nothing_moved : (old new : Moment R) → Same old new → Wanted many k s old → Wanted many k s new
   nothing_moved old new same = subst (Wanted many k s) (fun_ext (λ i. sym (same i)))
@@ -51,18 +46,12 @@ module _ {R : Type 0} (many : List R → ℕ) (k s : ℕ) where
   -- a link is changed, from which nothing is taken, and onto which no less was given
   touched : (i : ℕ) (l : Link R) (old new : Moment R) → Becomes i l old new → l.taken ≡ (old i).taken
       → length (given (old i)) ≤ length (given l) → Wanted many k s old → Wanted many k s new
-  touched i l old new d taken more = same_taken old new (shows_same (λ (v : Link R). v.taken) d taken s)
-      (elim (cases_eq k i) [ inl here ↦ rw (here, d.here) more | inr there ↦ rw (d.elsewhere k there) (omega arith) ])
+  touched = grind (arith, nat_tests)
 
   -- the next record is taken from link s
   take_here : (ws : List R) (old new : Moment R) → k ≢ s → Becomes s (popped (old s) ws) old new
       → many (old s).taken ≤ length (given (old k)) → Wanted many k s old → Wanted many k s new
-  take_here [] old new apart d gave h j less = rw (d.here, d.elsewhere k apart) (h j (rw d.here at less))
-  take_here (x ∷ rest) old new apart d gave h j less =
-      let all = (old s).taken in
-      let within : j < length (all ++ x ∷ []) = rw d.here at less in
-      rw (d.here, d.elsewhere k apart, take-append-le j all (x ∷ []) (omega (arith, within, length-append all (x ∷ []))))
-      (elim (cases_lt j (length all)) [ inl before ↦ h j before | inr last ↦ rw (take_all j all last) gave ])
+  take_here = grind (arith, common_steps)
 
 -- Stage k has one source, which no other stage has.
 module _ {R : Type 0} (plan : Plan R) (ok : IsPlan plan) (many : List R → ℕ) (k s : ℕ)
@@ -71,12 +60,7 @@ module _ {R : Type 0} (plan : Plan R) (ok : IsPlan plan) (many : List R → ℕ)
     (counts : (r : ℕ) (f : Flow R) → length ((plan.stage k).output r (f ∷ [])) ≡ many f.items) where
   -- it has given all that is settled where it takes
   gave : (m : Moment R) → state plan m k ≡ Takes s → many (m s).taken ≤ length (given (m k))
-  gave m e =
-      let st = plan.stage k in
-      let out = st.output (m k).read (inputs plan m k) in
-      let all = ltb-false (length (given (m k))) (length out) (takes_not st.sources s _ _ (sym (state_is plan m k less) ∙ e)) in
-      let size : length out ≡ many (m s).taken = rw one (counts (m k).read (view (m s))) in
-      omega (arith, all, size)
+  gave = grind (arith, nat_tests)
 
   takes_keep : (i t : ℕ) (old new : Moment R) → state plan old i ≡ Takes t
       → Becomes t (popped (old t) (old t).waiting) old new → Wanted many k s old
@@ -91,20 +75,12 @@ module _ {R : Type 0} (plan : Plan R) (ok : IsPlan plan) (many : List R → ℕ)
             ] in
             take_here many k s (old s).waiting old new (λ same. absurd (omega (arith, same, below))) (rw here at d)
             (gave old (rw is at by)) h
-        | inr there ↦
-            let e = shows_same (λ (v : Link R). length (given v)) d (ap length (popped_given (old t) (old t).waiting refl)) k in
-            same_taken many k s old new (ap (λ (v : Link R). v.taken) (d.elsewhere s (λ same. there (sym same))))
-            (omega (arith, e)) h
+        | inr there ↦ grind (arith, nat_tests, shows_same, popped_given, same_taken)
       ]
 
   does_keeps : (i : ℕ) (st : State) (old new : Moment R) → state plan old i ≡ st
       → Does plan i st old new → Wanted many k s old → Wanted many k s new
-  does_keeps i Gives old new e d h =
-      let longer = ap length (sym (append_assoc (old i).taken (old i).waiting (d.next ∷ []))) in
-      touched many k s i _ old new d.becomes refl (omega (arith, longer, length-append (given (old i)) (d.next ∷ []))) h
-  does_keeps i Reads old new e d h = nothing_moved many k s old new d h
-  does_keeps i (Takes t) old new e d h = takes_keep i t old new e d h
-  does_keeps i Ends old new e d h = touched many k s i _ old new d refl (omega arith) h
+  does_keeps = grind (arith, nat_tests, append_assoc, touched, length-append, nothing_moved, takes_keep)
 
   turns_keep : (i : ℕ) (st : State) (old new : Moment R) → state plan old i ≡ st
       → Turns plan i st old new → Wanted many k s old → Wanted many k s new
@@ -149,6 +125,5 @@ held_few s k from most m r less is holds =
     (λ j l. absurd (omega (arith, subst (λ (v : Link Row). j < length v.taken) (r.start from) l))) in
     let few = holds score.score wanted in
     let held : held_of s s.links k ≡ held_by count (is_some (s.links from).heard) (m.outcomes taken) =
-    sym (held_some s s.links k less none)
-    ∙ ap (λ (kd : Kind). kd.holds (map (λ t. view (s.links t)) kd.stage.sources) count) is in
+    grind (arith, nat_tests, held_some) in
     omega (arith, few, held)

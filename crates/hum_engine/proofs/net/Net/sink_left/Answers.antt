@@ -1,4 +1,5 @@
-use Rattle.std.proofs.Common.{refl, ap, arith, inl, inr}
+use Rattle.std.proofs.lemmas.Bool.Decides.{nat_tests}
+use Rattle.std.proofs.Common.{refl, arith, inl, inr}
 use Rattle.hum_engine.proofs.Advancing.{advanced_twice, may_on, no_fewer}
 use Rattle.hum_engine.proofs.Choosing.{left_asked, left_few, left_filled, left_on, left_over, left_rested, left_took}
 use Rattle.hum_engine.proofs.net.Net.sink_left.Goals as goal
@@ -10,8 +11,7 @@ pub returns-in-Waits-clause-advanced : goal.returns-in-Waits-clause-advanced
 returns-in-Waits-clause-advanced g c = left_rested c.requires.may c.in-Waits.ensures
 
 pub returns-in-Waits-clause-closer : goal.returns-in-Waits-clause-closer
-returns-in-Waits-clause-closer g c =
-    inr (inr (ap (λ n. n.turns) c.in-Waits.ensures.same, omega (arith, left_few c.requires.may)))
+returns-in-Waits-clause-closer g c = grind (arith, nat_tests, left_few c.requires.may)
 
 pub returns-in-Filled-clause-advanced : goal.returns-in-Filled-clause-advanced
 returns-in-Filled-clause-advanced g c = left_filled c.requires.may c.in-Filled.ensures.0 c.in-Filled.ensures.1

@@ -1,4 +1,5 @@
-use Rattle.std.proofs.Common.{refl, ap, arith, inl, inr}
+use Rattle.std.proofs.lemmas.Bool.Decides.{nat_tests}
+use Rattle.std.proofs.Common.{refl, arith, inl, inr}
 use Rattle.hum_engine.proofs.Advancing.{advanced_twice, may_then, no_fewer}
 use Rattle.hum_engine.proofs.Choosing.{along_asked, along_closer, along_few, along_filled, along_on, along_over, along_rested}
 use Rattle.hum_engine.proofs.Choosing.{along_within}
@@ -16,10 +17,7 @@ returns-in-Waits-clause-advanced g c =
 
 pub returns-in-Waits-clause-closer : goal.returns-in-Waits-clause-closer
 returns-in-Waits-clause-closer g c =
-    inr (inr (
-      ap (λ n. n.turns) c.in-Waits.ensures.same,
-      along_closer c.requires.may c.in-Waits.ensures c.taker.ensures,
-    ))
+    grind (arith, nat_tests, along_closer c.requires.may c.in-Waits.ensures c.taker.ensures)
 
 pub taker-requires-in-Filled : goal.taker-requires-in-Filled
 taker-requires-in-Filled g c = along_few c.requires.may (omega (arith, c.requires.less)) c.in-Filled.ensures.0

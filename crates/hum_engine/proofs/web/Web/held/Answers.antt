@@ -1,4 +1,5 @@
-use Rattle.std.proofs.Common.{◌∙◌, refl, sym, arith}
+use Rattle.std.proofs.lemmas.Bool.Decides.{nat_tests}
+use Rattle.std.proofs.Common.{◌∙◌, sym, arith}
 use Rattle.std.proofs.lemmas.List.{length-map}
 use Rattle.hum_turns.specs.Links.{view}
 use Rattle.hum_nodes.proofs.Standing.{source_bytes, stage_bytes}
@@ -24,9 +25,4 @@ returns-clause-few g c s h one =
     omega (arith, few, length-map (s.kinds c.args.k).stage.sources (λ i. view (s.links i)))
 
 pub returns-then-k-len : goal.returns-then-k-len
-returns-then-k-len g c =
-    record {
-      held = λ s h. absurd (omega (arith, h.stand.count, c.len.ensures, c.args.self.now.nodes.ok.0));
-      few = λ s h one. omega arith;
-      none = λ beyond. refl;
-    }
+returns-then-k-len = grind (arith, nat_tests)

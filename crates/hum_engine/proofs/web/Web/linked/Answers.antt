@@ -1,3 +1,4 @@
+use Rattle.std.proofs.lemmas.Bool.Decides.{nat_tests}
 use Rattle.std.proofs.Common.{arith}
 use Rattle.hum_engine.proofs.Feeding.{link_at}
 use Rattle.hum_engine.proofs.web.Web.linked.Goals as goal
@@ -8,5 +9,4 @@ returns-clause-stage g c s h =
     (c.len-2.ensures.waiting s.size (s.links c.args.k) p, c.len-2.ensures.within s.size (s.links c.args.k) p)
 
 pub returns-then-k-len-clause-stage : goal.returns-then-k-len-clause-stage
-returns-then-k-len-clause-stage g c s h =
-    absurd (omega (arith, h.less, h.stand.as_many, c.if-k-len.true, c.len.ensures, c.args.self.now.links.ok.0))
+returns-then-k-len-clause-stage = grind (arith, nat_tests)
