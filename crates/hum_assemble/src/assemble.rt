@@ -250,7 +250,6 @@ impl Assemble {
     ///
     /// # Errors
     /// Out of memory, which each later call that takes memory answers again.
-    #[inline(always)]
     pub fn put_with(&mut self, next: Record, pool: &mut Spare) -> Result<Readiness, AllocError>
         requires { self.old.spent ≡ true ⊎ ((source : ℕ) × MayPut (Stands self.old) source next) }
         ensures ok { OnOk result ((source : ℕ) → MayPut (Stands self.old) source next
