@@ -7,13 +7,14 @@ ghost use Rattle.std.specs.Io.KnownBytes.{Consumes, IsAtEnd};
 ghost use Rattle.hum_read.specs.Denoted.{end_at};
 ghost use Rattle.hum_read.specs.Steps.{stop_by};
 ghost use Rattle.hum_stage.specs.Refusals.{rule_in};
+ghost use Rattle.hum_record.specs.Plain.{HasNoStop};
 ghost use Rattle.hum_score.specs.Spelling.{has_byte};
 ghost use Rattle.hum_text.specs.Reading.{NeedsRead, IsUnread, IsFed, bytes_read, left_to_do};
 
 use crate::ReadError;
 use crate::rules::text_rule;
 use hum_path::{PathFault, Paths};
-use hum_record::{Record, ShortLine, Spare};
+use hum_record::{Beyond, Record, ShortLine, Spare};
 use hum_stage::{Command, End, Fault, Refusal, Rule};
 use hum_text::calls::{LARGEST_READ, Source};
 use hum_text::reader::LineReader;
@@ -249,8 +250,23 @@ impl<R: Source> ScoreReader<R> {
             return self.give_short(pool, line);
         }
         match Record::parse_near(pool, held, width) {
-            Some(line) => self.give_short(pool, line),
-            None => self.next_long(pool),
+            Ok(line) => self.give_short(pool, line),
+            Err(Beyond::Longer) => self.next_longer(pool),
+            Err(Beyond::Other) => self.next_long(pool),
+        }
+    }
+
+    /// The same where the next line doesn't end among the next 64 bytes.
+    #[inline(never)]
+    fn next_longer(&mut self, pool: &mut Spare) -> Option<Record>
+        requires going { self.old.stopped ≡ None }
+        requires free { HasNoStop self.old.lines.pending }
+        ensures { Nexts R.remaining R.calls R.failed self.old (given_by result self.new.stopped) self.new }
+    {
+        let held = self.lines.ahead();
+        match Record::parse_longer(pool, held) {
+            Some(record) => self.give(pool, record),
+            None => self.next_any(pool),
         }
     }
 

@@ -32,7 +32,7 @@ pub use growing::GrowingText;
 pub use hum_score::{Kind, RecordFault, SpinedKind};
 pub use nulls::{null_of, null_record};
 pub use putting::put_token;
-pub use reading::{Record, ShortLine};
+pub use reading::{Beyond, Record, ShortLine};
 pub use record_draft::RecordDraft;
 pub use selection::Selection;
 pub use spare::Spare;

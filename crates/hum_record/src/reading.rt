@@ -6,7 +6,8 @@ ghost use Rattle.hum_score.specs.Spelling.{IsTokenOf, IsTextOf, has_byte, is_com
 ghost use Rattle.hum_score.specs.Spelling.{Gives, Fails, Breaks};
 ghost use Rattle.hum_record.specs.Fields.{AreFields, row_in};
 ghost use Rattle.hum_record.specs.Lines.{IsRead, IsReadTo};
-ghost use Rattle.hum_record.specs.Plain.{EndsLine, is_stop};
+ghost use Rattle.hum_record.specs.Plain.{EndsLine, HasNoStop, is_stop};
+ghost use Rattle.hum_record.specs.declared.reading.Beyond.TheVariants.{Longer};
 ghost use Rattle.hum_record.specs.Room.{room_for, least_room};
 ghost use Rattle.hum_score.specs.Row.{Row, kind_of, row_of, tokens_of, width_of, token_at, text_of};
 ghost use Rattle.hum_score.specs.Row.{Spined, with_chosen};
@@ -48,6 +49,15 @@ pub struct Record {
 pub struct ShortLine {
     pub record: Record,
     pub size: usize,
+}
+
+/// Why the first 64 bytes of what is held don't say what the line is.
+#[derive(Clone, Copy)]
+pub enum Beyond {
+    /// It doesn't end among them, and nothing in them shows that it is no plain data.
+    Longer,
+    /// Anything else.
+    Other,
 }
 
 // Written out, so that a caller's proof sees one call and not the drop of each field.
@@ -152,31 +162,38 @@ impl Record {
         if held.len() < NEAR || width >= WIDE {
             return None;
         }
-        Self::of_first::<SHORT>(spare, held)
+        let stops = stop_bits::<SHORT>(held, 0);
+        if stops == 0 {
+            return None;
+        }
+        Self::of_first::<SHORT>(spare, held, stops)
     }
 
     /// The same by the first 64 bytes.
     #[inline(always)]
-    pub fn parse_near(spare: &mut Spare, held: &[u8], width: usize) -> Option<ShortLine>
-        ensures { IfSome result (λ line. IsReadTo held.now line.record line.size) }
+    pub fn parse_near(spare: &mut Spare, held: &[u8], width: usize) -> Result<ShortLine, Beyond>
+        ensures line { IfOk result (λ line. IsReadTo held.now line.record line.size) }
+        ensures longer { IfErr result (λ why. why ≡ Longer → HasNoStop held.now) }
     {
         if held.len() < NEAR || width >= WIDEST {
-            return None;
+            return Err(Beyond::Other);
         }
-        Self::of_first::<NEAR>(spare, held)
+        let stops = stop_bits::<NEAR>(held, 0);
+        if stops == 0 {
+            return Err(Beyond::Longer);
+        }
+        Self::of_first::<NEAR>(spare, held, stops).ok_or(Beyond::Other)
     }
 
-    /// The same by the first `N`.
+    /// The record of a line that ends at the first of these stops among the first `N` bytes, if it is plain data.
     #[inline(always)]
-    fn of_first<const N: usize>(spare: &mut Spare, held: &[u8]) -> Option<ShortLine>
+    fn of_first<const N: usize>(spare: &mut Spare, held: &[u8], stops: u64) -> Option<ShortLine>
         requires few { N ≤ 64 }
         requires filled { N ≤ length held.now }
+        requires stops { stops ≡ mask_l (map is_stop (chunk 0 N held.now)) }
+        requires some { 0 < stops }
         ensures { IfSome result (λ line. IsReadTo held.now line.record line.size) }
     {
-        let stops = stop_bits::<N>(held, 0);
-        if stops == 0 {
-            return None;
-        }
         let end = line_end::<N>(held, 0, 1, stops)?;
         let body = spare.take_first()?;
         let record = Self::of_near::<N>(spare, body, held, end)?;
@@ -193,7 +210,7 @@ impl Record {
     pub fn parse_line(spare: &mut Spare, held: &[u8], width: usize) -> Option<Record>
         ensures { IfSome result (IsRead held.now) }
     {
-        if held.len() < 2 * NEAR || width >= FAR {
+        if held.len() < NEAR || width >= FAR {
             return Self::parse_wide(spare, held);
         }
         if stop_bits::<NEAR>(held, 0) != 0 {
@@ -202,16 +219,18 @@ impl Record {
             }
             return None;
         }
-        Self::parse_pair(spare, held)
+        Self::parse_longer(spare, held)
     }
 
     /// The same where it doesn't end among the first 64 bytes, by the next 64 or by all.
     #[inline(always)]
-    fn parse_pair(spare: &mut Spare, held: &[u8]) -> Option<Record>
-        requires filled { 128 ≤ length held.now }
-        requires free { mask_l (map is_stop (chunk 0 64 held.now)) ≡ 0 }
+    pub fn parse_longer(spare: &mut Spare, held: &[u8]) -> Option<Record>
+        requires free { 64 ≤ length held.now → HasNoStop held.now }
         ensures { IfSome result (IsRead held.now) }
     {
+        if held.len() < 2 * NEAR {
+            return Self::parse_wide(spare, held);
+        }
         let stops = stop_bits::<NEAR>(held, NEAR);
         if stops == 0 {
             return Self::parse_wide(spare, held);
