@@ -1,7 +1,8 @@
 -- The line in front of the bytes that come next.
 use Rattle.std.proofs.Common.{◌≡◌, ◌∙◌, ℕ, zero, suc, ◌+◌, ◌-◌, ◌<◌, ◌≤◌, inl, inr, ⊎_elim, true, false}
 use Rattle.std.proofs.Common.{List, [], ◌∷◌, ◌++◌, length, take, get_or, refl, sym, ap, subst, arith, Ok, length-append}
-use Rattle.std.specs.Prelude.{◌==◌}
+use Rattle.std.specs.Prelude.{◌==◌, map}
+use Rattle.std.specs.Simd.Lanes.{mask_l}
 use Rattle.std.proofs.lemmas.Bool.{cases_Bool, or_parts}
 use Rattle.std.proofs.lemmas.List.{get_or_append_left, take-append-le, take_more, take_at}
 use Rattle.hum_text.specs.declared.Limits.{Limits}
@@ -9,6 +10,7 @@ use Rattle.hum_text.specs.Text.{without_cr, ends_in_cr}
 use Rattle.hum_score.specs.Row.{Row, text_of}
 use Rattle.hum_score.specs.Spelling.{has_byte, reading}
 use Rattle.hum_record.specs.Lines.{IsLine, IsRead}
+use Rattle.hum_record.specs.Plain.{is_stop}
 
 -- no byte of a text is CR that is read as a record
 no-return : (text : List ℕ) (row : Row) → reading text ≡ Ok row → has_byte 13 text ≡ false
@@ -70,6 +72,12 @@ longer held behind len line =
           inr (more, get_or_append_left held behind 0 len (omega (arith, more, within)) ∙ one.1))
           line.text;
     }
+
+-- Where bytes begin with 64 without a stop, those do of which they are in front, and those that are in front of them.
+pub stops_in_front : (held behind pending : List ℕ) → pending ≡ held ++ behind → 64 ≤ length held
+    → mask_l (map is_stop (take 64 pending)) ≡ mask_l (map is_stop (take 64 held))
+stops_in_front held behind pending is long =
+    ap (λ (bs : List ℕ). mask_l (map is_stop (take 64 bs))) is ∙ ap (λ (bs : List ℕ). mask_l (map is_stop bs)) (take-append-le 64 held behind long)
 
 -- What is asked where a line is taken, and what it is then.
 pub record Taking (limits : Limits) (given taken : ℕ) (pending : List ℕ) (row : Row) (lf : ℕ) : Type 0 where

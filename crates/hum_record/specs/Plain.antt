@@ -1,6 +1,6 @@
 -- Texts of plain data: no token is empty, and none begins with the mark of another kind.
-use Rattle.std.specs.Prelude.{◌≡◌, ◌==◌, ◌&&◌, ◌||◌, ◌+◌, ◌*◌, ℕ, Bool, false, List, [], ◌∷◌}
-use Rattle.std.specs.Prelude.{◌++◌, take, drop, map, bit_and, Ok}
+use Rattle.std.specs.Prelude.{◌≡◌, ◌≤◌, ◌==◌, ◌&&◌, ◌||◌, ◌+◌, ◌*◌, ℕ, Bool, false, List, [], ◌∷◌}
+use Rattle.std.specs.Prelude.{◌++◌, length, take, drop, map, bit_and, Ok}
 use Rattle.std.specs.Simd.Lanes.{chunk, mask_l}
 use Rattle.hum_score.specs.declared.records.SpinedKind.TheVariants.{Values}
 use Rattle.hum_score.specs.Spelling.{has_byte, is_comment, kind_of_tokens, parts}
@@ -30,9 +30,9 @@ is_rare byte = (byte == 33 || byte == 42) || byte == 13
 abbrev pub is_stop : ℕ → Bool
 is_stop byte = is_rare byte || byte == 10
 
--- At none of the first 64 bytes it stops.
+-- Some bytes begin with 64 at none of which a look at data stops.
 abbrev pub HasNoStop : List ℕ → Type 0
-HasNoStop held = mask_l (map is_stop (chunk 0 64 held)) ≡ 0
+HasNoStop held = (64 ≤ length held) × (mask_l (map is_stop (chunk 0 64 held)) ≡ 0)
 
 -- A text is plain data.
 pub record IsPlain (text : List ℕ) : Type 0 where

@@ -36,7 +36,7 @@ give_short-requires-clause-ahead g c =
     let ahead = c.ahead-held.ensures in
     ahead_to _ _ _ _ _ ahead.next ahead.line ahead.records ahead.bytes c.in-Some.ensures c.self.view_is
 
-pub give_short-requires-in-Some-parse_near-clause-ahead : goal.give_short-requires-in-Some-parse_near-clause-ahead
-give_short-requires-in-Some-parse_near-clause-ahead g c =
+pub give_short-requires-in-Ok-clause-ahead : goal.give_short-requires-in-Ok-clause-ahead
+give_short-requires-in-Ok-clause-ahead g c =
     let ahead = c.ahead-held.ensures in
-    ahead_to _ _ _ _ _ ahead.next ahead.line ahead.records ahead.bytes c.in-Some-parse_near.ensures c.self.view_is
+    ahead_to _ _ _ _ _ ahead.next ahead.line ahead.records ahead.bytes c.in-Ok.ensures c.self.view_is

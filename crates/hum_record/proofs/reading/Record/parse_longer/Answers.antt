@@ -12,7 +12,7 @@ invariant_of-result c =
     let near = c.in_ok-end.ensures.near in
     let put = c.if-put_pair.ensures in
     let far = second_word held c.bits_at-ends.result end.len end.size end.ends (omega (arith, filled)) c.bits_at-ends.ensures
-    (c.requires.free (omega (arith, filled))) (c.is_apart.ensures c.if-not-is_apart.false) near c.in_ok-end.ensures.ends in
+    (c.requires.free (omega (arith, filled))).1 (c.is_apart.ensures c.if-not-is_apart.false) near c.in_ok-end.ensures.ends in
     let plain : HasPlaces (take end.len held) c.put_pair.new.self.ends = rw (put.ends refl) far.plain in
     rw (put.text refl) (line_read held c.put_pair.new.self.ends end.len far.line (omega (arith, near)) plain).0
 
@@ -24,6 +24,6 @@ returns-then-put_pair c =
     let near = c.in_ok-end.ensures.near in
     let put = c.if-put_pair.ensures in
     let far = second_word held c.bits_at-ends.result end.len end.size end.ends (omega (arith, filled)) c.bits_at-ends.ensures
-    (c.requires.free (omega (arith, filled))) (c.is_apart.ensures c.if-not-is_apart.false) near c.in_ok-end.ensures.ends in
+    (c.requires.free (omega (arith, filled))).1 (c.is_apart.ensures c.if-not-is_apart.false) near c.in_ok-end.ensures.ends in
     let plain : HasPlaces (take end.len held) c.put_pair.new.self.ends = rw (put.ends refl) far.plain in
     rw (put.text refl) (line_read held c.put_pair.new.self.ends end.len far.line (omega (arith, near)) plain).1
