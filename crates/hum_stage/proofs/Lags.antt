@@ -1,9 +1,9 @@
 -- A stage whose records wait, as a whole.
-use Rattle.std.proofs.Common.{◌≡◌, ◌∙◌, refl, sym, ap, ℕ, suc, ◌+◌, ◌<◌, ◌≤◌, Bool, true}
+use Rattle.std.proofs.Common.{◌≡◌, ◌∙◌, refl, sym, ap, ℕ, ◌+◌, ◌<◌, ◌≤◌, Bool, true}
 use Rattle.std.proofs.Common.{false, List, [], ◌∷◌, ◌++◌, length}
 use Rattle.std.proofs.Common.{arith, Option, Some, None, slice_get, ◌⊎◌, inl}
 use Rattle.std.proofs.Common.{inr}
-use Rattle.std.specs.Prelude.{is_some, Result, Ok, Err, nat_lt, ◌||◌, MatchOption}
+use Rattle.std.specs.Prelude.{is_some, Ok, Err, ◌||◌, MatchOption}
 use Rattle.std.proofs.lemmas.Bool.Decides.{nat_tests}
 use Rattle.std.proofs.lemmas.List.{length_push}
 use Rattle.std.proofs.lemmas.Option.{none-some, slice_get_past, slice_get_within}
@@ -20,7 +20,7 @@ use Rattle.hum_stage.specs.declared.faults.State.TheVariants.{Gives, Wants}
 use Rattle.hum_stage.proofs.Moves.{wants_all, is_some_at}
 use Rattle.hum_stage.specs.Order.{open_score}
 use Rattle.hum_stage.specs.Look.{Look, IsSteady, outcomes_from, looking}
-use Rattle.hum_stage.specs.Settles.{MayWait, HasWaited, HasSettledNext, lasting, or_stop, with_due}
+use Rattle.hum_stage.specs.Settles.{MayWait, HasWaited, HasSettledNext, lasting, with_due}
 use Rattle.hum_stage.proofs.Scores.{passed_length}
 use Rattle.hum_stage.specs.Lagging.{Lagged, Lags}
 use Rattle.hum_stage.proofs.Putting.{passed-append, put_parted, take_parted, drops_due, drops_refused}
@@ -43,9 +43,7 @@ wants_empty : (room : ℕ) (follows : Look → List Row → List Row → Type 0)
     → Lags room follows x ended spent t → state_of t ≡ Wants → x.due ≡ due → x.due ≡ None
 wants_empty room follows x ended spent t None h wants e = e
 wants_empty room follows x ended spent t (Some row) h wants e =
-    let past = wants_all t wants in
-    let less = due_settled room follows x ended spent t row h e in
-    absurd (omega (arith, past, less))
+    grind (arith, nat_tests, wants_all t wants, due_settled room follows x ended spent t row h e)
 
 pub put_empty : (room : ℕ) (follows : Look → List Row → List Row
     → Type 0) (x : Lagged) (ended : Option End) (spent : Bool) (r : Row) → spent ≡ false
@@ -59,19 +57,9 @@ pub lags_end : (room : ℕ) (follows : Look → List Row → List Row → Type 0
     (ended : Option End) (spent : Bool) (t : Moment) (end : End)
     → (spent ≡ true) ⊎ MayEnd (λ t. Lags room follows x ended spent t) end
     → Lags room follows x ended spent t → Lags room follows x (Some end) spent (after_end t end)
-lags_end room follows x ended spent t end (inl spoiled) h =
-    let alive = h.alive in cc
+lags_end room follows x ended spent t end (inl spoiled) h = grind (arith, nat_tests)
 lags_end room follows x ended spent t end (inr may) h =
-    let empty = wants_empty room follows x ended spent may.at x.due may.stand may.wants refl in
-    record {
-      look = h.look;
-      steady = h.steady;
-      meaning = h.meaning;
-      alive = h.alive;
-      ending = refl;
-      rests = λ _ _. empty;
-      at = h.at;
-    }
+    grind (arith, nat_tests, wants_empty room follows x ended spent may.at x.due may.stand may.wants refl)
 
 pub lags_dropped : (room : ℕ) (follows : Look → List Row → List Row
     → Type 0) (x : Lagged) (ended : Option End) (spent : Bool) (t : Moment) (r : Row)
@@ -134,19 +122,14 @@ pub lags_rests : (room : ℕ) (follows : Look → List Row → List Row
     → (h : Lags room follows x ended spent t) → x.due ≡ None
     → state_of t ≡ resting_state x.fault ended
 lags_rests room follows x ended spent t h e =
-    let all : length (all_of t) ≡ t.given =
-    rw h.meaning (none_next room h.look (follows h.look) x t.put t.given h.at e) in
-    let k : nat_lt t.given (length (all_of t)) ≡ false = grind (arith, nat_tests, all) in
-    rw k (rw (h.meaning, ← (h.at.fault e), h.ending) refl)
+    grind (arith, nat_tests, none_next room h.look (follows h.look) x t.put t.given h.at e)
 
 -- and else it gives
 pub lags_gives : (room : ℕ) (follows : Look → List Row → List Row
     → Type 0) (x : Lagged) (ended : Option End) (spent : Bool) (t : Moment) (row : Row)
     → (h : Lags room follows x ended spent t) → x.due ≡ Some row → state_of t ≡ Gives
 lags_gives room follows x ended spent t row h e =
-    let some = due_settled room follows x ended spent t row h e in
-    let k : nat_lt t.given (length (all_of t)) ≡ true = grind (arith, nat_tests, some) in
-    rw k refl
+    grind (arith, nat_tests, due_settled room follows x ended spent t row h e)
 
 -- a memory may be given what a stage may be given
 pub may_wait : (room : ℕ) (follows : Look → List Row → List Row → Type 0) (x : Lagged)
@@ -156,8 +139,7 @@ may_wait room follows x ended spent r alive ok (inl spoiled) = cc
 may_wait room follows x ended spent r alive ok (inr may) =
     let a = may.stand.at.ahead ok in
     let put = may.at.put in
-    let past : passed [] put ≡ passed (passed [] a.front) a.waits =
-    ap (passed []) a.split ∙ passed-append [] a.front a.waits in
+    let past : passed [] put ≡ passed (passed [] a.front) a.waits = grind (arith, nat_tests, passed-append) in
     record {
       look = may.stand.look;
       past = passed [] a.front;
@@ -308,8 +290,7 @@ held_stopped room follows x ended spent t h e = rw (h.meaning, ← h.ending) (by
         t.put t.given k.0 h.at k.1
 
 none_end : {X : Type 0} (o : Option X) → is_some o ≡ false → o ≡ None
-none_end None e = refl
-none_end (Some k) e = cc
+none_end = grind (arith, nat_tests)
 
 pub held_open : (room : ℕ) (follows : Look → List Row → List Row
     → Type 0) (x : Lagged) (ended : Option End) (spent : Bool) (t : Moment) (n : ℕ)
@@ -327,13 +308,7 @@ held_open room follows x ended spent t n h going e count =
 
 lasting_le : (look : Look) (past rows : List Row) → lasting look past rows ≤ length rows
 lasting_le look past [] = omega arith
-lasting_le look past (row ∷ rows) = step (look past row rows) (lasting_le look (row ∷ past) rows)
-  where
-    step : (d : Option (Result (List Row) Rule)) → lasting look (row ∷ past) rows ≤ length rows
-        → or_stop d (lasting look (row ∷ past) rows) ≤ suc (length rows)
-    step None h = omega (arith, h)
-    step (Some (Ok new)) h = omega (arith, h)
-    step (Some (Err rule)) h = omega arith
+lasting_le look past (row ∷ rows) = grind (arith, nat_tests, lasting_le look (row ∷ past) rows)
 
 -- no more wait than there is room for
 pub held_few : (room : ℕ) (follows : Look → List Row → List Row
@@ -341,29 +316,20 @@ pub held_few : (room : ℕ) (follows : Look → List Row → List Row
     → (h : Lags room follows x ended spent t) → is_some x.fault ≡ false
     → ((look : Look) (past rows : List Row) → follows look past rows → n ≡ lasting look past rows)
     → n ≤ room
-held_few room follows x ended spent t n h e count =
-    let a = h.at.ahead (none_end x.fault e) in
-    let k = count h.look (passed [] a.front) a.waits a.memory in
-    let l = lasting_le h.look (passed [] a.front) a.waits in
-    let few = a.few in
-    omega (arith, k, l, few)
+held_few = grind (arith, nat_tests, none_end, lasting_le)
 
 -- what is due, by whether something is
 pub due_none : (due : Option Row) → is_some due ≡ false → due ≡ None
-due_none None e = refl
-due_none (Some row) e = cc
+due_none = grind (arith, nat_tests)
 
 pub due_some : (due : Option Row) → is_some due ≡ true → (row : Row) × (due ≡ Some row)
-due_some None e = cc
-due_some (Some row) e = (row, refl)
+due_some = grind (arith, nat_tests)
 
 -- where none waits, none comes next
 none_next_waits : (room n : ℕ) (follows : Look → List Row → List Row → Type 0)
     → ((look : Look) (past rows : List Row) → follows look past rows → rows ≡ [])
     → HasSettledNext room follows follows n (Ok None)
-none_next_waits room n follows none look past rows h few =
-    let empty = none look past rows h in
-    rw empty (record { dropped = []; rest = []; split = refl; outcomes = refl; behind = rw empty at h })
+none_next_waits = grind (arith, nat_tests)
 
 -- What is due where none waits is taken, and was all that was held.
 pub lags_lone : (room : ℕ) (follows : Look → List Row → List Row → Type 0) (x : Lagged)

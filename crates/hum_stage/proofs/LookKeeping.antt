@@ -1,8 +1,8 @@
 -- Commands that look ahead keep scores, step by step.
-use Rattle.std.proofs.Common.{◌≡◌, ◌∙◌, refl, sym, ap, ℕ, ◌+◌, Bool, true, false, List, [], ◌∷◌, take, length, cond, arith}
+use Rattle.std.proofs.lemmas.Grind.{common_steps}
+use Rattle.std.proofs.Common.{◌≡◌, refl, ℕ, ◌+◌, Bool, false, List, [], ◌∷◌, take, length, cond, arith}
 use Rattle.std.specs.Prelude.{nat_le, Option, Some, None, Result, Ok, Err}
 use Rattle.std.proofs.lemmas.Bool.Decides.{nat_tests}
-use Rattle.std.proofs.lemmas.List.{take_all}
 use Rattle.hum_score.specs.Row.{Row}
 use Rattle.hum_score.specs.Spines.{Path, Unopened}
 use Rattle.hum_score.specs.Rules.{is_unfinished}
@@ -35,8 +35,7 @@ score_from room look Leads past (row ∷ rows) given k sound leads follow =
     one_of (look past row (take room rows)) refl (λ next leads. score_from room look Leads (row ∷ past) rows next k (sound, follow.0) leads follow.1)
   where
     undecided : (b : Bool) → Follow given (settled (cond b (Refused H1) Undecided ∷ outcomes_from room look (row ∷ past) rows))
-    undecided true = tt
-    undecided false = tt
+    undecided = grind (arith, nat_tests)
 
     one_of : (d : Option (Result (List Row) Rule)) → look past row (take room rows) ≡ d
         → ((next : Path) → Leads (row ∷ past) next → Follow next (settled (outcomes_from room look (row ∷ past) rows)))
@@ -61,10 +60,7 @@ closed_from room look Leads past (row ∷ rows) line given k sound leads follow 
     undecided : (b : Bool) → nat_le room (length rows) ≡ b → look past row (take room rows) ≡ None
         → refusal line (cond b (Refused H1) Undecided ∷ outcomes_from room look (row ∷ past) rows) ≡ None
         → is_unfinished (through given (settled (cond b (Refused H1) Undecided ∷ outcomes_from room look (row ∷ past) rows))) ≡ false
-    undecided true w e none = cc
-    undecided false w e none =
-        let all : take room rows ≡ rows = take_all room rows (grind (arith, nat_tests, w)) in
-        absurd (k.decided past row rows (sound, follow.0) follow.1 end (ap (look past row) (sym all) ∙ e))
+    undecided = grind (arith, common_steps)
 
     one_of : (d : Option (Result (List Row) Rule)) → look past row (take room rows) ≡ d
         → ((next : Path) → Leads (row ∷ past) next → refusal (line + 1)
@@ -79,7 +75,5 @@ closed_from room look Leads past (row ∷ rows) line given k sound leads follow 
     one_of None e more none = undecided (nat_le room (length rows)) refl e none
 
 pub looking_keeps : (room : ℕ) (look : Look) (Leads : List Row → Path → Type 0) → LookKeeps look Leads → KeepsScore (outcomes_from room look [])
-looking_keeps room look Leads k = record {
-  score = λ p s. score_from room look Leads [] p Unopened k tt k.opening s;
-  closed = λ p s none. (score_from room look Leads [] p Unopened k tt k.opening s.0, closed_from room look Leads [] p 1 Unopened k tt k.opening s.0 none s.1);
-}
+looking_keeps room look Leads k =
+    grind (arith, nat_tests, score_from room look Leads, closed_from room look Leads)

@@ -1,18 +1,17 @@
 -- One record more, and what comes next.
-use Rattle.std.proofs.Common.{◌≡◌, ◌∙◌, refl, sym, ap, ℕ, suc, ◌+◌, ◌-◌, ◌≤◌, ◌<◌, Bool, true, false}
-use Rattle.std.proofs.Common.{List, [], ◌∷◌, ◌++◌, map, take, length, append_assoc, append-nil, cond}
+use Rattle.std.proofs.lemmas.Grind.{common_steps}
+use Rattle.std.proofs.Common.{◌≡◌, ◌∙◌, refl, sym, ap, ℕ, ◌+◌, ◌-◌, ◌≤◌, ◌<◌}
+use Rattle.std.proofs.Common.{List, [], ◌∷◌, ◌++◌, map, take, length, append_assoc, append-nil}
 use Rattle.std.proofs.Common.{length-append, arith, Option, Some, None}
 use Rattle.std.proofs.lemmas.List.{map-append}
-use Rattle.std.specs.Prelude.{nat_le, Result, Ok, Err}
+use Rattle.std.specs.Prelude.{Result, Ok, Err}
 use Rattle.std.proofs.lemmas.Bool.Decides.{nat_tests}
 use Rattle.std.proofs.lemmas.Option.{none-some}
 use Rattle.hum_score.specs.Row.{Row}
 use Rattle.hum_score.specs.Score.{passed, IsOpen}
 use Rattle.hum_stage.specs.Order.{passed-push}
 use Rattle.hum_stage.specs.declared.faults.Rule.{Rule}
-use Rattle.hum_stage.specs.declared.faults.Rule.TheVariants.{H1}
-use Rattle.hum_stage.specs.Outcome.{Outcome, Becomes, Refused, Undecided, refusal}
-use Rattle.hum_stage.specs.Meaning.{fault_at}
+use Rattle.hum_stage.specs.Outcome.{Outcome, Refused, Undecided}
 use Rattle.hum_stage.specs.Look.{Look, IsSteady, outcome_of, outcomes_from}
 use Rattle.hum_stage.specs.LookLaws.{flat-append}
 use Rattle.hum_stage.specs.Settles.{Drops, NextIs, all_dropped}
@@ -69,28 +68,7 @@ pub put_parted : (room : ℕ) (look : Look) (follows : List Row → List Row →
     (put : List Row) (next : Row) (given : ℕ) → IsSteady look → IsOpen (next ∷ passed [] put)
     → (h : LagsAt room look follows x put given) → x.due ≡ None → (ok : x.fault ≡ None)
     → Parted room look (put ++ next ∷ []) given h.gone (h.ahead ok).front ((h.ahead ok).waits ++ next ∷ [])
-put_parted room look follows x put next given steady score h empty ok =
-    let a = h.ahead ok in
-    let all : h.gone ++ listed x.due ≡ h.gone =
-    ap (λ (o : Option Row). h.gone ++ listed o) empty ∙ append-nil h.gone in
-    let score' : IsOpen (next ∷ passed [] (a.front ++ a.waits)) = rw (← a.split) score in
-    let os : outcomes_from room look [] (a.front ++ a.waits) ≡ map becomes h.gone ++ h.rest =
-    ap (λ (xs : List Row). outcomes_from room look [] xs) (sym a.split)
-    ∙ (h.outcomes ∙ ap (λ (xs : List (Option Row)). map becomes xs ++ h.rest) all) in
-    let count = a.counted ∙ ap length all in
-    let along : put ++ next ∷ [] ≡ a.front ++ (a.waits ++ next ∷ []) =
-    ap (λ (xs : List Row). xs ++ next ∷ []) a.split ∙ append_assoc a.front a.waits (next ∷ []) in
-    let sum : length (a.waits ++ next ∷ []) ≡ length a.waits + 1 = length-append a.waits (next ∷ [])
-    in
-    let few = a.few in
-    record {
-      split = along;
-      counted = count;
-      given_so = h.counted;
-      outcomes = ap (λ (xs : List Row). outcomes_from room look [] xs) along
-          ∙ front_stays room look [] a.front a.waits h.gone h.rest next steady score' count os;
-      few = omega (arith, sum, few);
-    }
+put_parted = grind (arith, nat_tests, append-nil, append_assoc, length-append, front_stays)
 
 -- the record that was due is gone
 pub take_parted : (room : ℕ) (look : Look) (follows : List Row → List Row → Type 0) (x : Lagged)
@@ -124,12 +102,10 @@ nones_flat (row ∷ dropped) = nones_flat dropped
 
 nones_dropped : (dropped : List Row) → map becomes (nones dropped) ≡ all_dropped dropped
 nones_dropped [] = refl
-nones_dropped (row ∷ dropped) =
-    ap (λ (os : List Outcome). Becomes [] ∷ os) (nones_dropped dropped)
+nones_dropped (row ∷ dropped) = grind (arith, nat_tests, nones_dropped dropped)
 
 nones_length : (dropped : List Row) → length (nones dropped) ≡ length dropped
-nones_length [] = refl
-nones_length (row ∷ dropped) = ap suc (nones_length dropped)
+nones_length = grind (arith, common_steps)
 
 -- the first of those that wait are dropped
 drop_parted : (room : ℕ) (look : Look) (put : List Row) (given : ℕ) (gone : List (Option Row))
@@ -145,29 +121,19 @@ drop_parted room look put given gone front waits then p d =
     let b = length-append gone (nones d.dropped) in
     let n = nones_length d.dropped in
     record {
-      split = p.split ∙ (ap (λ (xs : List Row). front ++ xs) d.split
-          ∙ sym (append_assoc front d.dropped d.rest));
+      split = grind (arith, nat_tests, append_assoc);
       counted = omega (arith, a, b, n, count);
       given_so = p.given_so ∙ ap length (sym (flat-append gone (nones d.dropped)
           ∙ (ap (λ (xs : List Row). flat gone ++ xs) (nones_flat d.dropped)
           ∙ append-nil (flat gone))));
-      outcomes = p.outcomes ∙ (ap (λ (os : List Outcome). map becomes gone ++ os) d.outcomes
-          ∙ rw (map-append becomes gone (nones d.dropped), nones_dropped, passed-append)
-          (sym (append_assoc (map becomes gone) (all_dropped d.dropped)
-          (outcomes_from room look (passed (passed [] front) d.dropped) d.rest))));
+      outcomes = grind (arith, nat_tests, map-append, nones_dropped, passed-append, append_assoc);
       few = omega (arith, cut, sum, few);
     }
 
 -- what is undecided has room behind it
 undecided_room : (room n : ℕ) (d : Option (Result (List Row) Rule)) → outcome_of room n d ≡ Undecided
     → n < room
-undecided_room room n (Some (Ok rows)) e = cc
-undecided_room room n (Some (Err rule)) e = cc
-undecided_room room n None e = on (nat_le room n) refl e
-  where
-    on : (b : Bool) → nat_le room n ≡ b → cond b (Refused H1) Undecided ≡ Undecided → n < room
-    on true w e = cc
-    on false w e = grind (arith, nat_tests, w)
+undecided_room = grind (arith, nat_tests)
 
 -- Then a record is due, or none.
 pub at_due : (room : ℕ) (look : Look) (follows : List Row → List Row → Type 0) (x : Lagged)
@@ -186,8 +152,7 @@ at_due room look follows x put given n gone front [] None line ok p next =
       outcomes = p.outcomes ∙ ap (λ (xs : List (Option Row)). map becomes xs ++ []) (sym all);
       counted = p.given_so;
       stopped = λ _. tt;
-      fault = λ _. ok ∙ sym (ap (λ (r : Option (ℕ × Rule)). fault_at x.stage x.command r)
-          (ap (refusal 1) p.outcomes ∙ refusal_behind 1 gone []));
+      fault = grind (arith, nat_tests, refusal_behind);
       faultless = λ row e. absurd (none-some row e);
       ahead = λ _. record {
         front = front;
@@ -214,8 +179,7 @@ at_due room look follows x put given n gone front (row ∷ rest) None line ok p 
           look (passed [] front) (row ∷ rest)) (sym all);
       counted = p.given_so;
       stopped = λ _. rw next.0 tt;
-      fault = λ _. ok ∙ sym (ap (λ (r : Option (ℕ × Rule)). fault_at x.stage x.command r)
-          (ap (refusal 1) p.outcomes ∙ (refusal_behind 1 gone _ ∙ ap (refusal (1 + length gone)) os)));
+      fault = grind (arith, nat_tests, refusal_behind);
       faultless = λ row e. absurd (none-some row e);
       ahead = λ _. record {
         front = front;
@@ -236,10 +200,7 @@ at_due room look follows x put given n gone front (row ∷ rest) (Some due) line
       line = line;
       gone = gone;
       rest = outcomes_from room look (row ∷ passed [] front) rest;
-      outcomes = p.outcomes ∙ (ap (λ (o : Outcome). map becomes gone ++ o ∷ outcomes_from room look
-          (row ∷ passed [] front) rest) next.0 ∙ rw (map-append becomes gone (Some due ∷ []))
-          (sym (append_assoc (map becomes gone) (Becomes (due ∷ []) ∷ [])
-          (outcomes_from room look (row ∷ passed [] front) rest))));
+      outcomes = grind (arith, nat_tests, map-append, append_assoc);
       counted = p.given_so;
       stopped = λ e. absurd (none-some due (sym e));
       fault = λ e. absurd (none-some due (sym e));
@@ -264,8 +225,7 @@ pub at_refused : (room : ℕ) (look : Look) (follows follows' : List Row → Lis
     → LagsAt room look follows' (refused_lagged x n rule) put given
 at_refused room look follows follows' x put given n gone front [] rule line empty p next = absurd next
 at_refused room look follows follows' x put given n gone front (row ∷ rest) rule line empty p next =
-    let all : gone ++ listed x.due ≡ gone =
-    ap (λ (o : Option Row). gone ++ listed o) empty ∙ append-nil gone in
+    let all : gone ++ listed x.due ≡ gone = grind (arith, nat_tests, append-nil) in
     let os : outcomes_from room look (passed [] front) (row ∷ rest)
     ≡ Refused rule ∷ outcomes_from room look (row ∷ passed [] front) rest =
     ap (λ (o : Outcome). o ∷ outcomes_from room look (row ∷ passed [] front) rest) next.0 in
@@ -282,8 +242,7 @@ at_refused room look follows follows' x put given n gone front (row ∷ rest) ru
           look (passed [] front) (row ∷ rest)) (sym all);
       counted = p.given_so;
       stopped = λ _. rw next.0 tt;
-      fault = λ _. rw at (sym (ap (λ (r : Option (ℕ × Rule)). fault_at x.stage x.command r)
-          (ap (refusal 1) p.outcomes ∙ (refusal_behind 1 gone _ ∙ ap (refusal (1 + length gone)) os))));
+      fault = grind (arith, nat_tests, refusal_behind);
       faultless = λ row e. absurd (none-some row (sym empty ∙ e));
       ahead = λ e. absurd (none-some _ (sym e));
     }

@@ -1,4 +1,5 @@
 -- How much room the records take that wait in a stage.
+use Rattle.std.proofs.lemmas.Grind.{common_steps}
 use Rattle.std.proofs.Common.{◌≡◌, ◌∙◌, ap, sym, refl, arith, ℕ, suc, ◌+◌, ◌-◌, ◌≤◌, min, Bool, true, false, map}
 use Rattle.std.proofs.Common.{append-nil}
 use Rattle.std.proofs.Common.{List, [], ◌∷◌, ◌++◌, length, drop, Option, Some, None}
@@ -17,7 +18,7 @@ use Rattle.hum_stage.specs.Outcome.{Outcome, Becomes, Refused, Undecided, refusa
 use Rattle.hum_stage.specs.Meaning.{Moment, unserved, waiting_rows, fault_at}
 use Rattle.hum_stage.specs.Look.{Look, outcomes_from}
 use Rattle.hum_stage.specs.LookLaws.{looks_each}
-use Rattle.hum_stage.specs.Lagging.{Lagged, Lags, LagsAt, becomes, flat, listed, Stops}
+use Rattle.hum_stage.specs.Lagging.{Lagged, Lags, LagsAt, becomes, flat, Stops}
 use Rattle.hum_stage.specs.Standing.{Standing, Fields}
 use Rattle.hum_stage.specs.Decided.{Decision}
 use Rattle.hum_stage.proofs.Fronts.{refusal_behind}
@@ -38,23 +39,16 @@ one_less n = omega arith
 went : (gone : List (Option Row)) (rest : List Outcome) (front waits : List Row)
     → length front ≡ length gone
     → unserved (length (flat gone)) (map becomes gone ++ rest) (front ++ waits) ≡ unserved 0 rest waits
-went [] rest [] waits e = refl
-went [] rest (row ∷ front) waits e = cc
-went (o ∷ gone) rest [] waits e = cc
 went (None ∷ gone) rest (row ∷ front) waits e =
     rw (none_fits (length (flat gone)), none_less (length (flat gone))) (went gone rest front waits (omega (arith, e)))
 went (Some new ∷ gone) rest (row ∷ front) waits e =
     rw (one_fits (length (flat gone)), one_less (length (flat gone))) (went gone rest front waits (omega (arith, e)))
+went gone rest front waits h = grind (arith, common_steps)
 
 -- and of the others none is, where none is due,
 stopped_unserved : (rest : List Outcome) (waits : List Row) → Stops rest → length rest ≡ length waits
     → refusal 1 rest ≡ None → rooms_for waits ≤ rooms_for (unserved 0 rest waits)
-stopped_unserved [] [] stops e none = omega arith
-stopped_unserved [] (row ∷ waits) stops e none = cc
-stopped_unserved (o ∷ rest) [] stops e none = cc
-stopped_unserved (Becomes rows ∷ rest) (row ∷ waits) stops e none = absurd stops
-stopped_unserved (Refused rule ∷ rest) (row ∷ waits) stops e none = cc
-stopped_unserved (Undecided ∷ rest) (row ∷ waits) stops e none = omega arith
+stopped_unserved = grind (arith, common_steps)
 
 -- nor behind one that is due,
 due_unserved : (gone : List (Option Row)) (due : Row) (rest : List Outcome) (front waits : List Row)
@@ -68,8 +62,7 @@ due_unserved (o ∷ gone) due rest [] waits e = cc
 due_unserved (None ∷ gone) due rest (row ∷ front) waits e =
     rw (none_fits (length (flat gone)), none_less (length (flat gone))) (due_unserved gone due rest front waits (omega (arith, e)))
 due_unserved (Some new ∷ gone) due rest (row ∷ front) waits e =
-    rw (one_fits (length (flat gone)), one_less (length (flat gone)))
-    (due_unserved gone due rest front waits (omega (arith, e)))
+    grind (arith, nat_tests, due_unserved gone due rest front waits (omega (arith, e)))
 
 -- which isn't given yet
 due_settled : (gone : List (Option Row)) (due : Row) (rest : List Outcome)
@@ -86,10 +79,8 @@ none_refused stage command line (Becomes rows ∷ rest) fault e none = by_line (
   where
     by_line : (m n : ℕ) (os : List Outcome) → fault ≡ fault_at stage command (refusal n os)
         → refusal m os ≡ None
-    by_line m n [] e = refl
     by_line m n (Becomes rows ∷ os) e = by_line (m + 1) (n + 1) os e
-    by_line m n (Refused rule ∷ os) e = absurd (none-some _ (sym none ∙ e))
-    by_line m n (Undecided ∷ os) e = refl
+    by_line m n os h = grind (arith, nat_tests)
 none_refused stage command line (Refused rule ∷ rest) fault e none = absurd (none-some _ (sym none ∙ e))
 none_refused stage command line (Undecided ∷ rest) fault e none = refl
 
@@ -104,10 +95,8 @@ lags_room_at room look follows x put given a b None h ok e first others =
     let w = h.ahead ok in
     let kept = others (passed [] w.front) w.waits w.memory in
     let all : outcomes_from room look [] put ≡ map becomes h.gone ++ h.rest =
-    h.outcomes ∙ ap (λ (xs : List (Option Row)). map becomes xs ++ h.rest)
-    (ap (λ (o : Option Row). h.gone ++ listed o) e ∙ append-nil h.gone) in
-    let counted : length w.front ≡ length h.gone = w.counted
-    ∙ ap (λ (xs : List (Option Row)). length xs) (ap (λ (o : Option Row). h.gone ++ listed o) e ∙ append-nil h.gone) in
+    grind (arith, nat_tests, append-nil) in
+    let counted : length w.front ≡ length h.gone = grind (arith, nat_tests, append-nil) in
     let none = none_refused x.stage x.command (1 + length h.gone) h.rest x.fault
     (h.fault e ∙ ap (λ r. fault_at x.stage x.command r) (ap (refusal 1) all ∙ refusal_behind 1 h.gone h.rest)) ok in
     let each : length h.rest ≡ length w.waits = rw w.outcomes (looks_each room look (passed [] w.front) w.waits) in
@@ -115,15 +104,7 @@ lags_room_at room look follows x put given a b None h ok e first others =
     let gone = went h.gone h.rest w.front w.waits counted in
     rw (all, w.split, h.counted, gone) (omega (arith, first, kept, rest))
 lags_room_at room look follows x put given a b (Some row) h ok e first others =
-    let w = h.ahead ok in
-    let kept = others (passed [] w.front) w.waits w.memory in
-    let all : outcomes_from room look [] put ≡ map becomes (h.gone ++ Some row ∷ []) ++ h.rest =
-    h.outcomes ∙ ap (λ (o : Option Row). map becomes (h.gone ++ listed o) ++ h.rest) e in
-    let counted : length w.front ≡ length (h.gone ++ Some row ∷ []) = w.counted
-    ∙ ap (λ (o : Option Row). length (h.gone ++ listed o)) e in
-    let behind = due_unserved h.gone row h.rest w.front w.waits counted in
-    let next = due_settled h.gone row h.rest in
-    rw (all, w.split, h.counted) (omega (arith, first, kept, next, behind))
+    grind (arith, nat_tests, due_unserved, due_settled)
 
 pub lags_room : (room : ℕ) (follows : Look → List Row → List Row → Type 0) (x : Lagged)
     (ended : Option End) (spent : Bool) (t : Moment) (a b n : ℕ)
@@ -136,11 +117,9 @@ lags_room room follows x ended spent t a b n h fault first others sum =
     rw (h.meaning, rooms_append _ _) (omega (arith, both, sum))
   where
     none_end : (o : Option Fault) → is_some o ≡ false → o ≡ None
-    none_end None e = refl
-    none_end (Some k) e = cc
+    none_end = grind (arith, nat_tests)
 
 -- What is due of a stage that decides at once waits.
 pub standing_room : (follows : Decision → List Row → Type 0) (x : Fields) (ended : Option End) (spent : Bool)
     (t : Moment) (n : ℕ) → Standing follows x ended spent t → n ≤ rooms_for x.due → n ≤ rooms_for (waiting_rows t)
-standing_room follows x ended spent t n h room =
-    rw (h.meaning, rooms_append _ _) (omega (arith, rw h.at.due at room))
+standing_room = grind (arith, nat_tests, rooms_append)

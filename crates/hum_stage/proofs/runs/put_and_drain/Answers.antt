@@ -1,5 +1,6 @@
-use Rattle.std.proofs.Common.{◌≡◌, ◌∙◌, sym, ap, List, [], ◌∷◌, ◌++◌, ◌+◌, append_assoc, Some}
-use Rattle.std.specs.Prelude.{slice_get, drop, OnOk, Result, Ok, Err}
+use Rattle.std.proofs.lemmas.Bool.Decides.{nat_tests}
+use Rattle.std.proofs.Common.{◌≡◌, ◌∙◌, sym, ap, List, [], ◌∷◌, ◌++◌, ◌+◌, append_assoc, Some, arith}
+use Rattle.std.specs.Prelude.{slice_get, drop, OnOk, Result}
 use Rattle.std.specs.declared.alloc.AllocError.{AllocError}
 use Rattle.hum_score.specs.Row.{Row}
 use Rattle.hum_stage.specs.Meaning.{Moment, all_of, after_put, after_take, TookAll}
@@ -18,8 +19,7 @@ first_and_others after before now t row e h = record {
 }
 
 on_ok : {A B : Type 0} (r : Result (Unit {0}) AllocError) → OnOk r A → (A → B) → OnOk r B
-on_ok (Ok x) a f = f a
-on_ok (Err e) a f = tt
+on_ok = grind (arith, nat_tests)
 
 pub returns : goal.returns
 returns g c = on_ok c.drain.result c.drain.ensures (λ took t h going score.
