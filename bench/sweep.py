@@ -373,9 +373,14 @@ def edited(lines, span, edits):
     return out
 
 
-def tried(lines):
-    """A file's lines with a copy of the lemma behind each lemma for each of its forms, and the forms. For a lemma of a `where` block the copy is of the
-    lemma that has the block: a check tells one error of a lemma."""
+def unfolded(files):
+    """The names whose bodies count, since something unfolds them."""
+    return {name for lines in files.values() for line in lines if line.lstrip().startswith('unfolding ') for name in line.split()[1:]}
+
+
+def tried(lines, kept):
+    """A file's lines with a copy of the lemma behind each lemma for each of its forms, and the forms, but of those names that are kept. For a lemma of a
+    `where` block the copy is of the lemma that has the block: a check tells one error of a lemma."""
     outer = outermost(lemmas_of(lines))
     every = names_of(lines, outer)
     forms, out = [], []
@@ -383,7 +388,7 @@ def tried(lines):
 
     def copies(lemma, root, names):
         """Copies of a lemma, or of the one in whose `where` block it stands."""
-        for form in forms_of(lemma, lines, names):
+        for form in forms_of(lemma, lines, names) if lemma.name not in kept else []:
             if any(it is None for it in form.edits.values()) or form.saves() < 1:
                 continue
             new = f'{root.name}-sweep{len(forms)}'
@@ -612,6 +617,16 @@ def take_back(files, forms, said, again):
     return count
 
 
+def give_up(files, forms, said):
+    """Where an error names no form, those of its file stay as they were, all of them."""
+    count = 0
+    for name in {file for file, _, _ in errors(said)} & files.keys():
+        for form in choice(forms[name]):
+            form.failed = True
+            count += 1
+    return count
+
+
 def in_place(scratch, files, forms):
     """The files with what was admitted in place, once that is proved."""
     for turn in range(ROUNDS):
@@ -621,6 +636,8 @@ def in_place(scratch, files, forms):
         if proved(said):
             return {file: lines for file, (lines, _) in new.items()}
         count = take_back(new, forms, said, turn > 0)
+        if not count:
+            count = give_up(new, forms, said)
         print(f'  taken back: {count}', flush=True)
         if not count:
             break
@@ -664,9 +681,9 @@ def sweep(crate):
     holds, before = measured(scratch, files)
     if not holds:
         sys.exit(f'{crate}: not proved before, see {scratch.log}')
-    forms, copies = {}, {}
+    forms, copies, kept = {}, {}, unfolded(files)
     for file, lines in files.items():
-        forms[file], copies[file] = tried(lines)
+        forms[file], copies[file] = tried(lines, kept)
     written_to(folder, copies)
     said, trying = scratch.check()
     for file in files:
