@@ -1,7 +1,9 @@
 -- What is given is a prefix of the meaning, and at the end all of it.
+use Rattle.std.proofs.lemmas.Grind.{common_steps}
+use Rattle.std.proofs.lemmas.Bool.Decides.{nat_tests}
 use Rattle.std.proofs.Common.{◌≡◌, ℕ, zero, suc, ◌+◌, ◌<◌, ◌≤◌, Bool, true, if◌then◌else◌, nat_lt}
-use Rattle.std.proofs.Common.{List, [], ◌++◌, map, length, Option, Some, refl, sym, ap, ◌∙◌, subst}
-use Rattle.std.proofs.Common.{⊎_elim, arith, append-nil, eq-eqb, ne_eqb}
+use Rattle.std.proofs.Common.{List, [], map, length, Option, Some, refl, sym, ap, ◌∙◌, subst}
+use Rattle.std.proofs.Common.{⊎_elim, arith, eq-eqb, ne_eqb}
 use Rattle.std.proofs.lemmas.Bool.{cases_eq, cond-true, cond-false}
 use Rattle.std.proofs.lemmas.List.{length-map}
 use Rattle.hum_stage.specs.declared.faults.End.{End}
@@ -11,7 +13,7 @@ use Rattle.hum_turns.specs.Plan.{IsLawful, Plan, last, IsPlan}
 use Rattle.hum_turns.specs.Meaning.{meanings, meaning, plan_meaning, EveryMeaningIsFine}
 use Rattle.hum_turns.specs.Links.{Link, given, view, Moment, inputs, is_over, Agrees}
 use Rattle.hum_turns.specs.Turns.{State, Gives, by_want, stage_state}
-use Rattle.hum_turns.proofs.Fronts.{begins_trans, begins_append, begins_all, same_over, map_same}
+use Rattle.hum_turns.proofs.Fronts.{begins_trans, begins_append, same_over, map_same}
 use Rattle.hum_turns.proofs.Fronts.{later_map, fine_map, over_map, is_set}
 use Rattle.hum_turns.proofs.Good.{GoodAt, at_end, grown}
 use Rattle.hum_turns.proofs.States.{last_less}
@@ -33,10 +35,7 @@ finals plan k = map (meaning plan) (plan.stage k).sources
 
 pub meaning_is : {R : Type 0} (plan : Plan R) (k : ℕ) → IsPlan plan → k < plan.count
     → meaning plan k ≡ whole (plan.stage k) (finals plan k)
-meaning_is plan k ok less =
-    cond-true _ _ _ (eq-eqb k k refl)
-    ∙ ap (whole (plan.stage k)) (map_same (meanings plan k) (meaning plan) (λ s. s < k)
-    (λ s h. meanings_at plan k s h) (plan.stage k).sources (ok.below k less))
+meaning_is = grind (arith, nat_tests, cond-true, eq-eqb, map_same, meanings_at)
 
 -- A link against the meaning.
 
@@ -45,8 +44,7 @@ flow_of xs o = record { items = xs; end = o }
 
 all_taken : {R : Type 0} (l : Link R) (s : List R) → Begins (given l) s
     → length s ≤ length (given l) → l.waiting ≡ [] → s ≡ l.taken
-all_taken l s h n w =
-    sym (begins_all (given l) s h n) ∙ ap (λ ws. l.taken ++ ws) w ∙ append-nil l.taken
+all_taken = grind (arith, common_steps)
 
 module _ {R : Type 0} {fine : Flow R → Bool} {st : Stage R} (law : IsLawful fine st) where
   -- when the end was heard, all was taken
@@ -180,14 +178,7 @@ agrees_good {R} plan other size m agree inv k lesso =
 
 pub agrees_self : {R : Type 0} (plan : Plan R) (size : ℕ) (m : Moment R) → Inv plan size m
     → Agrees plan plan m
-agrees_self plan size m inv = record {
-  count = refl;
-  sources = λ k h. refl;
-  read = λ k h. (inv k h).within;
-  output = λ k a h. refl;
-  wants = λ k a h. refl;
-  own = λ k a h. refl;
-}
+agrees_self = grind (arith, nat_tests)
 
 pub every_meaning_is_fine : {R : Type 0} → EveryMeaningIsFine R
 every_meaning_is_fine plan ok keeps = meaning_fine plan ok keeps

@@ -1,10 +1,11 @@
 -- How much each turn moves, and so how many turns there can be.
-use Rattle.std.proofs.Common.{◌≡◌, ℕ, zero, suc, pred, ◌+◌, ◌<◌, ◌≤◌, min, true, false, ◌||◌}
+use Rattle.std.proofs.lemmas.Bool.Decides.{nat_tests}
+use Rattle.std.proofs.Common.{◌≡◌, ℕ, zero, suc, pred, ◌+◌, ◌<◌, ◌≤◌, min, true, false}
 use Rattle.std.proofs.Common.{if◌then◌else◌, nat_lt, List, [], ◌∷◌, ◌++◌, length, slice_get, Option}
-use Rattle.std.proofs.Common.{Some, None, is_some, is_none, refl, sym, ap, ◌∙◌, subst, ⊎_elim}
+use Rattle.std.proofs.Common.{Some, None, is_some, is_none, refl, sym, ◌∙◌, subst, ⊎_elim}
 use Rattle.std.proofs.Common.{arith, length-append, le-ltb, lt-ltb, eq-eqb, ne_eqb}
-use Rattle.std.proofs.lemmas.Bool.{true≢false, false≢true, cases_eq, cases_lt, cases_Bool}
-use Rattle.std.proofs.lemmas.Bool.{and_parts, and_from, and_left, cond-true, cond-false}
+use Rattle.std.proofs.lemmas.Bool.{cases_eq, cases_lt, cases_Bool}
+use Rattle.std.proofs.lemmas.Bool.{and_parts, cond-true, cond-false}
 use Rattle.std.proofs.lemmas.Option.{none-some, same_Some}
 use Rattle.std.specs.List.{AllByRecursion}
 use Rattle.hum_turns.specs.Plan.{Plan, last, IsPlan}
@@ -14,7 +15,6 @@ use Rattle.hum_turns.specs.Turns.{State, Gives, Reads, Takes, Ends, state, is_so
 use Rattle.hum_turns.specs.Turns.{Becomes, popped, marked, Does, Turns, Step, Run}
 use Rattle.hum_turns.specs.Counts.{turns_of, bytes_read, put, most_of_source, most_of_stage}
 use Rattle.hum_turns.specs.Counts.{most_of_sink, most, total, most_in_all, all_done, bound}
-use Rattle.std.proofs.Math.Nat.{min-le_left, min-le_right, le-min}
 use Rattle.hum_turns.proofs.Fronts.{begins_shorter}
 use Rattle.hum_turns.proofs.States.{Taker, Allowed, last_less, taker, gives_less, ends_less}
 use Rattle.hum_turns.proofs.States.{source_less, ready_allows, reads_source, read_allowed}
@@ -44,18 +44,15 @@ spent plan m k =
 
 unset_counts : {A : Type 0} (o : Option A) → is_none o ≡ true → one_if o ≡ 0
 unfolding one_if
-unset_counts None h = refl
-unset_counts (Some x) h = absurd (false≢true h)
+unset_counts = grind (arith, nat_tests)
 
 set_counts : {A : Type 0} (o : Option A) → is_some o ≡ true → one_if o ≡ 1
 unfolding one_if
-set_counts None h = absurd (false≢true h)
-set_counts (Some x) h = refl
+set_counts = grind (arith, nat_tests)
 
 at_most_one : {A : Type 0} (o : Option A) → one_if o ≤ 1
 unfolding one_if
-at_most_one None = omega arith
-at_most_one (Some x) = omega arith
+at_most_one = grind (arith, nat_tests)
 
 -- A link that has gone on.
 
@@ -68,11 +65,7 @@ unmoved l = record { did = omega arith; had = omega arith }
 
 grown_each : {R : Type 0} (k : ℕ) (l : Link R) (old new : Moment R) → Becomes k l old new
     → Grown (old k) l → (s : ℕ) → Grown (old s) (new s)
-grown_each k l old new d g s =
-    ⊎_elim
-    (λ i. subst (λ j. Grown (old j) (new j)) (sym i) (subst (Grown (old k)) (sym d.here) g))
-    (λ o. subst (Grown (old s)) (sym (d.elsewhere s o)) (unmoved (old s)))
-    (cases_eq s k)
+grown_each = grind (arith, nat_tests)
 
 module _ {R : Type 0} (old new : Moment R) (g : (s : ℕ) → Grown (old s) (new s)) where
   had_grows : (ss : List ℕ) → had_of old ss ≤ had_of new ss
@@ -84,32 +77,14 @@ module _ {R : Type 0} (old new : Moment R) (g : (s : ℕ) → Grown (old s) (new
   had_more : (ss : List ℕ) (p s : ℕ) → slice_get ss p ≡ Some s → had (old s) + 1 ≤ had (new s)
       → had_of old ss + 1 ≤ had_of new ss
   unfolding had_of
-  had_more [] p s at h = absurd (none-some s at)
-  had_more (t ∷ ss) zero s at h =
-      let e = same_Some t s at in
-      let m : had (old t) + 1 ≤ had (new t) =
-      subst (λ j. had (old j) + 1 ≤ had (new j)) (sym e) h in
-      let b = had_grows ss in
-      omega arith
-  had_more (t ∷ ss) (suc p) s at h =
-      let a = (g t).had in let b = had_more ss p s at h in omega arith
+  had_more (t ∷ ss) (suc p) s at h = grind (arith, nat_tests, had_more ss p s)
+  had_more ss p s h k = grind (arith, nat_tests, none-some, same_Some, had, had_grows)
 
 -- the next record, or the end
 popped_had : {R : Type 0} (l : Link R) (ws : List R) → l.waiting ≡ ws → has_some l ≡ true
     → (did l ≤ did (popped l ws)) × (had l + 1 ≤ had (popped l ws))
 unfolding did had
-popped_had l [] w h =
-    let p = and_parts _ _ h in
-    let new = unset_counts l.heard p.0 in
-    let set = sym (ap (λ ws. nat_lt 0 (length ws) || is_some l.mark) w) ∙ p.1 in
-    let marked = set_counts l.mark set in
-    (omega arith, omega arith)
-popped_had l (x ∷ rest) w h =
-    let n : length l.waiting ≡ length (x ∷ rest) = ap length w in
-    let a = length-append l.taken l.waiting in
-    let b = length-append (l.taken ++ x ∷ []) rest in
-    let c = length-append l.taken (x ∷ []) in
-    (omega arith, omega arith)
+popped_had = grind (arith, nat_tests, and_parts, unset_counts, nat_lt, is_some, set_counts, length-append)
 
 -- What a turn adds.
 
@@ -130,20 +105,7 @@ module _ {R : Type 0} (plan : Plan R) where
 
   spent_grows : (old new : Moment R) → ((s : ℕ) → Grown (old s) (new s)) → (k : ℕ)
       → spent plan old k ≤ spent plan new k
-  spent_grows old new g k =
-      ⊎_elim
-      (λ less.
-      let a = spent_stage old k less in
-      let b = spent_stage new k less in
-      let c = (g k).did in
-      let d = had_grows old new g (plan.stage k).sources in
-      omega arith)
-      (λ sink.
-      let a = spent_sink old k sink in
-      let b = spent_sink new k sink in
-      let c = (g (last plan)).had in
-      omega arith)
-      (cases_lt k plan.count)
+  spent_grows = grind (arith, nat_tests, ⊎_elim, spent_stage, had_grows, spent_sink, cases_lt)
 
   -- a stage that changes its own link
   own_link : (k : ℕ) (l : Link R) (old new : Moment R) → Becomes k l old new → k < plan.count
@@ -153,8 +115,7 @@ module _ {R : Type 0} (plan : Plan R) where
       let a = spent_stage old k less in
       let b = spent_stage new k less in
       let c = had_grows old new g (plan.stage k).sources in
-      let m : did (old k) + 1 ≤ did (new k) =
-      subst (λ j. did (old k) + 1 ≤ did j) (sym e.here) d in
+      let m : did (old k) + 1 ≤ did (new k) = grind (arith, nat_tests, did) in
       record { own = omega arith; others = spent_grows old new g }
 
   -- an actor that takes from another's
@@ -165,24 +126,9 @@ module _ {R : Type 0} (plan : Plan R) where
       let p1 = p.1 in
       let g = grown_each s (popped (old s) (old s).waiting) old new e
       (record { did = p.0; had = omega arith }) in
-      let m : had (old s) + 1 ≤ had (new s) =
-      subst (λ j. had (old s) + 1 ≤ had j) (sym e.here) p.1 in
+      let m : had (old s) + 1 ≤ had (new s) = grind (arith, nat_tests, had) in
       record {
-        own = ⊎_elim
-            (λ w.
-            let ss = (plan.stage k).sources in
-            let a = spent_stage old k w.0 in
-            let b = spent_stage new k w.0 in
-            let c = had_more old new g ss w.1.place s w.1.is_there m in
-            let d = (g k).did in
-            omega arith)
-            (λ w.
-            let a = spent_sink old k w.0 in
-            let b = spent_sink new k w.0 in
-            let c : had (old (last plan)) + 1 ≤ had (new (last plan)) =
-            subst (λ j. had (old j) + 1 ≤ had (new j)) w.1 m in
-            omega arith)
-            by;
+        own = grind (arith, nat_tests, ⊎_elim, spent_stage, had_more, spent_sink, had);
         others = spent_grows old new g;
       }
 
@@ -203,11 +149,7 @@ module _ {R : Type 0} (plan : Plan R) (ok : IsPlan plan) (size : ℕ) where
       let b = length-append l.taken ws in
       let c = length-append l.waiting (d.next ∷ []) in
       own_link plan k _ old new d.becomes (gives_less plan old k st) (omega arith) (omega arith)
-  does_adds k Reads old new st may d =
-      let g : (s : ℕ) → Grown (old s) (new s) =
-      λ s. subst (Grown (old s)) (sym (d s)) (unmoved (old s)) in
-      let e = spent_grows plan old new g k in
-      record { own = omega arith; others = spent_grows plan old new g }
+  does_adds k Reads old new st may d = grind (arith, nat_tests)
   does_adds k (Takes s) old new st may d =
       taken_link plan k s old new d may (taker plan ok old k s st)
   does_adds k Ends old new st may d =
@@ -245,12 +187,10 @@ module _ {R : Type 0} (plan : Plan R) (ok : IsPlan plan) (size : ℕ) where
       }
 
   step_adds : (k : ℕ) (old new : Moment R) → Step plan size k old new → Adds plan k 1 old new
-  step_adds k old new step =
-      turns_add k (state plan old k) old new refl step.is_ready step.turns
+  step_adds = grind (arith, nat_tests, turns_add)
 
   same_spent : (old new : Moment R) → Same old new → (k : ℕ) → spent plan old k ≤ spent plan new k
-  same_spent old new same k =
-      spent_grows plan old new (λ s. subst (Grown (old s)) (sym (same s)) (unmoved (old s))) k
+  same_spent = grind (arith, nat_tests)
 
   -- The turns of one actor are at most what it has spent,
   each_spends : (k : ℕ) (ks : List ℕ) (old new : Moment R) → Run plan size old ks new
@@ -263,8 +203,7 @@ module _ {R : Type 0} (plan : Plan R) (ok : IsPlan plan) (size : ℕ) where
       ⊎_elim
       (λ same.
       let n = cond-true _ (1 + turns_of k js) (turns_of k js) (eq-eqb j k same) in
-      let own : spent plan old k + 1 ≤ spent plan run.0 k =
-      subst (λ i. spent plan old i + 1 ≤ spent plan run.0 i) same a.own in
+      let own : spent plan old k + 1 ≤ spent plan run.0 k = grind (arith, nat_tests, spent) in
       omega arith)
       (λ other.
       let n = cond-false _ (1 + turns_of k js) (turns_of k js) (ne_eqb j k other) in
@@ -303,10 +242,7 @@ total_none f (suc n) h = let a = total_none f n h in let b = h n in omega arith
 all_spend : {R : Type 0} (plan : Plan R) (ok : IsPlan plan) (size : ℕ) (ks : List ℕ)
     (old new : Moment R) → Run plan size old ks new
     → total (spent plan old) (plan.count + 1) + length ks ≤ total (spent plan new) (plan.count + 1)
-all_spend plan ok size [] old new run =
-    let e = total_le (spent plan old) (spent plan new) (plan.count + 1)
-    (λ i less. same_spent plan ok size old new run i) in
-    omega arith
+all_spend plan ok size [] old new run = grind (arith, nat_tests)
 all_spend plan ok size (k ∷ ks) old new run =
     let within = run.1.within in
     let a = step_adds plan ok size k old run.0 run.1 in
@@ -320,39 +256,23 @@ all_spend plan ok size (k ∷ ks) old new run =
 had_none : {R : Type 0} (m : Moment R) → IsOpening m → (ss : List ℕ) → had_of m ss ≡ 0
 unfolding had_of had one_if
 had_none m start [] = refl
-had_none m start (s ∷ ss) =
-    let a = had_none m start ss in let b : had (m s) ≡ 0 = ap had (start s) in omega arith
+had_none m start (s ∷ ss) = grind (arith, nat_tests, had_none m start ss)
 
 none_spent : {R : Type 0} (plan : Plan R) (m : Moment R) → IsOpening m → (k : ℕ)
     → spent plan m k ≡ 0
 unfolding did had one_if
-none_spent plan m start k =
-    ⊎_elim
-    (λ less.
-    let a = spent_stage plan m k less in
-    let b : did (m k) ≡ 0 = ap did (start k) in
-    let c = had_none m start (plan.stage k).sources in
-    omega arith)
-    (λ sink.
-    let a = spent_sink plan m k sink in
-    let b : had (m (last plan)) ≡ 0 = ap had (start (last plan)) in
-    omega arith)
-    (cases_lt k plan.count)
+none_spent = grind (arith, nat_tests, ⊎_elim, spent_stage, did, had_none, spent_sink, had, cases_lt)
 
 -- What was spent, as it is counted for others.
 
 -- the end of the bytes is one more than the bytes
 read_less : (r b : ℕ) → r ≤ b → r ≤ min r (pred b) + 1
-read_less zero b h = omega arith
-read_less (suc r) zero h = absurd (omega arith)
-read_less (suc r) (suc b) h =
-    let a : r ≤ min (suc r) b = le-min (omega arith) (omega arith) in omega arith
+read_less = grind (arith, nat_tests)
 
 had_put : {R : Type 0} (m : Moment R) (ss : List ℕ) → had_of m ss ≤ put m ss + length ss
 unfolding had_of had
 had_put m [] = omega arith
-had_put m (s ∷ ss) =
-    let a = at_most_one (m s).heard in let b = had_put m ss in omega arith
+had_put m (s ∷ ss) = grind (arith, nat_tests, had_put m ss, at_most_one)
 
 module _ {R : Type 0} (plan : Plan R) (m : Moment R) (k : ℕ) where
   most_source : is_source plan k ≡ true → most plan m k ≡ most_of_source (plan.stage k) (m k)
@@ -363,18 +283,11 @@ module _ {R : Type 0} (plan : Plan R) (m : Moment R) (k : ℕ) where
   most_stage h less = cond-false _ _ _ h ∙ cond-true _ _ _ (lt-ltb k plan.count less)
 
   most_sink : plan.count ≤ k → most plan m k ≡ most_of_sink (m (last plan))
-  most_sink h =
-      cond-false _ _ _ (and_left _ _ (le-ltb k plan.count h))
-      ∙ cond-false _ _ _ (le-ltb k plan.count h)
+  most_sink = grind (arith, nat_tests)
 
 not_source : {R : Type 0} (plan : Plan R) (k : ℕ) → is_source plan k ≡ false → k < plan.count
     → (plan.stage k).bytes ≡ 0
-not_source plan k h less =
-    ⊎_elim
-    (λ some. absurd (true≢false
-    (sym (and_from _ _ (lt-ltb k plan.count less) (lt-ltb 0 (plan.stage k).bytes some)) ∙ h)))
-    (λ none. omega arith)
-    (cases_lt 0 (plan.stage k).bytes)
+not_source = grind (arith, nat_tests)
 
 module _ {R : Type 0} (plan : Plan R) (ok : IsPlan plan) (size : ℕ) (m : Moment R)
     (inv : Inv plan size m) where
@@ -386,8 +299,7 @@ module _ {R : Type 0} (plan : Plan R) (ok : IsPlan plan) (size : ℕ) (m : Momen
       let less = source_less plan k src in
       let st = plan.stage k in
       let a = spent_stage plan m k less.0 in
-      let none : had_of m st.sources ≡ 0 =
-      ap (had_of m) ((ok.lawful k less.0).apart less.1) in
+      let none : had_of m st.sources ≡ 0 = grind (arith, nat_tests, had_of) in
       let b = most_source plan m k src in
       let c = read_less (m k).read st.bytes (inv k less.0).within in
       let d = at_most_one (m k).mark in
@@ -420,20 +332,11 @@ module _ {R : Type 0} (plan : Plan R) (ok : IsPlan plan) (size : ℕ) (m : Momen
   put_less : (n : ℕ) → n ≤ plan.count → (ss : List ℕ) → AllByRecursion (λ s. s < n) ss
       → put m ss ≤ put (all_done plan) ss
   put_less n within [] p = omega arith
-  put_less n within (s ∷ ss) p =
-      let q = p.0 in
-      let a = taken_less s (omega arith) in
-      let b = put_less n within ss p.1 in
-      omega arith
+  put_less n within (s ∷ ss) p = grind (arith, nat_tests, put_less n within ss p.1, taken_less)
 
   read_less_whole : (k : ℕ) → k < plan.count
       → bytes_read (plan.stage k) (m k) ≤ bytes_read (plan.stage k) (all_done plan k)
-  read_less_whole k less =
-      let st = plan.stage k in
-      let a = min-le_left (m k).read (pred st.bytes) in
-      let b = min-le_right (m k).read (pred st.bytes) in
-      let c = (inv k less).within in
-      le-min (omega arith) b
+  read_less_whole = grind (arith, nat_tests)
 
   most_less : (k : ℕ) → k < plan.count + 1 → most plan m k ≤ most plan (all_done plan) k
   most_less k within =

@@ -1,12 +1,13 @@
 -- How runs end.
-use Rattle.std.proofs.Common.{◌≡◌, ℕ, zero, suc, ◌+◌, ◌<◌, ◌⊎◌, inl, inr, false, List, [], ◌∷◌}
-use Rattle.std.proofs.Common.{◌++◌, length, Option, Some, None, is_some, refl, sym, ap, ◌∙◌, subst}
+use Rattle.std.proofs.lemmas.Bool.Decides.{nat_tests}
+use Rattle.std.proofs.Common.{◌≡◌, ℕ, zero, suc, ◌+◌, ◌<◌, ◌⊎◌, inl, false, List, [], ◌∷◌}
+use Rattle.std.proofs.Common.{◌++◌, length, Option, Some, None, refl}
 use Rattle.std.proofs.Common.{⊎_elim, arith, length-append}
-use Rattle.std.proofs.lemmas.Bool.{true≢false, cases_Bool, and_parts}
+use Rattle.std.proofs.lemmas.Bool.{cases_Bool, and_parts}
 use Rattle.std.proofs.lemmas.Option.{none-some, same_Some}
 use Rattle.hum_stage.specs.declared.faults.End.{End}
 use Rattle.hum_turns.specs.Plan.{Plan, last, IsPlan}
-use Rattle.hum_turns.specs.Meaning.{first_fault, IsNumbered}
+use Rattle.hum_turns.specs.Meaning.{IsNumbered}
 use Rattle.hum_turns.specs.Links.{is_over}
 use Rattle.hum_turns.specs.declared.result.RunResult.{RunResult}
 use Rattle.hum_turns.specs.Failures.{Now, result_of, IsFailure, ended_by, result, Turn, IsFirst}
@@ -25,21 +26,13 @@ module _ {R : Type 0} (plan : Plan R) (size : ℕ) (bytes : R → List ℕ) (ok 
     (holds : HoldsNow plan size bytes turns now) where
   as_meant : (e : End) → now.failure ≡ None → (now.links (last plan)).heard ≡ Some e
       → EndsAsMeant plan bytes now (result_of e)
-  as_meant e none heard =
-      let w = holds.whole e none heard in
-      record {
-        result = ap result_of
-            (same_Some e (first_fault plan plan.count) (sym w.end ∙ whose_fault plan ok num));
-        written = w.written;
-      }
+  as_meant = grind (arith, nat_tests, same_Some, whose_fault)
 
   ends_by : (f : Option RunResult) (h : Option End) → now.failure ≡ f
       → (now.links (last plan)).heard ≡ h → (by : RunResult) → ended_by f h ≡ Some by
       → IsFailure by ⊎ EndsAsMeant plan bytes now by
-  ends_by (Some x) h f e by is =
-      inl (subst IsFailure (same_Some x by is) (holds.fails x f))
-  ends_by None (Some x) f e by is =
-      inr (subst (EndsAsMeant plan bytes now) (same_Some (result_of x) by is) (as_meant x f e))
+  ends_by (Some x) h f e by is = grind (arith, nat_tests)
+  ends_by None (Some x) f e by is = grind (arith, nat_tests, same_Some, as_meant)
   ends_by None None f e by is = absurd (none-some by is)
 
 pub every_end : {R : Type 0} → EveryEnd R
@@ -52,24 +45,14 @@ every_end plan size bytes ok num some turns first now start walk by is =
 
 still_open : {R : Type 0} (plan : Plan R) (now : Now R) → now.failure ≡ None
     → is_over plan now.links ≡ false → result plan now ≡ None
-still_open plan now none h =
-    by_parts now.failure (now.links (last plan)).heard none h
-  where
-    by_parts : (f : Option RunResult) (e : Option End) → f ≡ None → is_some e ≡ false
-        → ended_by f e ≡ None
-    by_parts None None n h = refl
-    by_parts None (Some e) n h = absurd (true≢false h)
-    by_parts (Some x) e n h = absurd (none-some x (sym n))
+still_open = grind (arith, nat_tests)
 
 module _ {R O : Type 0} (order : Order O) (plan : Plan R) (size : ℕ) (bytes : R → List ℕ)
     (ok : IsPlan plan) (some : 0 < size) (first : Now R) (o : O) (start : IsFirst first) where
   ends_from : (fuel : ℕ) (ks : List ℕ) (now : Now R) (p : O)
       → Driven order plan size bytes o first ks now p → now.failure ≡ None
       → bound plan < length ks + fuel → LeadsToEnd order plan size bytes o first
-  ends_from zero ks now p d none more =
-      let leads = every_pick order plan size bytes ok some ks first now o p start d in
-      let b = (leads.holds.holds none).1.bounded in
-      absurd (omega arith)
+  ends_from zero ks now p d none more = grind (arith, nat_tests, every_pick)
   ends_from (suc fuel) ks now p d none more =
       ⊎_elim
       (λ over. record {
@@ -83,8 +66,7 @@ module _ {R O : Type 0} (order : Order O) (plan : Plan R) (size : ℕ) (bytes : 
       (λ goes.
       let leads = every_pick order plan size bytes ok some ks first now o p start d in
       let k = choice order plan size p now in
-      let left : bound plan < length (ks ++ k ∷ []) + fuel =
-      omega (arith, length-append ks (k ∷ [])) in
+      let left : bound plan < length (ks ++ k ∷ []) + fuel = grind (arith, nat_tests, length-append) in
       let next = leads.goes_on (still_open plan now none goes) in
       let turn = (leads.holds.holds none).1.goes k next.0 (and_parts _ _ next.1).1 in
       let after : Now R = record { links = turn.next; part = []; failure = None } in

@@ -1,6 +1,7 @@
 -- What holds at each moment that a run reaches.
-use Rattle.std.proofs.Common.{◌≡◌, ℕ, ◌+◌, ◌-◌, ◌≤◌, List, length, sym, ap, ◌∙◌, subst, arith}
-use Rattle.std.proofs.Common.{length-append}
+use Rattle.std.proofs.lemmas.Grind.{common_steps}
+use Rattle.std.proofs.lemmas.Bool.Decides.{nat_tests}
+use Rattle.std.proofs.Common.{◌≡◌, ℕ, ◌-◌, List, length, arith}
 use Rattle.hum_turns.specs.Plan.{Plan, IsPlan}
 use Rattle.hum_turns.specs.Links.{Link, linked, Moment, IsOpening}
 use Rattle.hum_turns.specs.Turns.{Run}
@@ -10,14 +11,8 @@ use Rattle.hum_turns.proofs.Against.{front, at_the_end, agrees_good, agrees_self
 use Rattle.hum_turns.proofs.Progress.{progress, goes}
 use Rattle.hum_turns.proofs.Counting.{bounded, each_turns, all_turns}
 
--- how many records are on a link, and how many wait there
-add-less : (a b : ℕ) → (a + b) - a ≡ b
-add-less a b = omega arith
-
 pub linked_is : {R : Type 0} (l : Link R) → linked l ≡ length l.waiting
-linked_is l =
-    ap (λ n. n - length l.taken) (length-append l.taken l.waiting)
-    ∙ add-less (length l.taken) (length l.waiting)
+linked_is = grind (arith, common_steps)
 
 pub reached : {R : Type 0} (plan : Plan R) (size : ℕ) (turns : List ℕ) (first m : Moment R)
     → IsPlan plan → IsOpening first → Run plan size first turns m → Inv plan size m
@@ -35,9 +30,7 @@ every_order plan size ok some turns first m start run =
           let same = agree.count in
           (front other oko size m k (agrees_good plan other size m agree inv) (omega arith)).0;
       agrees = agrees_self plan size m inv;
-      links = λ k less.
-          let room = (inv k less).room in
-          subst (λ n. n ≤ size) (sym (linked_is (m k))) room;
+      links = grind (arith, nat_tests, linked_is);
       progress = progress plan ok size some m;
       goes = λ k within h. goes plan size m k ok within h;
       each = each_turns plan ok size m inv turns first start run;

@@ -1,9 +1,9 @@
 -- Whose fault is told.
-use Rattle.std.proofs.Common.{◌≡◌, ℕ, zero, suc, pred, ◌+◌, ◌<◌, ◌≤◌, ◌⊎◌, inl, inr, Bool, true}
-use Rattle.std.proofs.Common.{false, nat_lt, List, [], ◌∷◌, map, slice_get, Some, unwrap_or, refl}
-use Rattle.std.proofs.Common.{sym, ap, ◌∙◌, subst, ⊎_elim, arith, le-ltb, lt-ltb}
-use Rattle.std.proofs.lemmas.Bool.{true≢false, cases_eq, cases_lt, cases_Bool, cond-true}
-use Rattle.std.proofs.lemmas.Bool.{cond-false}
+use Rattle.std.proofs.lemmas.Bool.Decides.{nat_tests}
+use Rattle.std.proofs.Common.{◌≡◌, ℕ, zero, suc, pred, ◌+◌, ◌<◌, ◌≤◌, ◌⊎◌, Bool, true}
+use Rattle.std.proofs.Common.{false, List, [], ◌∷◌, map, slice_get, Some, unwrap_or, refl}
+use Rattle.std.proofs.Common.{sym, ap, ◌∙◌, subst, ⊎_elim, arith}
+use Rattle.std.proofs.lemmas.Bool.{true≢false, cases_eq, cases_lt}
 use Rattle.std.proofs.lemmas.Option.{none-some, same_Some}
 use Rattle.std.specs.List.{AllByRecursion}
 use Rattle.hum_stage.specs.declared.faults.End.{End}
@@ -31,47 +31,20 @@ fault_not q h = true≢false (ap is_fault h)
 -- The lower of two ends.
 
 lower_least : (f : Fault) (a b : End) → AtLeast f a → AtLeast f b → AtLeast f (lower a b)
-lower_least f Closed b h k = k
-lower_least f (Broken g) Closed h k = h
-lower_least f (Broken g) (Broken l) h k =
-    ⊎_elim
-    (λ y. subst (AtLeast f) (sym (cond-true _ _ _ y)) k)
-    (λ n. subst (AtLeast f) (sym (cond-false _ _ _ n)) h)
-    (cases_Bool (nat_lt l.stage g.stage))
-
-at_most : (f g : Fault) → (f.stage < g.stage) ⊎ (f ≡ g) → f.stage ≤ g.stage
-at_most f g h =
-    ⊎_elim
-    (λ less. omega arith)
-    (λ same. let e : f.stage ≡ g.stage = ap (λ (x : Fault). x.stage) same in omega arith)
-    h
+lower_least = grind (arith, nat_tests)
 
 -- where one of them is this fault, it is the lower
 lower_left : (f : Fault) (b : End) → AtLeast f b → lower (Broken f) b ≡ Broken f
-lower_left f Closed h = refl
-lower_left f (Broken g) h = cond-false _ _ _ (le-ltb g.stage f.stage (at_most f g h))
-
-lower_right : (f : Fault) (a : End) → AtLeast f a → lower a (Broken f) ≡ Broken f
-lower_right f Closed h = refl
-lower_right f (Broken g) h =
-    ⊎_elim
-    (λ less. cond-true _ _ _ (lt-ltb f.stage g.stage less))
-    (λ same.
-    let e : f.stage ≡ g.stage = ap (λ (x : Fault). x.stage) same in
-    cond-false _ _ _ (le-ltb f.stage g.stage (omega arith)) ∙ ap Broken (sym same))
-    h
+lower_left = grind (arith, nat_tests)
 
 or_least : (q : Fault) (a b : End) → AtLeast q a → AtLeast q b → AtLeast q (or_own a b)
-or_least q Closed b h k = k
-or_least q (Broken g) b h k = h
+or_least = grind (arith, nat_tests)
 
 or_hit : (a own f : End) → a ≡ f → (f ≡ Closed → ⊥) → or_own a own ≡ f
-or_hit Closed own f e n = absurd (n (sym e))
-or_hit (Broken g) own f e n = e
+or_hit = grind (arith, nat_tests)
 
 or_closed : (a b : End) → or_own a b ≡ Closed → (a ≡ Closed) × (b ≡ Closed)
-or_closed Closed b h = (refl, h)
-or_closed (Broken g) b h = absurd (fault_not g h)
+or_closed = grind (arith, nat_tests)
 
 -- The ends of a stage's inputs.
 
@@ -83,8 +56,7 @@ module _ {R : Type 0} (f : ℕ → Flow R) (P : ℕ → Type 0) where
       → (ss : List ℕ) → AllByRecursion P ss → inputs_end (map f ss) ≡ Closed
   unfolding end_at
   inputs_closed h [] p = refl
-  inputs_closed h (s ∷ ss) p =
-      ap (λ x. lower x (inputs_end (map f ss))) (h s p.0) ∙ inputs_closed h ss p.1
+  inputs_closed h (s ∷ ss) p = grind (arith, nat_tests, inputs_closed h ss p.1)
 
   module _ (q : Fault) (h : (s : ℕ) → P s → AtLeast q (end_at (f s))) where
     inputs_least : (ss : List ℕ) → AllByRecursion P ss → AtLeast q (inputs_end (map f ss))
@@ -97,34 +69,17 @@ module _ {R : Type 0} (f : ℕ → Flow R) (P : ℕ → Type 0) where
         → end_at (f k) ≡ Broken q → inputs_end (map f ss) ≡ Broken q
     unfolding end_at
     inputs_hit [] place k p at e = absurd (none-some k at)
-    inputs_hit (s ∷ ss) zero k p at e =
-        ap (λ x. lower x (inputs_end (map f ss)))
-        (subst (λ j. end_at (f j) ≡ Broken q) (sym (same_Some s k at)) e)
-        ∙ lower_left q _ (inputs_least ss p.1)
-    inputs_hit (s ∷ ss) (suc place) k p at e =
-        ap (lower (end_at (f s))) (inputs_hit ss place k p.1 at e) ∙ lower_right q _ (h s p.0)
+    inputs_hit (s ∷ ss) zero k p at e = grind (arith, nat_tests, end_at, same_Some, lower_left, inputs_least)
+    inputs_hit (s ∷ ss) (suc place) k p at e = grind (arith, nat_tests, inputs_hit ss place k p.1)
 
 -- a fault of stage k, against the one that bears the lowest number
 own_least : (q : Fault) (k : ℕ) (e : End) → (k + 1 < q.stage) ⊎ (q.stage ≤ k + 1)
     → (k + 1 < q.stage → e ≡ Closed) → (q.stage ≡ k + 1 → e ≡ Broken q)
     → ((g : Fault) → e ≡ Broken g → g.stage ≡ k + 1) → AtLeast q e
-own_least q k Closed w lo at num = tt
-own_least q k (Broken g) w lo at num =
-    let n = num g refl in
-    ⊎_elim
-    (λ below. absurd (fault_not g (lo below)))
-    (λ above. ⊎_elim
-    (λ same. inr (sym (fault_of (at same))))
-    (λ other. inl (omega arith))
-    (cases_eq q.stage (k + 1)))
-    w
-  where
-    fault_of : {x y : Fault} → Broken x ≡ Broken y → x ≡ y
-    fault_of e = cc
+own_least = grind (arith, nat_tests)
 
 last_is : (n j : ℕ) → j < n → n ≤ j + 1 → j ≡ pred n
-last_is zero j a b = absurd (omega arith)
-last_is (suc n) j a b = omega arith
+last_is = grind (arith, nat_tests)
 
 -- The stages evaluated in order.
 
@@ -148,8 +103,7 @@ module _ {R : Type 0} (plan : Plan R) where
   first_step : (n : ℕ) (q : Fault) (a : End) → first_fault plan n ≡ a
       → or_own a (own_of plan n) ≡ Broken q
       → ((g : Fault) → first_fault plan n ≡ Broken g → FirstAt plan n g) → FirstAt plan (suc n) q
-  first_step n q Closed e h rec =
-      record { k = n; less = omega arith; here = h; before = λ j less. first_closed n j e less }
+  first_step n q Closed e h rec = grind (arith, nat_tests, first_closed)
   first_step n q (Broken g) e h rec =
       let r = rec q (e ∙ h) in
       let less = r.less in
@@ -213,22 +167,14 @@ module _ {R : Type 0} (plan : Plan R) (ok : IsPlan plan) where
 
   told_at : IsNumbered plan → (e : End) → first_fault plan plan.count ≡ e
       → end_at (meaning plan (last plan)) ≡ e
-  told_at num Closed h =
-      let less = last_less plan.count ok.some in
-      ends_closed plan.count (λ k below. first_closed plan plan.count k h below) (omega arith)
-      plan.count (last plan) less less
+  told_at num Closed h = grind (arith, nat_tests, last_less, ends_closed, first_closed)
   told_at num (Broken q) h =
       let f = first_broken plan plan.count q h in
       let less = f.less in
       let i = f.k in
       let is : q.stage ≡ i + 1 = num.number i q less f.here in
-      let own : (k : ℕ) → k < plan.count → AtLeast q (own_of plan k) = λ k below.
-      own_least q k (own_of plan k) (cases_lt (k + 1) q.stage)
-      (λ b. f.before k (omega arith))
-      (λ e.
-      let s : k ≡ i = omega arith in
-      subst (λ j. own_of plan j ≡ Broken q) (sym s) f.here)
-      (λ g e. num.number k g below e) in
+      let own : (k : ℕ) → k < plan.count → AtLeast q (own_of plan k) =
+      grind (arith, nat_tests, own_least, cases_lt) in
       let inner : inputs_end (finals plan i) ≡ Closed =
       inputs_closed (meaning plan) (λ s. s < i)
       (λ s t. ends_closed i f.before (omega arith) i s t t)

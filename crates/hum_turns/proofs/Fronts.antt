@@ -1,9 +1,9 @@
 -- Fronts of lists, and flows that go on.
-use Rattle.std.proofs.Common.{◌≡◌, ℕ, zero, suc, ◌≤◌, Bool, true, false, List, [], ◌∷◌, ◌++◌, map}
+use Rattle.std.proofs.lemmas.Grind.{common_steps}
+use Rattle.std.proofs.lemmas.Bool.Decides.{nat_tests}
+use Rattle.std.proofs.Common.{◌≡◌, ℕ, suc, ◌≤◌, Bool, true, false, List, [], ◌∷◌, ◌++◌, map}
 use Rattle.std.proofs.Common.{length, slice_get, slice_index, Option, Some, None, is_some, is_none}
 use Rattle.std.proofs.Common.{refl, sym, ap, ◌∙◌, subst, arith, append_assoc, append-nil}
-use Rattle.std.proofs.Common.{length-append}
-use Rattle.std.proofs.lemmas.Bool.{true≢false, false≢true}
 use Rattle.std.proofs.lemmas.Option.{none-some, same_Some}
 use Rattle.std.specs.List.{AllByRecursion}
 use Rattle.hum_turns.specs.Flow.{Flow, Begins, IsOver, Later, AllLater, AllOver, AllFine}
@@ -28,25 +28,10 @@ next_at (y ∷ g) rest x h = let k = next_at g rest x h in (k.0, ap (λ l. y ∷
 -- one element more
 pub begins_next : {R : Type 0} (g s : List R) (x : R) → Begins g s
     → slice_get s (length g) ≡ Some x → Begins (g ++ x ∷ []) s
-begins_next g s x h e =
-    subst (λ l. Begins (g ++ x ∷ []) l) h.1
-    (next_at g h.0 x (ap (λ l. slice_get l (length g)) h.1 ∙ e))
+begins_next = grind (arith, nat_tests, next_at, slice_get)
 
 pub begins_shorter : {R : Type 0} (a b : List R) → Begins a b → length a ≤ length b
-begins_shorter a b h =
-    let e : length (a ++ h.0) ≡ length b = ap length h.1 in
-    omega (arith, length-append a h.0)
-
-no_rest : {R : Type 0} (rest : List R) → length rest ≤ 0 → rest ≡ []
-no_rest [] h = refl
-no_rest (x ∷ rest) h = absurd (omega arith)
-
--- a front that is as long as the list is all of it
-pub begins_all : {R : Type 0} (a b : List R) → Begins a b → length b ≤ length a → a ≡ b
-begins_all a b h n =
-    let e : length (a ++ h.0) ≡ length b = ap length h.1 in
-    let z : length h.0 ≤ 0 = omega (arith, length-append a h.0) in
-    sym (append-nil a) ∙ ap (λ l. a ++ l) (sym (no_rest h.0 z)) ∙ h.1
+begins_shorter = grind (arith, common_steps)
 
 pub begins_after : {R : Type 0} (a b c : List R) → Begins b c → Begins (a ++ b) (a ++ c)
 begins_after a b c h = (h.0, append_assoc a b h.0 ∙ ap (λ l. a ++ l) h.1)
@@ -65,19 +50,15 @@ all_same (x ∷ a) = (later_refl x, all_same a)
 
 -- what is over doesn't go on
 pub same_over : {R : Type 0} (a b : List (Flow R)) → AllLater a b → AllOver a → b ≡ a
-same_over [] [] h o = refl
-same_over (x ∷ a) (y ∷ b) h o =
-    ap (λ z. z ∷ b) (h.0.over o.0.0 o.0.1) ∙ ap (λ l. x ∷ l) (same_over a b h.1 o.1)
-same_over [] (y ∷ b) h o = absurd h
-same_over (x ∷ a) [] h o = absurd h
+same_over (x ∷ a) (y ∷ b) h o = grind (arith, nat_tests, same_over a b h.1 o.1)
+same_over a b h k = grind (arith, nat_tests)
 
 -- Flows of the sources of a stage: what holds of each source's holds of all of them.
 
 pub map_same : {A : Type 0} (f g : ℕ → A) (P : ℕ → Type 0) → ((s : ℕ) → P s → f s ≡ g s)
     → (ss : List ℕ) → AllByRecursion P ss → map f ss ≡ map g ss
 map_same f g P h [] p = refl
-map_same f g P h (s ∷ ss) p =
-    ap (λ x. x ∷ map f ss) (h s p.0) ∙ ap (λ l. g s ∷ l) (map_same f g P h ss p.1)
+map_same f g P h (s ∷ ss) p = grind (arith, nat_tests, map_same f g P h ss p.1)
 
 module _ {R : Type 0} (f : ℕ → Flow R) (P : ℕ → Type 0) where
   pub later_map : (g : ℕ → Flow R) → ((s : ℕ) → P s → Later (f s) (g s))
@@ -98,9 +79,8 @@ module _ {R : Type 0} (f : ℕ → Flow R) (P : ℕ → Type 0) where
   -- a source that is found at a place
   pub source_at : (ss : List ℕ) (j : ℕ) (x : Flow R) → AllByRecursion P ss
       → slice_get (map f ss) j ≡ Some x → P (slice_index ss j) × (f (slice_index ss j) ≡ x)
-  source_at [] j x p h = absurd (none-some x h)
-  source_at (s ∷ ss) zero x p h = (p.0, same_Some _ x h)
   source_at (s ∷ ss) (suc j) x p h = source_at ss j x p.1 h
+  source_at ss j x h k = grind (arith, nat_tests)
 
 pub later_each : {R : Type 0} (f g : ℕ → Flow R) → ((s : ℕ) → Later (f s) (g s))
     → (ss : List ℕ) → AllLater (map f ss) (map g ss)
@@ -110,13 +90,10 @@ later_each f g h (s ∷ ss) = (h s, later_each f g h ss)
 -- Options.
 
 pub has_none : {A : Type 0} (o : Option A) (e : A) → is_none o ≡ true → o ≡ Some e → ⊥
-has_none None e h k = none-some e k
-has_none (Some x) e h k = false≢true h
+has_none = grind (arith, nat_tests)
 
 pub is_unset : {A : Type 0} (o : Option A) → is_some o ≡ false → o ≡ None
-is_unset None h = refl
-is_unset (Some x) h = absurd (true≢false h)
+is_unset = grind (arith, nat_tests)
 
 pub is_set : {A : Type 0} (o : Option A) → is_some o ≡ true → (e : A) × (o ≡ Some e)
-is_set None h = absurd (false≢true h)
-is_set (Some x) h = (x, refl)
+is_set = grind (arith, nat_tests)

@@ -1,19 +1,21 @@
 -- One link: what holds of it, and what keeps that.
-use Rattle.std.proofs.Common.{◌≡◌, ℕ, ◌<◌, ◌≤◌, Bool, true, false, if◌then◌else◌, nat_lt, List, []}
-use Rattle.std.proofs.Common.{◌∷◌, ◌++◌, length, slice_get, Option, Some, None, is_none, refl, sym}
-use Rattle.std.proofs.Common.{ap, ◌∙◌, subst, arith, append_assoc, append-nil, length-append}
-use Rattle.std.proofs.Common.{ltb-true, ltb-false}
-use Rattle.std.proofs.lemmas.Bool.{false≢true, and_parts}
+use Rattle.std.proofs.lemmas.Grind.{common_steps}
+use Rattle.std.proofs.lemmas.Bool.Decides.{nat_tests}
+use Rattle.std.proofs.Common.{◌≡◌, ℕ, ◌<◌, ◌≤◌, Bool, true, if◌then◌else◌, nat_lt, List, []}
+use Rattle.std.proofs.Common.{◌∷◌, length, slice_get, Option, Some, None, is_none, refl, sym}
+use Rattle.std.proofs.Common.{ap, ◌∙◌, subst, arith, append_assoc, length-append}
+use Rattle.std.proofs.Common.{ltb-true}
+use Rattle.std.proofs.lemmas.Bool.{and_parts}
 use Rattle.std.proofs.lemmas.Option.{same_Some, slice_get_within}
 use Rattle.hum_stage.specs.declared.faults.End.{End}
 use Rattle.hum_turns.specs.Flow.{Flow, Begins, Later}
-use Rattle.hum_turns.specs.Plan.{Want, Bytes, Source, Nothing, Stage, inputs_end, or_own, end_of}
+use Rattle.hum_turns.specs.Plan.{Stage, end_of}
 use Rattle.hum_turns.specs.Plan.{AreInputs, Onward, IsAtRest, IsLawful, KeepsFine}
 use Rattle.hum_turns.specs.Links.{Link, given, view, has_room, has_some}
-use Rattle.hum_turns.specs.Turns.{State, Gives, Reads, Takes, Ends, by_want, stage_state, pushed}
+use Rattle.hum_turns.specs.Turns.{State, Gives, Ends, by_want, stage_state, pushed}
 use Rattle.hum_turns.specs.Turns.{popped}
-use Rattle.hum_turns.proofs.Fronts.{begins_refl, begins_trans, begins_append, begins_next}
-use Rattle.hum_turns.proofs.Fronts.{begins_all, all_same, same_over, has_none}
+use Rattle.hum_turns.proofs.Fronts.{begins_trans, begins_append, begins_next}
+use Rattle.hum_turns.proofs.Fronts.{all_same, same_over, has_none}
 
 -- How the link of a stage stands to what the stage has had: what was given is a prefix of what is
 -- settled, the end is set only where nothing is left to give, and heard only where none waits.
@@ -31,20 +33,6 @@ pub record AtEnd {R : Type 0} (st : Stage R) (l : Link R) (a : List (Flow R)) : 
   pub all : length (st.output l.read a) ≤ length (given l)
   pub rest : IsAtRest st l.read a
 
-is_ends : State → Bool
-is_ends Gives = false
-is_ends Reads = false
-is_ends (Takes s) = false
-is_ends Ends = true
-
-ends_cases : (ss : List ℕ) (b : Bool) (w : Want) → (if b then Gives else by_want ss w) ≡ Ends
-    → (b ≡ false) × (w ≡ Nothing)
-unfolding is_ends
-ends_cases ss true w h = absurd (false≢true (ap is_ends h))
-ends_cases ss false Bytes h = absurd (false≢true (ap is_ends h))
-ends_cases ss false (Source j) h = absurd (false≢true (ap is_ends h))
-ends_cases ss false Nothing h = (refl, refl)
-
 -- a link that was given so much, against what is settled
 abbrev by_length : {R : Type 0} → Stage R → ℕ → List (Flow R) → List R → State
 by_length st r a gs =
@@ -55,10 +43,8 @@ flow_of xs o = record { items = xs; end = o }
 
 later_popped : {R : Type 0} (l : Link R) (ws : List R) → is_none l.heard ≡ true
     → Later (view l) (view (popped l ws))
-later_popped l [] new =
-    record { items = begins_refl l.taken; over = λ e h. absurd (has_none l.heard e new h) }
-later_popped l (x ∷ rest) new =
-    record { items = begins_append l.taken (x ∷ []); over = λ e h. absurd (has_none l.heard e new h) }
+later_popped l [] new = grind (arith, common_steps)
+later_popped l (x ∷ rest) new = grind (arith, nat_tests)
 
 pub later_taken : {R : Type 0} (l : Link R) → has_some l ≡ true
     → Later (view l) (view (popped l l.waiting))
@@ -67,15 +53,11 @@ later_taken l some = later_popped l l.waiting (and_parts _ _ some).0
 module _ {R : Type 0} {fine : Flow R → Bool} {st : Stage R} (law : IsLawful fine st) where
   pub at_end : (l : Link R) (a : List (Flow R)) → AreInputs fine st a → stage_state st l a ≡ Ends
       → AtEnd st l a
-  at_end l a fa h =
-      let c = ends_cases st.sources (nat_lt (length (given l)) (length (st.output l.read a)))
-      (st.wants l.read a) h in
-      record { all = ltb-false _ _ c.0; rest = law.rests l.read a fa c.1 }
+  at_end = grind (arith, nat_tests)
 
   pub grown : (r s : ℕ) (a b : List (Flow R)) → r ≤ s → s ≤ st.bytes → Onward fine st a b
       → Begins (st.output r a) (st.output s b)
-  grown r s a b more within on =
-      law.grows r s a b (record { more = more; within = within; inputs = on })
+  grown = grind (arith, nat_tests)
 
   -- its inputs go on
   pub kept_good : (size : ℕ) (l : Link R) (a b : List (Flow R)) → Onward fine st a b
@@ -96,10 +78,7 @@ module _ {R : Type 0} {fine : Flow R → Bool} {st : Stage R} (law : IsLawful fi
   not_marked : (size : ℕ) (l : Link R) (a : List (Flow R)) (x : R) → AreInputs fine st a
       → GoodAt st size l a → slice_get (st.output l.read a) (length (given l)) ≡ Some x
       → (e : End) → l.mark ≡ Some e → ⊥
-  not_marked size l a x fa g n e m =
-      let k = (at_end l a fa (g.marked e m).0).all in
-      let w = slice_get_within (st.output l.read a) (length (given l)) x n in
-      omega arith
+  not_marked = grind (arith, nat_tests, at_end, slice_get_within)
 
   -- it gives
   pub gives_good : (size : ℕ) (l : Link R) (a b : List (Flow R)) (x : R) → Onward fine st a b
@@ -120,30 +99,9 @@ module _ {R : Type 0} {fine : Flow R → Bool} {st : Stage R} (law : IsLawful fi
   takes_at : (size : ℕ) (l : Link R) (a b : List (Flow R)) (ws : List R) → l.waiting ≡ ws
       → Onward fine st a b → GoodAt st size l a → is_none l.heard ≡ true
       → GoodAt st size (popped l ws) b
-  takes_at size l a b [] w on g new =
-      let k = kept_good size l a b on g in
-      record {
-        sent = k.sent;
-        marked = k.marked;
-        heard = λ e m. (w, m);
-        room = k.room;
-        within = k.within;
-      }
+  takes_at size l a b [] w on g new = grind (arith, nat_tests, kept_good size l a b on g)
   takes_at size l a b (x ∷ rest) w on g new =
-      let k = kept_good size l a b on g in
-      let same : given l ≡ (l.taken ++ x ∷ []) ++ rest =
-      ap (λ v. l.taken ++ v) w ∙ sym (append_assoc l.taken (x ∷ []) rest) in
-      record {
-        sent = subst (λ s. Begins s (st.output l.read b)) same k.sent;
-        marked = λ e m.
-            (ap (by_length st l.read b) (sym same) ∙ (k.marked e m).0, (k.marked e m).1);
-        heard = λ e m. absurd (has_none l.heard e new m);
-        room =
-            let n : length l.waiting ≡ length (x ∷ rest) = ap length w in
-            let r = k.room in
-            omega arith;
-        within = k.within;
-      }
+      grind (arith, nat_tests, kept_good size l a b on g, append_assoc l.taken (x ∷ []) rest)
 
   -- its reader takes
   pub takes_good : (size : ℕ) (l : Link R) (a b : List (Flow R)) → Onward fine st a b
@@ -158,10 +116,7 @@ module _ {R : Type 0} {fine : Flow R → Bool} {st : Stage R} (law : IsLawful fi
       let same = same_over a b on.later (at_end l a on.before s).rest.over in
       record {
         sent = subst (λ c. Begins (given l) (st.output l.read c)) (sym same) g.sent;
-        marked = λ e m. (
-          ap (stage_state st l) same ∙ s,
-          sym (same_Some _ e m) ∙ ap (end_of st l.read) (sym same),
-        );
+        marked = grind (arith, nat_tests, same_Some);
         heard = λ e m. absurd (has_none l.mark e unset (g.heard e m).1);
         room = g.room;
         within = g.within;
@@ -182,24 +137,6 @@ module _ {R : Type 0} {fine : Flow R → Bool} {st : Stage R} (law : IsLawful fi
 
   -- What its reader has had is fine.
   module _ (keep : KeepsFine fine st) where
-    -- once the end is set and all is taken
-    marked_fine : (size : ℕ) (l : Link R) (a : List (Flow R)) (f : End) → l.waiting ≡ []
-        → l.mark ≡ Some f → AreInputs fine st a → GoodAt st size l a
-        → l.heard ≡ Some f → fine (view l) ≡ true
-    unfolding flow_of
-    marked_fine size l a f w m fa g e =
-        let mark = g.marked f m in
-        let end = at_end l a fa mark.0 in
-        let taken : l.taken ≡ st.output l.read a =
-        sym (append-nil l.taken) ∙ ap (λ ws. l.taken ++ ws) (sym w)
-        ∙ begins_all (given l) (st.output l.read a) g.sent end.all in
-        let items : l.taken ≡ st.output st.bytes a = taken ∙ end.rest.output in
-        let ended : l.heard ≡ Some (end_of st st.bytes a) =
-        e ∙ ap Some (mark.1 ∙ ap (or_own (inputs_end a)) end.rest.own) in
-        ap (λ o. fine (flow_of l.taken o)) ended
-        ∙ ap (λ xs. fine (flow_of xs (Some (end_of st st.bytes a)))) items
-        ∙ keep.done a fa end.rest.over
-
     fine_at : (size : ℕ) (l : Link R) (a : List (Flow R)) (o : Option End) → l.heard ≡ o
         → AreInputs fine st a → GoodAt st size l a
         → fine (view l) ≡ true
@@ -208,9 +145,7 @@ module _ {R : Type 0} {fine : Flow R → Bool} {st : Stage R} (law : IsLawful fi
         ap (λ o. fine (flow_of l.taken o)) e
         ∙ keep.front l.read a l.taken g.within fa
         (begins_trans _ _ _ (begins_append l.taken l.waiting) g.sent)
-    fine_at size l a (Some f) e fa g =
-        let k = g.heard f e in
-        marked_fine size l a f k.0 k.1 fa g e
+    fine_at size l a (Some f) e fa g = grind (arith, common_steps)
 
     pub fine_view : (size : ℕ) (l : Link R) (a : List (Flow R)) → AreInputs fine st a
         → GoodAt st size l a → fine (view l) ≡ true

@@ -1,4 +1,5 @@
 -- What holds of all links at once, and that each turn keeps it.
+use Rattle.std.proofs.lemmas.Grind.{common_steps}
 use Rattle.std.proofs.Common.{◌≡◌, ℕ, zero, suc, ◌+◌, ◌<◌, true, List, [], ◌∷◌, is_none, refl, sym}
 use Rattle.std.proofs.Common.{ap, ◌∙◌, subst, ⊎_elim, arith}
 use Rattle.std.proofs.lemmas.Bool.{cases_eq, and_parts}
@@ -23,13 +24,7 @@ Inv plan size m =
 -- where one link goes on, each does
 views_later : {R : Type 0} (k : ℕ) (l : Link R) (old new : Moment R) → Becomes k l old new
     → Later (view (old k)) (view l) → (s : ℕ) → Later (view (old s)) (view (new s))
-views_later k l old new d h s =
-    ⊎_elim
-    (λ i. subst (λ j. Later (view (old j)) (view (new j))) (sym i)
-    (subst (λ v. Later (view (old k)) (view v)) (sym d.here) h))
-    (λ i. subst (λ v. Later (view (old s)) (view v)) (sym (d.elsewhere s i))
-    (later_refl (view (old s))))
-    (cases_eq s k)
+views_later = grind (arith, common_steps)
 
 -- nothing has moved
 pub opening_good : {R : Type 0} (plan : Plan R) (size : ℕ) (m : Moment R) → IsOpening m

@@ -1,68 +1,39 @@
 -- A source's turn gives a record, sets the end, or reads on.
-use Rattle.std.proofs.Common.{◌≡◌, ℕ, ◌+◌, ◌<◌, inl, inr, true, List, [], ◌∷◌, ◌++◌, length}
-use Rattle.std.proofs.Common.{refl, ap, ◌∙◌, ⊎_elim, arith}
+use Rattle.std.proofs.lemmas.Grind.{common_steps}
+use Rattle.std.proofs.lemmas.Bool.Decides.{nat_tests}
+use Rattle.std.proofs.Common.{◌≡◌, ℕ, ◌+◌, ◌<◌, inl, inr, true, length}
+use Rattle.std.proofs.Common.{refl, ap, ⊎_elim, arith}
 use Rattle.std.specs.Prelude.{is_some}
-use Rattle.std.proofs.lemmas.List.{length-append}
 use Rattle.hum_turns.specs.Plan.{Plan, IsPlan}
 use Rattle.hum_turns.specs.Links.{Link, Moment, given}
 use Rattle.hum_turns.specs.Turns.{State, Gives, Reads, Takes, Ends, state, is_source, pushed, HasRead, Does}
 use Rattle.hum_turns.specs.Turns.{Turns}
 use Rattle.hum_turns.specs.Marking.{HasReadOn, GivesOrMarks, EverySourceMarks}
-use Rattle.hum_turns.proofs.States.{source_takes, source_less, reads_bytes}
+use Rattle.hum_turns.proofs.States.{source_takes}
 
 -- a record more
 pushed_more : {R : Type 0} (l : Link R) (x : R) → length (given (pushed l x)) ≡ length (given l) + 1
-pushed_more l x =
-    let ws : List _ = l.waiting ++ x ∷ [] in
-    let a = length-append l.taken ws in
-    let b = length-append l.waiting (x ∷ []) in
-    let c = length-append l.taken l.waiting in
-    omega (arith, a, b, c)
+pushed_more = grind (arith, common_steps)
 
 module _ {R : Type 0} (plan : Plan R) (ok : IsPlan plan) (k : ℕ) (src : is_source plan k ≡ true) where
   -- what is done where it doesn't read
   does_mark : (s : State) (old new : Moment R) → state plan old k ≡ s → (s ≡ Reads → ⊥)
       → Does plan k s old new → GivesOrMarks plan k old new
-  does_mark Gives old new e other d = inl (
-    inl (ap (λ (l : Link R). length (given l)) d.becomes.here ∙ pushed_more (old k) d.next),
-    inl (ap (λ (l : Link R). l.read) d.becomes.here),
-  )
-  does_mark Reads old new e other d = absurd (other refl)
-  does_mark (Takes s) old new e other d = absurd (source_takes plan ok old k s src e)
-  does_mark Ends old new e other d =
-      inl (inr (ap (λ (l : Link R). is_some l.mark) d.here), inl (ap (λ (l : Link R). l.read) d.here))
+  does_mark = grind (arith, nat_tests, pushed_more, source_takes)
 
   -- bytes are read, and what follows is left to the next turn
   read_on : (old between new : Moment R) → state plan old k ≡ Reads
       → (r : HasRead plan k old between) → r.upto < (plan.stage k).bytes → new k ≡ between k
       → HasReadOn plan k old new
-  read_on old between new e r less same =
-      let n : (new k).read ≡ r.upto = ap (λ (l : Link R). l.read) (same ∙ r.becomes.here) in
-      let m = r.more in
-      record {
-        about = e;
-        more = omega (arith, m, n);
-        before_end = omega (arith, less, n);
-        nothing_given = ap given (same ∙ r.becomes.here);
-      }
+  read_on = grind (arith, nat_tests)
 
   -- the end of the bytes is read, and something is done
   read_mark : (old between new : Moment R) → state plan old k ≡ Reads
       → (r : HasRead plan k old between) → (old k).read + 1 ≡ (plan.stage k).bytes
       → (s : State) → state plan between k ≡ s
       → Does plan k s between new → GivesOrMarks plan k old new
-  read_mark old between new e r last Gives is d =
-      let g : length (given (between k)) ≡ length (given (old k)) =
-      ap (λ (l : Link R). length (given l)) r.becomes.here in
-      inl (
-        inl (ap (λ (l : Link R). length (given l)) d.becomes.here
-            ∙ pushed_more (between k) d.next ∙ ap (λ n. n + 1) g),
-        inr last,
-      )
-  read_mark old between new e r last Reads is d =
-      let n : (between k).read ≡ r.upto = ap (λ (l : Link R). l.read) r.becomes.here in
-      let less = reads_bytes plan ok between k (source_less plan k src).0 is in
-      inr (read_on old between new e r (omega (arith, n, less)) (d k))
+  read_mark old between new e r last Gives is d = grind (arith, common_steps)
+  read_mark old between new e r last Reads is d = grind (arith, nat_tests)
   read_mark old between new e r last (Takes s) is d = absurd (source_takes plan ok between k s src is)
   read_mark old between new e r last Ends is d = inl (inr (ap (λ (l : Link R). is_some l.mark) d.here), inr last)
 
@@ -78,5 +49,4 @@ module _ {R : Type 0} (plan : Plan R) (ok : IsPlan plan) (k : ℕ) (src : is_sou
       t.does
 
 pub every_source_marks : {R : Type 0} → EverySourceMarks R
-every_source_marks plan size k old new ok src step =
-    turns_mark plan ok k src (state plan old k) old new refl step.turns
+every_source_marks = grind (arith, nat_tests, turns_mark)

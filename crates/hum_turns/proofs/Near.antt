@@ -1,8 +1,9 @@
 -- What is near a turn, and what code that makes a turn has to show.
+use Rattle.std.proofs.lemmas.Bool.Decides.{nat_tests}
 use Rattle.std.proofs.Common.{◌≡◌, ◌≢◌, ℕ, suc, ◌+◌, ◌<◌, ◌≤◌, inl, inr, true, ◌&&◌, List, [], ◌∷◌}
 use Rattle.std.proofs.Common.{map, slice_get, Some, is_none, refl, sym, ap, ◌∙◌}
-use Rattle.std.proofs.Common.{subst, ⊎_elim, arith, le-ltb, lt-ltb}
-use Rattle.std.proofs.lemmas.Bool.{cases_eq, cases_lt, cases_Bool, and_from, and_left, cond-true}
+use Rattle.std.proofs.Common.{subst, ⊎_elim, arith}
+use Rattle.std.proofs.lemmas.Bool.{cases_lt, cases_Bool, cond-true}
 use Rattle.std.proofs.lemmas.Bool.{cond-false}
 use Rattle.std.proofs.lemmas.Option.{none-some}
 use Rattle.hum_turns.specs.Flow.{Flow}
@@ -11,7 +12,7 @@ use Rattle.hum_turns.specs.Links.{Link, view, has_room, has_some, Moment, inputs
 use Rattle.hum_turns.specs.Turns.{State, Gives, Reads, Takes, Ends, stage_state, state, can}
 use Rattle.hum_turns.specs.Turns.{is_source, ready, Becomes, Does, HasRead, Turns, Step}
 use Rattle.hum_turns.specs.Near.{IsOneOf, LooksAt, touched, EveryTurnIsNear}
-use Rattle.hum_turns.proofs.States.{state_is, sink_state, gives_less, reads_less, ends_less, wanted}
+use Rattle.hum_turns.proofs.States.{state_is, sink_state, reads_less, ends_less, wanted}
 use Rattle.hum_turns.proofs.States.{last_next, taker, source_less, reads_source}
 
 -- What an actor doesn't look at it leaves alone.
@@ -24,8 +25,7 @@ module _ {R : Type 0} (plan : Plan R) (ok : IsPlan plan) where
 
   does_near : (k : ℕ) (s : State) (old new : Moment R) → state plan old k ≡ s → Does plan k s old new
       → (i : ℕ) → (LooksAt plan k i → ⊥) → new i ≡ old i
-  does_near k Gives old new e d i far =
-      own_near k _ old new (gives_less plan old k e) d.becomes i far
+  does_near k Gives old new e d i far = grind (arith, nat_tests)
   does_near k Reads old new e d i far = d i
   does_near k (Takes s) old new e d i far =
       d.elsewhere i (λ same. ⊎_elim
@@ -64,8 +64,7 @@ module _ {R : Type 0} (plan : Plan R) (ok : IsPlan plan) (size j : ℕ) (old new
       (λ less.
       let st = plan.stage j in
       let own = same j (inl (less, inl refl)) in
-      let ins : inputs plan new j ≡ inputs plan old j =
-      inputs_same old new st.sources (λ s p. same s (inl (less, inr p))) in
+      let ins : inputs plan new j ≡ inputs plan old j = grind (arith, nat_tests, inputs_same) in
       state_is plan new j less
       ∙ ap (λ l. stage_state st l (inputs plan new j)) own
       ∙ ap (stage_state st (old j)) ins
@@ -75,17 +74,10 @@ module _ {R : Type 0} (plan : Plan R) (ok : IsPlan plan) (size j : ℕ) (old new
 
   -- and whether it can
   can_same : (s : State) → state plan old j ≡ s → can size new j s ≡ can size old j s
-  can_same Gives e =
-      ap (has_room size) (same j (inl (gives_less plan old j e, inl refl)))
-  can_same Reads e =
-      ap (has_room size) (same j (inl (reads_less plan old j e, inl refl)))
-  can_same (Takes s) e =
-      ap has_some (same s (⊎_elim
-      (λ w. inl (w.0, inr (w.1.place, w.1.is_there)))
-      (λ w. inr (w.0, w.1))
-      (taker plan ok old j s e)))
-  can_same Ends e =
-      ap (λ (l : Link R). is_none l.mark) (same j (inl (ends_less plan old j e, inl refl)))
+  can_same Gives e = grind (arith, nat_tests)
+  can_same Reads e = grind (arith, nat_tests)
+  can_same (Takes s) e = grind (arith, nat_tests, taker plan ok old j s e)
+  can_same Ends e = grind (arith, nat_tests)
 
   pub ready_same : ready plan size new j ≡ ready plan size old j
   ready_same =
@@ -117,60 +109,34 @@ module _ {R : Type 0} (plan : Plan R) (size k : ℕ) where
   -- who is ready, by its kind
   pub ready_sink : (m : Moment R) → plan.count ≤ k
       → ready plan size m k ≡ has_some (m (last plan))
-  ready_sink m h =
-      cond-false _ _ _ (and_left _ _ (le-ltb k plan.count h))
-      ∙ ap (can size m k) (sink_state plan m k h)
+  ready_sink = grind (arith, nat_tests)
 
   pub ready_reader : (m : Moment R) → k < plan.count → 0 < (plan.stage k).bytes
       → ready plan size m k ≡ (is_none (m k).mark && has_room size (m k))
-  ready_reader m less some =
-      cond-true _ _ _ (and_from _ _ (lt-ltb k plan.count less) (lt-ltb 0 (plan.stage k).bytes some))
-
-  -- a turn, by what the actor's state is
-  one_turn : (s : State) (old new : Moment R) → (s ≡ Reads → ⊥) → Does plan k s old new
-      → Turns plan k s old new
-  one_turn Gives old new other d = d
-  one_turn Reads old new other d = absurd (other refl)
-  one_turn (Takes s) old new other d = d
-  one_turn Ends old new other d = d
+  ready_reader = grind (arith, nat_tests)
 
   pub step_does : (s : State) (old new : Moment R) → k ≤ plan.count → ready plan size old k ≡ true
       → state plan old k ≡ s → (s ≡ Reads → ⊥) → Does plan k s old new → Step plan size k old new
-  step_does s old new within h e other d = record {
-    within = within;
-    is_ready = h;
-    turns = subst (λ t. Turns plan k t old new) (sym e) (one_turn s old new other d);
-  }
+  step_does = grind (arith, nat_tests)
 
   pub step_reads : (old between new : Moment R) → k ≤ plan.count → ready plan size old k ≡ true
       → state plan old k ≡ Reads → HasRead plan k old between → (old k).read + 1 ≡ (plan.stage k).bytes
       → Does plan k (state plan between k) between new → Step plan size k old new
-  step_reads old between new within h e r last d = record {
-    within = within;
-    is_ready = h;
-    turns = subst (λ t. Turns plan k t old new) (sym e)
-        (record { between = between; reads = r; does = inr (last, d) });
-  }
+  step_reads = grind (arith, nat_tests)
 
 -- A turn of a stage takes nothing from the last link, and hears no end there.
 module _ {R : Type 0} (plan : Plan R) (ok : IsPlan plan) (size k : ℕ) (less : k < plan.count) where
   -- a link that keeps what was taken and heard
   keeps_view : (l : Link R) (old new : Moment R) → Becomes k l old new → view l ≡ view (old k)
       → view (new (last plan)) ≡ view (old (last plan))
-  keeps_view l old new d e =
-      ⊎_elim
-      (λ same. subst (λ j. view (new j) ≡ view (old j)) (sym same) (ap view d.here ∙ e))
-      (λ other. ap view (d.elsewhere (last plan) other))
-      (cases_eq (last plan) k)
+  keeps_view = grind (arith, nat_tests)
 
   does_view : (s : State) (old new : Moment R) → state plan old k ≡ s → Does plan k s old new
       → view (new (last plan)) ≡ view (old (last plan))
   does_view Gives old new e d = keeps_view _ old new d.becomes refl
   does_view Reads old new e d = ap view (d (last plan))
   does_view (Takes s) old new e d =
-      let lower = (wanted plan ok old k s less e).below in
-      let top = last_next plan.count ok.some in
-      ap view (d.elsewhere (last plan) (λ same. absurd (omega arith)))
+      grind (arith, nat_tests, wanted plan ok old k s less e, last_next plan.count ok.some)
   does_view Ends old new e d = keeps_view _ old new d refl
 
   turns_view : (s : State) (old new : Moment R) → state plan old k ≡ s → Turns plan k s old new
@@ -178,11 +144,7 @@ module _ {R : Type 0} (plan : Plan R) (ok : IsPlan plan) (size k : ℕ) (less : 
   turns_view Gives old new e t = does_view Gives old new e t
   turns_view (Takes s) old new e t = does_view (Takes s) old new e t
   turns_view Ends old new e t = does_view Ends old new e t
-  turns_view Reads old new e t =
-      ⊎_elim
-      (λ stays. ap view (stays.1 (last plan)))
-      (λ does. does_view (state plan t.between k) t.between new refl does.1) t.does
-      ∙ keeps_view _ old t.between t.reads.becomes refl
+  turns_view Reads old new e t = grind (arith, nat_tests, ⊎_elim, does_view, keeps_view)
 
   pub step_view : (old new : Moment R) → Step plan size k old new
       → view (new (last plan)) ≡ view (old (last plan))
@@ -200,10 +162,7 @@ module _ {R : Type 0} (plan : Plan R) (ok : IsPlan plan) (size k : ℕ) (less : 
 module _ {R : Type 0} (plan : Plan R) (ok : IsPlan plan) (size k : ℕ) where
   does_touches : (s : State) (old new : Moment R) → Does plan k s old new
       → (i : ℕ) → i ≢ touched k s → new i ≡ old i
-  does_touches Gives old new d i other = d.becomes.elsewhere i other
-  does_touches Reads old new d i other = d i
-  does_touches (Takes s) old new d i other = d.elsewhere i other
-  does_touches Ends old new d i other = d.elsewhere i other
+  does_touches = grind (arith, nat_tests)
 
   -- a stage that reads bytes takes from no other
   no_source : (m : Moment R) → is_source plan k ≡ true → (s : State) → state plan m k ≡ s

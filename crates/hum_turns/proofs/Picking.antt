@@ -1,15 +1,16 @@
 -- Turns by the picks of an order.
+use Rattle.std.proofs.lemmas.Grind.{common_steps}
+use Rattle.std.proofs.lemmas.Bool.Decides.{nat_tests}
 use Rattle.std.proofs.Common.{◌≡◌, ℕ, zero, suc, ◌+◌, ◌-◌, ◌<◌, ◌≤◌, Bool, true, false, List, []}
-use Rattle.std.proofs.Common.{◌∷◌, ◌++◌, map, length, get_or, Option, Some, None, is_some, is_none}
-use Rattle.std.proofs.Common.{refl, sym, ap, ◌∙◌, subst, ⊎_elim, arith, length-append}
+use Rattle.std.proofs.Common.{◌∷◌, ◌++◌, map, length, get_or, Option, None, is_some, is_none}
+use Rattle.std.proofs.Common.{refl, sym, ap, ◌∙◌, ⊎_elim, arith}
 use Rattle.std.proofs.lemmas.Bool.{false≢true, cases_lt, cases_Bool, and_from, cond-true}
 use Rattle.std.proofs.lemmas.Bool.{cond-false}
-use Rattle.std.proofs.lemmas.Option.{none-some}
 use Rattle.std.proofs.lemmas.List.{length-map, map-append, get_or_append_left, get_or-append_right}
 use Rattle.hum_stage.specs.declared.faults.End.{End}
 use Rattle.hum_turns.specs.Plan.{Plan, last}
 use Rattle.hum_turns.specs.declared.result.RunResult.{RunResult}
-use Rattle.hum_turns.specs.Failures.{Now, result_of, ended_by, result, is_ready, Turn, Walk}
+use Rattle.hum_turns.specs.Failures.{Now, ended_by, result, is_ready, Turn, Walk}
 use Rattle.hum_turns.specs.Failures.{HoldsNow}
 use Rattle.hum_turns.specs.Orders.{Order, upto, ready_list, first_true, chosen, choice, Driven}
 use Rattle.hum_turns.specs.Orders.{EveryPick}
@@ -19,28 +20,19 @@ use Rattle.hum_turns.proofs.Writing.{every_turn, same_now, still}
 
 first_is : (bs : List Bool) (k : ℕ) → get_or bs k false ≡ true
     → get_or bs (first_true bs) false ≡ true
-first_is [] k h = absurd (false≢true h)
-first_is (true ∷ bs) k h = refl
-first_is (false ∷ bs) zero h = absurd (false≢true h)
 first_is (false ∷ bs) (suc k) h = first_is bs k h
+first_is bs k h = grind (arith, nat_tests)
 
 pub chosen_is : (bs : List Bool) (p k : ℕ) → get_or bs k false ≡ true
     → get_or bs (chosen bs p) false ≡ true
-chosen_is bs p k h =
-    ⊎_elim
-    (λ is. ap (λ i. get_or bs i false) (cond-true _ p (first_true bs) is) ∙ is)
-    (λ isnt. ap (λ i. get_or bs i false) (cond-false _ p (first_true bs) isnt) ∙ first_is bs k h)
-    (cases_Bool (get_or bs p false))
+chosen_is = grind (arith, nat_tests, ⊎_elim, get_or, cond-true, cond-false, first_is, cases_Bool)
 
 length_upto : (n : ℕ) → length (upto n) ≡ n
 length_upto zero = refl
-length_upto (suc n) =
-    let h = length_upto n in let a = length-append (upto n) (n ∷ []) in omega arith
+length_upto (suc n) = grind (arith, common_steps, length_upto n)
 
 past_none : (bs : List Bool) (k : ℕ) → length bs ≤ k → get_or bs k false ≡ false
-past_none [] k h = refl
-past_none (b ∷ bs) zero h = absurd (omega arith)
-past_none (b ∷ bs) (suc k) h = past_none bs k (omega arith)
+past_none = grind (arith, common_steps)
 
 module _ (f : ℕ → Bool) where
   length_map : (n : ℕ) → length (map f (upto n)) ≡ n
@@ -62,13 +54,7 @@ module _ (f : ℕ → Bool) where
       (cases_lt k n)
 
   pub entry_is : (n k : ℕ) → get_or (map f (upto n)) k false ≡ true → (k < n) × (f k ≡ true)
-  entry_is n k h =
-      let l = length_map n in
-      ⊎_elim
-      (λ less. (less, sym (entry n k less) ∙ h))
-      (λ past. absurd (false≢true
-      (sym (past_none (map f (upto n)) k (omega arith)) ∙ h)))
-      (cases_lt k n)
+  entry_is = grind (arith, nat_tests, length_map, ⊎_elim, entry, false≢true, past_none, cases_lt)
 
 -- Where an actor is ready, the choice is one that is.
 
@@ -87,9 +73,7 @@ module _ {R : Type 0} (plan : Plan R) (size : ℕ) (now : Now R) where
 
   -- without a failure and before the sink's mark
   pub going_on : (f : Option RunResult) (e : Option End) → ended_by f e ≡ None → (f ≡ None) × (e ≡ None)
-  going_on (Some by) e h = absurd (none-some by (sym h))
-  going_on None (Some e) h = absurd (none-some (result_of e) (sym h))
-  going_on None None h = (refl, refl)
+  going_on = grind (arith, nat_tests)
 
   pub goes_on : (turns : List ℕ) (bytes : R → List ℕ) (pick : ℕ) → HoldsNow plan size bytes turns now
       → result plan now ≡ None
@@ -116,12 +100,7 @@ module _ {R O : Type 0} (order : Order O) (plan : Plan R) (size : ℕ) (bytes : 
       → Driven order plan size bytes o old (ks ++ k ∷ []) new
       (order.next p (ready_list plan size between))
   driven_more [] k o p old between new d e turn =
-      let q = order.next p (ready_list plan size between) in
-      let one : Driven order plan size bytes p between (k ∷ []) new q =
-      (new, e, turn, (still new, refl)) in
-      subst (λ (s : O). Driven order plan size bytes s old (k ∷ []) new q) d.1
-      (subst (λ (x : Now R). Driven order plan size bytes p x (k ∷ []) new q)
-      (same_now old between d.0) one)
+      grind (arith, nat_tests, still new, same_now old between d.0)
   driven_more (j ∷ ks) k o p old between new d e turn = (
     d.0,
     d.1,

@@ -1,12 +1,13 @@
 -- Until the run is over some actor is ready, and a ready actor has a turn.
-use Rattle.std.proofs.Common.{◌≡◌, ℕ, zero, suc, ◌+◌, ◌<◌, ◌≤◌, true, false, ◌&&◌, ◌||◌}
-use Rattle.std.proofs.Common.{if◌then◌else◌, nat_lt, nat_eq, List, [], ◌∷◌, length, slice_get}
-use Rattle.std.proofs.Common.{Option, Some, None, is_some, is_none, refl, sym, ap, ◌∙◌, ⊎_elim}
-use Rattle.std.proofs.Common.{arith, le-ltb, lt-ltb, eq-eqb, ne_eqb, inl, inr}
-use Rattle.std.proofs.lemmas.Bool.{true≢false, cases_Bool, and_left, or_left, cond-true, cond-false}
+use Rattle.std.proofs.lemmas.Grind.{common_steps}
+use Rattle.std.proofs.lemmas.Bool.Decides.{nat_tests}
+use Rattle.std.proofs.Common.{◌≡◌, ℕ, zero, suc, ◌+◌, ◌<◌, ◌≤◌, true, false}
+use Rattle.std.proofs.Common.{if◌then◌else◌, nat_lt, nat_eq, [], length, slice_get}
+use Rattle.std.proofs.Common.{Some, None, is_none, refl, ap, ◌∙◌, ⊎_elim}
+use Rattle.std.proofs.Common.{arith, le-ltb, lt-ltb, inl, inr}
+use Rattle.std.proofs.lemmas.Bool.{cases_Bool, and_left}
 use Rattle.std.proofs.Math.Nat.{eq-or-lt_of_le}
 use Rattle.std.proofs.lemmas.Option.{slice_get_cases}
-use Rattle.hum_stage.specs.declared.faults.End.{End}
 use Rattle.hum_turns.specs.Plan.{Plan, last, IsPlan}
 use Rattle.hum_turns.specs.Links.{Link, given, has_room, has_some, Moment, settled, is_over}
 use Rattle.hum_turns.specs.Turns.{State, Gives, Reads, Takes, Ends, state, is_source, ready}
@@ -18,20 +19,10 @@ use Rattle.hum_turns.proofs.States.{wanted, ready_source, ready_other}
 
 -- Progress: who wants from an empty link waits for a lower stage, and so on down to a source.
 
-nothing_waits : {R : Type 0} (ws : List R) (o : Option End)
-    → (nat_lt 0 (length ws) || is_some o) ≡ false → (ws ≡ []) × (o ≡ None)
-nothing_waits [] None h = (refl, refl)
-nothing_waits [] (Some e) h = absurd (true≢false h)
-nothing_waits (x ∷ ws) o h =
-    let some = lt-ltb 0 (length (x ∷ ws)) (omega arith) in
-    absurd (true≢false (sym (or_left (nat_lt 0 (length (x ∷ ws))) (is_some o) some) ∙ h))
-
 -- a link that has nothing, and whose end wasn't heard
 is_empty : {R : Type 0} (l : Link R) → l.heard ≡ None → has_some l ≡ false
     → (l.waiting ≡ []) × (l.mark ≡ None)
-is_empty l new h =
-    nothing_waits l.waiting l.mark
-    (sym (ap (λ o. is_none o && (nat_lt 0 (length l.waiting) || is_some l.mark)) new) ∙ h)
+is_empty = grind (arith, common_steps)
 
 empty_room : {R : Type 0} (size : ℕ) (l : Link R) → 0 < size → l.waiting ≡ []
     → has_room size l ≡ true
@@ -50,9 +41,7 @@ module _ {R : Type 0} (plan : Plan R) (ok : IsPlan plan) (size : ℕ) (some : 0 
   by_state k less w u other below Gives e =
       it_is k (omega arith)
       (ready_other plan size m k Gives other e (empty_room size (m k) some w))
-  by_state k less w u other below Reads e =
-      it_is k (omega arith)
-      (ready_other plan size m k Reads other e (empty_room size (m k) some w))
+  by_state k less w u other below Reads e = grind (arith, nat_tests)
   by_state k less w u other below Ends e =
       it_is k (omega arith) (ready_other plan size m k Ends other e (ap is_none u))
   by_state k less w u other below (Takes s) e =
@@ -95,17 +84,12 @@ put_at m k l = λ i. if nat_eq i k then l else m i
 
 put_becomes : {R : Type 0} (m : Moment R) (k : ℕ) (l : Link R) → Becomes k l m (put_at m k l)
 unfolding put_at
-put_becomes m k l = record {
-  here = cond-true _ _ _ (eq-eqb k k refl);
-  elsewhere = λ i h. cond-false _ _ _ (ne_eqb i k h);
-}
+put_becomes = grind (arith, nat_tests)
 
 next_given : {R : Type 0} (plan : Plan R) (m : Moment R) (k : ℕ) → state plan m k ≡ Gives
     → (x : R) × (slice_get (settled plan m k) (length (given (m k))) ≡ Some x)
 next_given plan m k e =
-    let n = gives_more plan m k e in
-    ⊎_elim (λ f. (f.0, f.2)) (λ past. let p = past.0 in absurd (omega arith))
-    (slice_get_cases (settled plan m k) (length (given (m k)))).1
+    grind (arith, nat_tests, gives_more plan m k e, slice_get_cases (settled plan m k) (length (given (m k))))
 
 does_exist : {R : Type 0} (plan : Plan R) (k : ℕ) (s : State) (m : Moment R) → state plan m k ≡ s
     → (new : Moment R) × Does plan k s m new
@@ -129,12 +113,7 @@ turns_exist plan k Reads m ok e =
     let between = put_at m k l in
     let d = does_exist plan k (state plan between k) between refl in
     let r = reads_bytes plan ok m k (reads_less plan m k e) e in
-    let reads : HasRead plan k m between = record {
-      upto = n;
-      more = omega arith;
-      within = omega arith;
-      becomes = put_becomes m k l;
-    } in
+    let reads : HasRead plan k m between = grind (arith, nat_tests, put_becomes) in
     ⊎_elim
     (λ last. (d.0, record { between = between; reads = reads; does = inr (last, d.1) }))
     (λ less. (between, record { between = between; reads = reads; does = inl (less, λ i. refl) }))

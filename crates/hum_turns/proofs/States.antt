@@ -1,33 +1,20 @@
 -- What an actor's state says of it, and what it needs to be ready.
-use Rattle.std.proofs.Common.{◌≡◌, ℕ, zero, suc, pred, ◌+◌, ◌<◌, ◌≤◌, ◌⊎◌, inl, inr, Bool, true}
+use Rattle.std.proofs.lemmas.Bool.Decides.{nat_tests}
+use Rattle.std.proofs.Common.{◌≡◌, ℕ, pred, ◌+◌, ◌<◌, ◌≤◌, ◌⊎◌, Bool, true}
 use Rattle.std.proofs.Common.{false, if◌then◌else◌, nat_lt, List, length, slice_get, slice_index}
-use Rattle.std.proofs.Common.{Some, None, is_none, refl, sym, ap, ◌∙◌, subst, ⊎_elim, arith}
-use Rattle.std.proofs.Common.{ltb-true, le-ltb, lt-ltb}
+use Rattle.std.proofs.Common.{Some, None, is_none, sym, ap, ◌∙◌, subst, ⊎_elim, arith}
+use Rattle.std.proofs.Common.{le-ltb, lt-ltb}
 use Rattle.std.proofs.lemmas.Bool.{cases_lt, cases_Bool, and_parts, and_from, cond-true, cond-false}
 use Rattle.std.proofs.lemmas.Option.{none-some, slice_get_within, slice_get-get_or}
 use Rattle.std.proofs.lemmas.List.{length-map}
 use Rattle.hum_turns.specs.Flow.{Flow}
-use Rattle.hum_turns.specs.Plan.{Want, Bytes, Source, Nothing, Plan, last, IsPlan}
-use Rattle.hum_turns.specs.Links.{Link, given, view, has_room, has_some, Moment, inputs, settled}
+use Rattle.hum_turns.specs.Plan.{Want, Source, Plan, last, IsPlan}
+use Rattle.hum_turns.specs.Links.{given, view, has_room, has_some, Moment, inputs, settled}
 use Rattle.hum_turns.specs.Turns.{State, Gives, Reads, Takes, Ends, by_want, stage_state, state}
 use Rattle.hum_turns.specs.Turns.{can, is_source, ready, HasRead}
 use Rattle.hum_turns.proofs.Fronts.{source_at}
 
 -- The causes of each state.
-
-reads_cases : (ss : List ℕ) (b : Bool) (w : Want) → (if b then Gives else by_want ss w) ≡ Reads
-    → w ≡ Bytes
-reads_cases ss true w h = cc
-reads_cases ss false Bytes h = refl
-reads_cases ss false (Source j) h = cc
-reads_cases ss false Nothing h = cc
-
-gives_cases : (ss : List ℕ) (b : Bool) (w : Want) → (if b then Gives else by_want ss w) ≡ Gives
-    → b ≡ true
-gives_cases ss true w h = refl
-gives_cases ss false Bytes h = cc
-gives_cases ss false (Source j) h = cc
-gives_cases ss false Nothing h = cc
 
 pub takes_same : {a b : ℕ} → Takes a ≡ Takes b → a ≡ b
 takes_same h = cc
@@ -35,10 +22,7 @@ takes_same h = cc
 takes_cases : (ss : List ℕ) (s : ℕ) (b : Bool) (w : Want)
     → (if b then Gives else by_want ss w) ≡ Takes s
     → (j : ℕ) × (w ≡ Source j) × (slice_index ss j ≡ s)
-takes_cases ss s true w h = cc
-takes_cases ss s false Bytes h = cc
-takes_cases ss s false (Source j) h = (j, refl, takes_same h)
-takes_cases ss s false Nothing h = cc
+takes_cases = grind (arith, nat_tests)
 
 -- The link that a stage wants from: of a source of its own, whose end it hasn't heard.
 pub record Wanted {R : Type 0} (plan : Plan R) (m : Moment R) (k s : ℕ) : Type 0 where
@@ -60,18 +44,13 @@ Allowed size m k Ends = is_none (m k).mark ≡ true
 
 can_allowed : {R : Type 0} (size : ℕ) (m : Moment R) (k : ℕ) (s : State) → can size m k s ≡ true
     → Allowed size m k s
-can_allowed size m k Gives h = h
-can_allowed size m k Reads h = tt
-can_allowed size m k (Takes s) h = h
-can_allowed size m k Ends h = h
+can_allowed = grind (arith, nat_tests)
 
 pub last_less : (n : ℕ) → 0 < n → pred n < n
-last_less zero h = absurd (omega arith)
-last_less (suc n) h = omega arith
+last_less = grind (arith, nat_tests)
 
 pub last_next : (n : ℕ) → 0 < n → pred n + 1 ≡ n
-last_next zero h = absurd (omega arith)
-last_next (suc n) h = omega arith
+last_next = grind (arith, nat_tests)
 
 -- Of any plan.
 module _ {R : Type 0} (plan : Plan R) where
@@ -85,9 +64,7 @@ module _ {R : Type 0} (plan : Plan R) where
   -- an actor that doesn't take is a stage
   not_sink : (m : Moment R) (k : ℕ) (s : State) → state plan m k ≡ s
       → (Takes (last plan) ≡ s → ⊥) → k < plan.count
-  not_sink m k s e other =
-      ⊎_elim (λ less. less) (λ past. absurd (other (sym (sink_state m k past) ∙ e)))
-      (cases_lt k plan.count)
+  not_sink = grind (arith, nat_tests)
 
   pub gives_less : (m : Moment R) (k : ℕ) → state plan m k ≡ Gives → k < plan.count
   gives_less m k h = not_sink m k Gives h (λ e. cc)
@@ -101,11 +78,7 @@ module _ {R : Type 0} (plan : Plan R) where
   -- a stage that gives has something left to give
   pub gives_more : (m : Moment R) (k : ℕ) → state plan m k ≡ Gives
       → length (given (m k)) < length (settled plan m k)
-  gives_more m k h =
-      let st = plan.stage k in
-      let more = nat_lt (length (given (m k))) (length (settled plan m k)) in
-      ltb-true _ _ (gives_cases st.sources more (st.wants (m k).read (inputs plan m k))
-      (sym (state_is m k (gives_less m k h)) ∙ h))
+  gives_more = grind (arith, nat_tests)
 
   -- Sources.
 
@@ -114,9 +87,7 @@ module _ {R : Type 0} (plan : Plan R) where
 
   pub source_less : (k : ℕ) → is_source plan k ≡ true
       → (k < plan.count) × (0 < (plan.stage k).bytes)
-  source_less k s =
-      let p = and_parts _ _ s in
-      (ltb-true k plan.count p.0, ltb-true 0 (plan.stage k).bytes p.1)
+  source_less = grind (arith, nat_tests)
 
   pub source_ready : (size : ℕ) (m : Moment R) (k : ℕ) → is_source plan k ≡ true
       → ready plan size m k ≡ true → (is_none (m k).mark ≡ true) × (has_room size (m k) ≡ true)
@@ -153,27 +124,15 @@ module _ {R : Type 0} (plan : Plan R) (ok : IsPlan plan) where
       }
 
   pub taker : (m : Moment R) (k s : ℕ) → state plan m k ≡ Takes s → Taker plan m k s
-  taker m k s e =
-      ⊎_elim
-      (λ less. inl (less, wanted m k s less e))
-      (λ sink. inr (sink, takes_same (sym e ∙ sink_state plan m k sink)))
-      (cases_lt k plan.count)
+  taker = grind (arith, nat_tests, ⊎_elim, wanted, takes_same, sink_state, cases_lt)
 
   pub reads_bytes : (m : Moment R) (k : ℕ) → k < plan.count → state plan m k ≡ Reads
       → (m k).read < (plan.stage k).bytes
-  reads_bytes m k less h =
-      let st = plan.stage k in
-      let a = inputs plan m k in
-      (ok.lawful k less).reads (m k).read a (reads_cases st.sources
-      (nat_lt (length (given (m k))) (length (st.output (m k).read a)))
-      (st.wants (m k).read a) (sym (state_is plan m k less) ∙ h))
+  reads_bytes = grind (arith, nat_tests)
 
   -- who reads is a source, and a source takes from no link
   pub reads_source : (m : Moment R) (k : ℕ) → state plan m k ≡ Reads → is_source plan k ≡ true
-  reads_source m k h =
-      let less = reads_less plan m k h in
-      let n = reads_bytes m k less h in
-      source_is plan k less (omega arith)
+  reads_source = grind (arith, nat_tests)
 
   pub source_takes : (m : Moment R) (k s : ℕ) → is_source plan k ≡ true → state plan m k ≡ Takes s → ⊥
   source_takes m k s src h =
@@ -192,20 +151,11 @@ module _ {R : Type 0} (plan : Plan R) (ok : IsPlan plan) where
   -- a ready actor has what it needs
   pub ready_allows : (size : ℕ) (m : Moment R) (k : ℕ) (s : State) → ready plan size m k ≡ true
       → state plan m k ≡ s → Allowed size m k s
-  ready_allows size m k s h e =
-      ⊎_elim
-      (λ src.
-      let r = source_ready plan size m k src h in
-      source_allowed size m k s src e r.0 r.1)
-      (λ other. can_allowed size m k s (ap (can size m k) (sym e) ∙ sym (cond-false _ _ _ other) ∙ h))
-      (cases_Bool (is_source plan k))
+  ready_allows =
+      grind (arith, nat_tests, ⊎_elim, source_ready, source_allowed, can_allowed, cond-false, cases_Bool)
 
   -- also once it has read
   pub read_allowed : (size : ℕ) (old between : Moment R) (k : ℕ) → is_source plan k ≡ true
       → ready plan size old k ≡ true → HasRead plan k old between
       → Allowed size between k (state plan between k)
-  read_allowed size old between k src h d =
-      let r = source_ready plan size old k src h in
-      source_allowed size between k (state plan between k) src refl
-      (ap (λ (l : Link R). is_none l.mark) d.becomes.here ∙ r.0)
-      (ap (λ (l : Link R). has_room size l) d.becomes.here ∙ r.1)
+  read_allowed = grind (arith, nat_tests, source_ready, source_allowed, is_none)

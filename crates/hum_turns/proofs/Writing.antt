@@ -1,11 +1,12 @@
 -- What is written is a prefix of the plan's text, also where a failure ends the run.
-use Rattle.std.proofs.Common.{◌≡◌, ℕ, pred, ◌+◌, ◌<◌, ◌⊎◌, inl, inr, true, List, [], ◌∷◌, ◌++◌}
-use Rattle.std.proofs.Common.{length, Option, Some, None, is_some, is_none, refl, sym, ap, ◌∙◌}
-use Rattle.std.proofs.Common.{subst, ⊎_elim, arith, append_assoc, append-nil}
-use Rattle.std.proofs.lemmas.Bool.{false≢true, and_parts}
+use Rattle.std.proofs.lemmas.Grind.{common_steps}
+use Rattle.std.proofs.lemmas.Bool.Decides.{nat_tests}
+use Rattle.std.proofs.Common.{◌≡◌, ℕ, pred, ◌+◌, ◌<◌, ◌⊎◌, inl, inr, List, [], ◌∷◌, ◌++◌}
+use Rattle.std.proofs.Common.{length, Option, Some, None, is_some, refl, sym, ap, ◌∙◌}
+use Rattle.std.proofs.Common.{subst, ⊎_elim, arith}
 use Rattle.std.proofs.lemmas.Option.{none-some, same_Some}
 use Rattle.hum_stage.specs.declared.faults.End.{End}
-use Rattle.hum_turns.specs.Flow.{Flow, Begins}
+use Rattle.hum_turns.specs.Flow.{Begins}
 use Rattle.hum_turns.specs.Plan.{Plan, last, IsPlan}
 use Rattle.hum_turns.specs.Meaning.{plan_meaning}
 use Rattle.hum_turns.specs.Links.{given, view, Moment, Same, Agrees}
@@ -13,9 +14,8 @@ use Rattle.hum_turns.specs.Turns.{Run}
 use Rattle.hum_turns.specs.declared.result.RunResult.{RunResult}
 use Rattle.hum_turns.specs.declared.result.RunResult.TheVariants as ends
 use Rattle.hum_turns.specs.Text.{line_of, text, next_text}
-use Rattle.hum_turns.specs.Failures.{Now, IsFailure, ended_by, written, MayFail, Turn, SameNow}
+use Rattle.hum_turns.specs.Failures.{Now, IsFailure, written, MayFail, Turn, SameNow}
 use Rattle.hum_turns.specs.Failures.{Walk, IsFirst, IsWhole, HoldsNow, EveryTurn}
-use Rattle.std.proofs.Math.Path.{fun_ext}
 use Rattle.hum_turns.proofs.Fronts.{begins_refl, begins_trans, begins_append, begins_after}
 use Rattle.hum_turns.proofs.Fronts.{begins_nil}
 use Rattle.hum_turns.proofs.States.{last_less}
@@ -28,9 +28,7 @@ use Rattle.hum_turns.proofs.Every.{reached, every_order}
 module _ {R : Type 0} (bytes : R → List ℕ) where
   pub text_append : (a b : List R) → text bytes (a ++ b) ≡ text bytes a ++ text bytes b
   text_append [] b = refl
-  text_append (x ∷ a) b =
-      ap (λ t. line_of bytes x ++ t) (text_append a b)
-      ∙ sym (append_assoc (line_of bytes x) (text bytes a) (text bytes b))
+  text_append (x ∷ a) b = grind (arith, common_steps, text_append a b)
 
   text_begins : (a b : List R) → Begins a b → Begins (text bytes a) (text bytes b)
   text_begins a b h = (text bytes h.0, sym (text_append a h.0) ∙ ap (text bytes) h.1)
@@ -53,16 +51,7 @@ module _ {R : Type 0} (plan : Plan R) (k : ℕ) (bytes : R → List ℕ) (m : Mo
   part_begins ends.Memory part h = begins_nil part _ h
 
   is_failure : (by : RunResult) (part : List ℕ) → MayFail plan k bytes m by part → IsFailure by
-  is_failure ends.Finished part h = h
-  is_failure (ends.Fault f) part h = h
-  is_failure (ends.Read i) part h = tt
-  is_failure ends.Write part h = tt
-  is_failure ends.Memory part h = tt
-
-failed_result : (f : Option RunResult) (by : RunResult) (h : Option End) → f ≡ Some by
-    → is_none (ended_by f h) ≡ true → ⊥
-failed_result None by h e r = none-some by e
-failed_result (Some x) by h e r = false≢true r
+  is_failure = grind (arith, nat_tests)
 
 -- Turns are a run, or a run and one turn that fails.
 
@@ -88,10 +77,7 @@ abbrev now_of : {R : Type 0} → Moment R → List ℕ → Option RunResult → 
 now_of m part failure = record { links = m; part = part; failure = failure }
 
 pub same_now : {R : Type 0} (old new : Now R) → SameNow old new → new ≡ old
-same_now old new s =
-    ap (λ m. now_of m new.part new.failure) (fun_ext s.links)
-    ∙ ap (λ p. now_of old.links p new.failure) s.part
-    ∙ ap (λ f. now_of old.links old.part f) s.failure
+same_now = grind (arith, nat_tests)
 
 pub still : {R : Type 0} (now : Now R) → SameNow now now
 still now = record { links = λ k. refl; part = refl; failure = refl }
@@ -101,15 +87,12 @@ module _ {R : Type 0} (plan : Plan R) (size : ℕ) (bytes : R → List ℕ) wher
   walk_failed : (ks : List ℕ) (old new : Now R) (by : RunResult) → old.failure ≡ Some by
       → Walk plan size bytes old ks new → (ks ≡ []) × SameNow old new
   walk_failed [] old new by f w = (refl, w)
-  walk_failed (k ∷ ks) old new by f w =
-      absurd (failed_result old.failure by (old.links (last plan)).heard f
-      (and_parts _ _ w.1.is_ready).0)
+  walk_failed (k ∷ ks) old new by f w = grind (arith, nat_tests)
 
   walk_ends : (ks : List ℕ) (old new : Now R) → old.part ≡ [] → old.failure ≡ None
       → Walk plan size bytes old ks new
       → Going plan size old.links ks new ⊎ Stopped plan size bytes old.links ks new
-  walk_ends [] old new p f w =
-      inl (record { run = w.links; part = w.part ∙ p; failure = w.failure ∙ f })
+  walk_ends [] old new p f w = grind (arith, nat_tests)
   walk_ends (k ∷ ks) old new p f w =
       let between = w.0 in
       ⊎_elim
@@ -152,18 +135,14 @@ module _ {R : Type 0} (plan : Plan R) (size : ℕ) (bytes : R → List ℕ) wher
   pub walk_going : (ks : List ℕ) (first now : Now R) → IsFirst first → now.failure ≡ None
       → Walk plan size bytes first ks now
       → Run plan size first.links ks now.links × (now.part ≡ [])
-  walk_going ks first now start none walk =
-      ⊎_elim (λ g. (g.run, g.part)) (λ s. absurd (none-some s.by (sym none ∙ s.failure)))
-      (walk_ends ks first now start.part start.failure walk)
+  walk_going = grind (arith, nat_tests, ⊎_elim, none-some, walk_ends)
 
   -- one turn more
   pub walk_more : (ks : List ℕ) (k : ℕ) (old between new : Now R)
       → Walk plan size bytes old ks between → Turn plan size bytes k between new
       → Walk plan size bytes old (ks ++ k ∷ []) new
-  walk_more [] k old between new w t =
-      (new, subst (λ o. Turn plan size bytes k o new) (same_now old between w) t, still new)
-  walk_more (j ∷ ks) k old between new w t =
-      (w.0, w.1, walk_more ks k w.0 between new w.2 t)
+  walk_more [] k old between new w t = grind (arith, nat_tests, same_now old between w, still new)
+  walk_more (j ∷ ks) k old between new w t = grind (arith, nat_tests, walk_more ks k w.0 between new w.2 t)
 
   -- What was taken and a prefix of what waits is a prefix of the text, however the inputs go on.
   front_of : (other : Plan R) (now : Now R) → IsPlan other → Inv plan size now.links
@@ -184,13 +163,7 @@ module _ {R : Type 0} (plan : Plan R) (size : ℕ) (bytes : R → List ℕ) wher
 
   is_whole : (now : Now R) (e : End) → now.part ≡ [] → (now.links (last plan)).heard ≡ Some e
       → view (now.links (last plan)) ≡ plan_meaning plan → IsWhole plan bytes now e
-  is_whole now e part heard w =
-      let taken = text bytes (now.links (last plan)).taken in
-      record {
-        written = ap (λ p. taken ++ p) part ∙ append-nil taken
-            ∙ ap (λ (v : Flow R). text bytes v.items) w;
-        end = sym (ap (λ (v : Flow R). v.end) w) ∙ heard;
-      }
+  is_whole = grind (arith, common_steps)
 
   module _ (ok : IsPlan plan) (some : 0 < size) (turns : List ℕ) (first now : Now R)
       (start : IsFirst first) where
@@ -222,8 +195,7 @@ module _ {R : Type 0} (plan : Plan R) (size : ℕ) (bytes : R → List ℕ) wher
               (subst (λ l. Begins now.part (text bytes l.waiting)) (sym (s.same (last plan))) part);
           agrees = agrees_self plan size now.links inv;
           holds = λ f. absurd (none-some s.by (sym f ∙ s.failure));
-          fails = λ by e. subst IsFailure (same_Some s.by by (sym s.failure ∙ e))
-              (is_failure plan s.actor bytes s.before s.by now.part s.may);
+          fails = grind (arith, nat_tests, same_Some, is_failure);
           whole = λ e f heard. absurd (none-some s.by (sym f ∙ s.failure));
         }
 
