@@ -1,4 +1,6 @@
 -- The first line of some bytes.
+use Rattle.std.proofs.lemmas.Grind.{common_steps}
+use Rattle.std.proofs.lemmas.Bool.Decides.{nat_tests}
 use Rattle.std.proofs.Common.{◌≡◌, ℕ, suc, ◌+◌, ◌<◌, ◌≤◌, ◌==◌, ◌&&◌, Bool, true, false, List, [], ◌∷◌, ◌++◌}
 use Rattle.std.proofs.Common.{length, take, drop, get_or, None, Some, is_some, refl, sym, ap, ◌∙◌, arith}
 use Rattle.std.proofs.Common.{length-append, length-drop, length-take, drop-cons, ◌-◌}
@@ -15,8 +17,7 @@ abbrev pub IsOneLine : List ℕ → Type 0
 IsOneLine line = list_all (λ b. not (b == 10)) line ≡ true
 
 split_step : (b : Bool) (more : Bool) → (not b && more) ≡ true → (b ≡ false) × (more ≡ true)
-split_step true more h = absurd (cc)
-split_step false more h = (refl, h)
+split_step = grind (arith, nat_tests)
 
 pub line_ended : (line rest : List ℕ) → IsOneLine line → lines (line ++ 10 ∷ rest) ≡ (line ++ 10 ∷ []) ∷ lines rest
 unfolding lines
@@ -33,8 +34,7 @@ line_last b (c ∷ line) h =
     rw (p.0, line_last c line p.1) refl
 
 not_true : (b : Bool) → (b ≡ true → ⊥) → b ≡ false
-not_true true h = absurd (h refl)
-not_true false h = refl
+not_true = grind (arith, nat_tests)
 
 one_line : (xs : List ℕ) → ((j : ℕ) → j < length xs → (get_or xs j 0 == 10) ≡ true → ⊥) → IsOneLine xs
 one_line [] h = refl
@@ -53,8 +53,7 @@ line_at xs k h =
     let next : k + 1 ≡ suc k = omega arith in
     let all : xs ≡ take k xs ++ 10 ∷ drop (k + 1) xs =
     rw next (sym (take-append-drop k xs) ∙ ap (λ rest. take k xs ++ rest) (drop-cons xs k 0 within ∙ ap (λ b. b ∷ drop (suc k) xs) byte)) in
-    let first : take (k + 1) xs ≡ take k xs ++ 10 ∷ [] =
-    take_more xs k 0 within ∙ ap (λ b. take k xs ++ b ∷ []) byte in
+    let first : take (k + 1) xs ≡ take k xs ++ 10 ∷ [] = grind (arith, nat_tests, take_more) in
     ap lines all ∙ line_ended (take k xs) (drop (k + 1) xs) free ∙ ap (λ line. line ∷ lines (drop (k + 1) xs)) (sym first)
 
 -- where there is no LF, all is one line
@@ -75,8 +74,7 @@ met line more h = rw h refl
 
 pub none_left : (xs : List ℕ) → length xs ≡ 0 → before_name (lines xs) ≡ []
 unfolding before_name lines
-none_left [] h = refl
-none_left (x ∷ xs) h = absurd (omega arith)
+none_left = grind (arith, common_steps)
 
 pub found : (name line : List ℕ) (more : List (List ℕ)) → names (name_in line) name ≡ true
     → score_in name (line ∷ more) ≡ Some (before_name more)
@@ -90,8 +88,7 @@ other name line more h = rw h refl
 
 pub no_score : (name xs : List ℕ) → length xs ≡ 0 → score_in name (lines xs) ≡ None
 unfolding score_in lines
-no_score name [] h = refl
-no_score name (x ∷ xs) h = absurd (omega arith)
+no_score = grind (arith, common_steps)
 
 -- a line more of a front
 pub front_on : (bytes line rest : List ℕ) (len : ℕ) → len ≤ length bytes → drop len bytes ≡ line ++ rest

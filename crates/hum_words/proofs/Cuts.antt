@@ -1,14 +1,14 @@
 -- A line that is written by pieces, cut.
-use Rattle.std.proofs.Common.{◌≡◌, ◌≢◌, ℕ, ◌+◌, Bool, true, false, not, ◌||◌, List, [], ◌∷◌, ◌++◌, Ok, Err, Result}
+use Rattle.std.proofs.lemmas.Bool.Decides.{nat_tests}
+use Rattle.std.proofs.Common.{◌≡◌, ◌≢◌, ℕ, ◌+◌, true, false, List, [], ◌∷◌, ◌++◌, Ok, Err, Result}
 use Rattle.std.proofs.Common.{refl, sym, ap, ◌∙◌, arith, append_assoc}
 use Rattle.std.proofs.lemmas.Bool.{and_parts}
 use Rattle.std.proofs.lemmas.List.{append-nil}
-use Rattle.std.specs.Prelude.{if◌then◌else◌}
 use Rattle.std.specs.declared.vec.Vec.{Vec}
 use Rattle.std.specs.declared.alloc.Global.{Global}
 use Rattle.hum_words.specs.Characters.{is_blank, is_bar, is_quote, is_bare, is_quotable, begins_apart, trimmed}
 use Rattle.hum_words.specs.Pieces.{Item, Word, Bar, number_of, items_of}
-use Rattle.hum_words.specs.Writing.{IsBare, IsQuotable, Plain, Delimited, BeginsWithWord, Begins, BeginsWith, GoesOn}
+use Rattle.hum_words.specs.Writing.{IsBare, IsQuotable, BeginsWithWord, BeginsWith, GoesOn}
 use Rattle.hum_words.specs.Writing.{IsWritten, IsWrong, Unclosed, Within, Joined, IsWrongAt}
 use Rattle.hum_words.specs.Cutting.{Cut, Between, Inside, Quoted, Closed, cut, cut_line, onto, followed_by, Tells, Gives, GivesItems}
 use Rattle.hum_words.specs.declared.cutting.Piece.{Piece}
@@ -19,12 +19,7 @@ use Rattle.hum_words.specs.declared.cutting.WordFault.TheVariants.{Quote, Memory
 cut_trimmed : (n : ℕ) (xs : List ℕ) → cut Between n (trimmed xs) ≡ cut Between n xs
 unfolding cut trimmed
 cut_trimmed n [] = refl
-cut_trimmed n (x ∷ xs) = go (cut_trimmed n xs) (is_blank x) refl
-  where
-    go : cut Between n (trimmed xs) ≡ cut Between n xs → (v : Bool) → is_blank x ≡ v
-        → cut Between n (if v then trimmed xs else x ∷ xs) ≡ cut Between n (x ∷ xs)
-    go before true e = rw e before
-    go before false e = refl
+cut_trimmed n (x ∷ xs) = grind (arith, nat_tests, cut_trimmed n xs)
 
 -- the three tests of a byte
 record Tests (b : ℕ) : Type 0 where
@@ -33,14 +28,7 @@ record Tests (b : ℕ) : Type 0 where
   quote : is_quote b ≡ false
 
 tests : (b : ℕ) → is_bare b ≡ true → Tests b
-tests b h = go (is_blank b) (is_bar b) (is_quote b) refl refl refl h
-  where
-    go : (u v w : Bool) → is_blank b ≡ u → is_bar b ≡ v → is_quote b ≡ w → not (u || v || w) ≡ true
-        → Tests b
-    go false false false e f g h = record { blank = e; bar = f; quote = g }
-    go false false true e f g h = absurd cc
-    go false true w e f g h = absurd cc
-    go true v w e f g h = absurd cc
+tests = grind (arith, nat_tests)
 
 no_quote : (b : ℕ) → is_quotable b ≡ true → is_quote b ≡ false
 no_quote b h = grind arith
@@ -50,14 +38,7 @@ no_quote b h = grind arith
 word_ends : (word rest : List ℕ) (n : ℕ) → begins_apart rest ≡ true
     → cut (Inside word) n rest ≡ onto (Word n word) (cut Between n rest)
 unfolding cut
-word_ends word [] n h = refl
-word_ends word (b ∷ bs) n h = go (is_blank b) (is_bar b) refl refl h
-  where
-    go : (u v : Bool) → is_blank b ≡ u → is_bar b ≡ v → (u || v) ≡ true
-        → cut (Inside word) n (b ∷ bs) ≡ onto (Word n word) (cut Between n (b ∷ bs))
-    go true v e f h = rw e refl
-    go false true e f h = rw (e, f) refl
-    go false false e f h = absurd cc
+word_ends = grind (arith, nat_tests)
 
 one_more : (word : List ℕ) (b : ℕ) (bs : List ℕ) (n : ℕ) → is_bare b ≡ true
     → cut (Inside word) n (b ∷ bs) ≡ cut (Inside (word ++ b ∷ [])) n bs
@@ -116,26 +97,12 @@ quoted_open (x ∷ xs) word n h =
 closed_ends : (word rest : List ℕ) (n : ℕ) → begins_apart rest ≡ true
     → cut (Closed word) n rest ≡ onto (Word n word) (cut Between n rest)
 unfolding cut
-closed_ends word [] n h = refl
-closed_ends word (b ∷ bs) n h = go (is_blank b) (is_bar b) refl refl h
-  where
-    go : (u v : Bool) → is_blank b ≡ u → is_bar b ≡ v → (u || v) ≡ true
-        → cut (Closed word) n (b ∷ bs) ≡ onto (Word n word) (cut Between n (b ∷ bs))
-    go true v e f h = rw e refl
-    go false true e f h = rw (e, f) refl
-    go false false e f h = absurd cc
+closed_ends = grind (arith, nat_tests)
 
 closed_joined : (word rest : List ℕ) (n : ℕ) → begins_apart rest ≡ false
     → cut (Closed word) n rest ≡ Err n
 unfolding cut
-closed_joined word [] n h = absurd cc
-closed_joined word (b ∷ bs) n h = go (is_blank b) (is_bar b) refl refl h
-  where
-    go : (u v : Bool) → is_blank b ≡ u → is_bar b ≡ v → (u || v) ≡ false
-        → cut (Closed word) n (b ∷ bs) ≡ Err n
-    go true v e f h = absurd cc
-    go false true e f h = absurd cc
-    go false false e f h = rw (e, f) refl
+closed_joined = grind (arith, nat_tests)
 
 -- At the front of a line
 
@@ -156,24 +123,16 @@ word_begins n b bs h = let t = tests b h in rw (t.blank, t.bar, t.quote) refl
 begins_plain : (n : ℕ) (word rest : List ℕ) → word ≢ [] → IsBare word → begins_apart rest ≡ true
     → cut Between n (word ++ rest) ≡ onto (Word (n + 1) word) (cut Between (n + 1) rest)
 begins_plain n [] rest some h apart = absurd (some refl)
-begins_plain n (x ∷ xs) rest some h apart =
-    let parts = and_parts _ _ h in
-    word_begins n x (xs ++ rest) parts.0 ∙ inside_word xs (x ∷ []) rest (n + 1) parts.1 apart
+begins_plain n (x ∷ xs) rest some h apart = grind (arith, nat_tests, and_parts, word_begins, inside_word)
 
 begins_quoted : (n : ℕ) (word rest : List ℕ) → IsQuotable word → begins_apart rest ≡ true
     → cut Between n ((39 ∷ (word ++ 39 ∷ [])) ++ rest)
     ≡ onto (Word (n + 1) word) (cut Between (n + 1) rest)
-begins_quoted n word rest h apart =
-    quote_begins n ((word ++ 39 ∷ []) ++ rest)
-    ∙ ap (cut (Quoted []) (n + 1)) (append_assoc word (39 ∷ []) rest)
-    ∙ quoted_word word [] rest (n + 1) h ∙ closed_ends word rest (n + 1) apart
+begins_quoted = grind (arith, nat_tests, quote_begins, append_assoc, quoted_word, closed_ends)
 
 begins_word : (n : ℕ) (word rest line : List ℕ) → BeginsWithWord word rest line
     → cut Between n line ≡ onto (Word (n + 1) word) (cut Between (n + 1) rest)
-begins_word n word rest line (Begins text (Plain some bare same) apart e) =
-    rw (e, same) (begins_plain n word rest some bare apart)
-begins_word n word rest line (Begins text (Delimited quotable same) apart e) =
-    rw (e, same) (begins_quoted n word rest quotable apart)
+begins_word = grind (arith, nat_tests, begins_plain, begins_quoted)
 
 begins : (n : ℕ) (item : Item) (rest line : List ℕ) → BeginsWith n item rest line
     → cut Between n line ≡ onto item (cut Between (number_of item) rest)
@@ -181,34 +140,27 @@ begins n (Bar k) rest line h = rw (h.0, h.1) (bar_begins n rest)
 begins n (Word k word) rest line h = rw h.0 (begins_word n word rest line h.1)
 
 wrong : (n : ℕ) (line : List ℕ) → IsWrong line → cut Between n line ≡ Err (n + 1)
-wrong n line (Unclosed text quotable e) =
-    rw e (quote_begins n text ∙ quoted_open text [] (n + 1) quotable)
+wrong n line (Unclosed text quotable e) = grind (arith, nat_tests, quote_begins, quoted_open)
 wrong n line (Within [] rest some bare e) = absurd (some refl)
 wrong n line (Within (x ∷ xs) rest some bare e) =
-    let parts = and_parts _ _ bare in
-    rw e (word_begins n x (xs ++ 39 ∷ rest) parts.0 ∙ inside_quote xs (x ∷ []) rest (n + 1) parts.1)
+    grind (arith, nat_tests, and_parts, word_begins, inside_quote)
 wrong n line (Joined word rest quotable joined e) =
-    rw e (quote_begins n (word ++ 39 ∷ rest) ∙ quoted_word word [] rest (n + 1) quotable
-    ∙ closed_joined word rest (n + 1) joined)
+    grind (arith, nat_tests, quote_begins, quoted_word, closed_joined)
 
 -- Piece by piece
 
 followed_by_none : (r : Cut) → followed_by [] r ≡ r
-followed_by_none (Ok items) = refl
-followed_by_none (Err k) = refl
+followed_by_none = grind (arith, nat_tests)
 
 onto_followed : (item : Item) (items : List Item) (r : Cut)
     → onto item (followed_by items r) ≡ followed_by (item ∷ items) r
-onto_followed item items (Ok more) = refl
-onto_followed item items (Err k) = refl
+onto_followed = grind (arith, nat_tests)
 
 goes : (n : ℕ) (items : List Item) (m : ℕ) (rest line : List ℕ) → GoesOn n items m rest line
     → cut Between n line ≡ followed_by items (cut Between m rest)
 goes n [] m rest line h = rw (h.0, h.1) (sym (followed_by_none (cut Between n line)))
 goes n (item ∷ items) m rest line h =
-    sym (cut_trimmed n line) ∙ begins n item h.0 (trimmed line) h.1
-    ∙ ap (onto item) (goes (number_of item) items m rest h.0 h.2)
-    ∙ onto_followed item items (cut Between m rest)
+    grind (arith, nat_tests, goes (number_of item) items m rest h.0 h.2, cut_trimmed, begins, onto_followed)
 
 -- one piece more
 pub push : (n : ℕ) (items : List Item) (m : ℕ) (behind line : List ℕ) (item : Item) (rest : List ℕ)
@@ -224,15 +176,11 @@ nothing_left m rest e = sym (cut_trimmed m rest) ∙ ap (cut Between m) e
 
 -- what a line is written by is what it is cut into
 pub written : (items : List Item) (line : List ℕ) → IsWritten items line → cut_line line ≡ Ok items
-written items line h =
-    goes 0 items h.0 h.1 line h.2 ∙ ap (followed_by items) (nothing_left h.0 h.1 h.3)
-    ∙ ap Ok (append-nil items)
+written = grind (arith, nat_tests, goes, nothing_left, append-nil)
 
 pub wrong_at : (k : ℕ) (line : List ℕ) → IsWrongAt k line → cut_line line ≡ Err k
 wrong_at k line h =
-    goes 0 h.0 h.1 h.2 line h.3
-    ∙ ap (followed_by h.0) (sym (cut_trimmed h.1 h.2) ∙ wrong h.1 (trimmed h.2) h.5)
-    ∙ ap Err (sym h.4)
+    grind (arith, nat_tests, goes 0 h.0 h.1 h.2 line h.3, cut_trimmed h.1 h.2, wrong h.1 (trimmed h.2) h.5)
 
 pub exact : (r : Result (Vec Piece Global) WordFault) (line : List ℕ) → Tells r line
     → Gives r (cut_line line)
@@ -244,9 +192,6 @@ pub only : (r : Result (Vec Piece Global) WordFault) (line : List ℕ) → Tells
     → (items : List Item)
     → IsWritten items line → GivesItems r items
 only (Ok pieces) line h items w =
-    let here = written (items_of pieces.items) line h in
-    let there = written items line w in cc
-only (Err (Quote k)) line h items w =
-    let here = wrong_at k line h in
-    let there = written items line w in cc
+    grind (arith, nat_tests, written (items_of pieces.items) line h, written items line w)
+only (Err (Quote k)) line h items w = grind (arith, nat_tests, wrong_at k line h, written items line w)
 only (Err Memory) line h items w = tt

@@ -1,4 +1,5 @@
 -- Each line is written by some pieces, or has a word that is wrong.
+use Rattle.std.proofs.lemmas.Bool.Decides.{nat_tests}
 use Rattle.std.proofs.Common.{◌≡◌, ◌≢◌, ℕ, ◌+◌, ◌<◌, ◌≤◌, Bool, true, false, zero, suc, ◌⊎◌, inl, inr}
 use Rattle.std.proofs.Common.{List, [], ◌∷◌, ◌++◌, length, take, Ok, Err, refl, sym, ap, ◌∙◌, arith, append_assoc}
 use Rattle.std.proofs.lemmas.Bool.{cases_Bool, eqb-true}
@@ -53,8 +54,7 @@ closes (x ∷ xs) = go (closes xs) (is_quote x) refl
     next = omega arith
 
     go : Closes xs → (v : Bool) → is_quote x ≡ v → Closes (x ∷ xs)
-    go before false e = rw (e, next) before
-    go before true e = rw e (inr (xs, ap (λ b. b ∷ xs) (eqb-true x 39 e)))
+    go = grind (arith, nat_tests, next, eqb-true)
 
 met_quote : (n : ℕ) (xs : List ℕ) → IsMet n (39 ∷ xs)
 met_quote n xs = go (closes xs)
@@ -127,8 +127,7 @@ reads (suc fuel) n line l = go (reads fuel) (trimmed line) refl
   where
     step : ((m : ℕ) (rest : List ℕ) → length rest < fuel → IsRead m rest) → IsMet n (trimmed line)
         → IsRead n line
-    step less (Goes item rest b behind) =
-        one_read n line item rest b (less (number_of item) rest (omega (arith, shorter line)))
+    step less (Goes item rest b behind) = grind (arith, nat_tests, one_read, shorter)
     step less (Wrong h) = (Err (n + 1), ([], n, line, (refl, refl), refl, h))
 
     go : ((m : ℕ) (rest : List ℕ) → length rest < fuel → IsRead m rest) → (t : List ℕ)
@@ -143,9 +142,7 @@ pub cut_as_written : (line : List ℕ) → IsCutAsWritten line
 cut_as_written line items = (λ w. written items line w, λ e. go (read line).0 (read line).1 e)
   where
     go : (r : Cut) → Reads 0 line r → cut_line line ≡ Ok items → IsWritten items line
-    go (Ok more) h e =
-        let here : cut_line line ≡ Ok more = written more line h in
-        let same : more ≡ items = cc in rw (← same) h
+    go (Ok more) h e = grind (arith, nat_tests, written more line h)
     go (Err k) h e = let here : cut_line line ≡ Err k = wrong_at k line h in absurd cc
 
 pub refused_as_wrong : (line : List ℕ) → IsRefusedAsWrong line

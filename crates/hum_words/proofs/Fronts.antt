@@ -1,6 +1,6 @@
 -- Fronts of a line: its blanks, the bytes of a word, and where they end.
 use Rattle.std.proofs.Common.{◌≡◌, ◌≢◌, ℕ, ◌+◌, ◌<◌, Bool, true, false, ◌||◌, cond, zero, suc}
-use Rattle.std.proofs.Common.{List, [], ◌∷◌, length, take, drop, get_or, refl, ap, arith, add-one}
+use Rattle.std.proofs.Common.{List, [], ◌∷◌, length, take, drop, get_or, refl, arith, add-one}
 use Rattle.std.proofs.lemmas.Bool.Decides.{nat_tests}
 use Rattle.std.proofs.lemmas.List.Sums.{prefix_len-le-length, prefix_len_passes, prefix_len_stops}
 use Rattle.std.proofs.lemmas.Str.{IsCharBoundary-start}
@@ -16,8 +16,7 @@ behind_front p xs = drop (prefix_len p xs) xs
 
 pub one_more : (p : ℕ → Bool) (x : ℕ) (xs : List ℕ) → p x ≡ true
     → prefix_len p (x ∷ xs) ≡ suc (prefix_len p xs)
-one_more p x xs e =
-    let next : 1 + prefix_len p xs ≡ suc (prefix_len p xs) = omega arith in rw (e, next) refl
+one_more = grind (arith, nat_tests)
 
 -- blanks are skipped by their number
 pub drop_blanks : (xs : List ℕ) → behind_front is_blank xs ≡ trimmed xs
@@ -30,19 +29,13 @@ drop_blanks (x ∷ xs) = go (drop_blanks xs) (is_blank x)
 
     go : behind_front is_blank xs ≡ trimmed xs → (v : Bool)
         → drop (cond v (1 + prefix_len is_blank xs) 0) (x ∷ xs) ≡ (if v then trimmed xs else x ∷ xs)
-    go before true = rw next before
-    go before false = refl
+    go = grind (arith, nat_tests, next)
 
 -- no blank is left at the front
 pub trimmed_first : (xs : List ℕ) → begins_blank (trimmed xs) ≡ false
 unfolding trimmed
 trimmed_first [] = refl
-trimmed_first (x ∷ xs) = go (trimmed_first xs) (is_blank x) refl
-  where
-    go : begins_blank (trimmed xs) ≡ false → (v : Bool) → is_blank x ≡ v
-        → begins_blank (if v then trimmed xs else x ∷ xs) ≡ false
-    go before true e = before
-    go before false e = e
+trimmed_first (x ∷ xs) = grind (arith, nat_tests, trimmed_first xs)
 
 -- the bytes in front of the first that doesn't pass
 pub all_pass : (p : ℕ → Bool) (xs : List ℕ) → list_all p (take (prefix_len p xs) xs) ≡ true
@@ -54,8 +47,7 @@ all_pass p (x ∷ xs) = go (all_pass p xs) (p x) refl
 
     go : list_all p (take (prefix_len p xs) xs) ≡ true → (v : Bool) → p x ≡ v
         → list_all p (take (cond v (1 + prefix_len p xs) 0) (x ∷ xs)) ≡ true
-    go before true e = rw (next, e) before
-    go before false e = refl
+    go = grind (arith, nat_tests, next)
 
 -- a text may be cut behind ASCII
 pub cut_behind : (p : ℕ → Bool) → ((b : ℕ) → p b ≡ true → b < 128) → (xs : List ℕ) → IsUtf8 xs
@@ -74,10 +66,7 @@ cut_behind p ascii xs u = go (prefix_len p xs) refl
 -- a text may be cut in front of ASCII, and at its end
 pub cut_before : (p : ℕ → Bool) → ((b : ℕ) → p b ≡ false → b < 128) → (xs : List ℕ)
     → IsCharBoundary xs (prefix_len p xs)
-cut_before p ascii xs = (
-  prefix_len-le-length p xs,
-  λ l h. absurd (omega (arith, ascii _ (prefix_len_stops p xs 0 l), h)),
-)
+cut_before = grind (arith, nat_tests, prefix_len-le-length, prefix_len_stops)
 
 blank_is_ascii : (b : ℕ) → is_blank b ≡ true → b < 128
 blank_is_ascii b h = grind (arith, nat_tests)
@@ -107,18 +96,10 @@ stops_at_quote (x ∷ xs) h = go (stops_at_quote xs) (is_bare x) refl h
     next = omega arith
 
     go : Stops xs → (v : Bool) → is_bare x ≡ v → Stops (x ∷ xs)
-    go before true e = rw (e, next) before
-    go before false e = rw e (λ h. (xs, ap (λ b. b ∷ xs) (quote_is x e h)))
-
-bare_is : (b : ℕ) → is_blank b ≡ false → b ≢ 124 → b ≢ 39 → is_bare b ≡ true
-bare_is b h bar quote = grind (arith, nat_tests)
+    go = grind (arith, nat_tests, next, quote_is)
 
 -- what is no bar, no quote and no blank begins a word without quotes
 pub bare_front : (xs : List ℕ) → 0 < length xs → begins_blank xs ≡ false
     → ((rest : List ℕ) → xs ≢ 124 ∷ rest)
     → ((rest : List ℕ) → xs ≢ 39 ∷ rest) → 0 < prefix_len is_bare xs
-bare_front [] filled first bar quote = absurd (omega arith)
-bare_front (x ∷ xs) filled first bar quote =
-    let bare : is_bare x ≡ true
-    = bare_is x first (λ e. bar xs (ap (λ b. b ∷ xs) e)) (λ e. quote xs (ap (λ b. b ∷ xs) e)) in
-    rw (one_more is_bare x xs bare) (omega arith)
+bare_front = grind (arith, nat_tests)

@@ -1,8 +1,8 @@
 -- Words at the front of a line, as they are found there.
+use Rattle.std.proofs.lemmas.Bool.Decides.{nat_tests}
 use Rattle.std.proofs.Common.{◌≡◌, ◌≢◌, ℕ, ◌<◌, true, false, List, [], ◌∷◌, ◌++◌, length, take, get_or}
 use Rattle.std.proofs.Common.{refl, sym, ap, ◌∙◌, arith, append_assoc}
-use Rattle.std.proofs.lemmas.List.{take-append-drop, length-take-le}
-use Rattle.std.proofs.lemmas.List.Sums.{prefix_len-le-length}
+use Rattle.std.proofs.lemmas.List.{take-append-drop}
 use Rattle.std.specs.List.{prefix_len}
 use Rattle.hum_words.specs.Characters.{is_bare, begins_apart}
 use Rattle.hum_words.specs.Writing.{Plain, Delimited, BeginsWithWord, Begins, IsWrong, Unclosed, Within, Joined}
@@ -30,13 +30,8 @@ never_closed line none = Unclosed line (none_is 39 line none) refl
 
 -- Without quotes
 
-some_taken : (k : ℕ) (xs : List ℕ) → 0 < k → length (take k xs) ≡ k → take k xs ≢ []
-some_taken k xs l len e = absurd (omega (arith, len, ap length e))
-
 not_empty : (xs : List ℕ) → 0 < prefix_len is_bare xs → take (prefix_len is_bare xs) xs ≢ []
-not_empty xs l =
-    some_taken (prefix_len is_bare xs) xs l
-    (length-take-le _ xs (prefix_len-le-length is_bare xs))
+not_empty = grind (arith, nat_tests)
 
 pub plain_begins : (xs : List ℕ) → 0 < prefix_len is_bare xs
     → begins_apart (behind_front is_bare xs) ≡ true

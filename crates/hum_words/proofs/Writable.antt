@@ -1,11 +1,12 @@
 -- Words that can be written in a line.
+use Rattle.std.proofs.lemmas.Bool.Decides.{nat_tests}
 use Rattle.std.proofs.Common.{◌≡◌, ℕ, ◌+◌, true, List, [], ◌∷◌, ◌++◌, refl, sym, ap, append_assoc, arith}
 use Rattle.std.proofs.lemmas.Bool.{and_parts}
 use Rattle.std.proofs.lemmas.List.Elements.{All-nil, All-cons, All-head, All-tail}
 use Rattle.std.specs.Prelude.{All}
 use Rattle.hum_words.specs.Characters.{is_bare, is_quotable, begins_apart, trimmed}
 use Rattle.hum_words.specs.Pieces.{words_from}
-use Rattle.hum_words.specs.Writing.{IsBare, IsQuotable, Plain, Delimited, BeginsWithWord, Begins, GoesOn}
+use Rattle.hum_words.specs.Writing.{IsBare, IsQuotable, Delimited, BeginsWithWord, Begins, GoesOn}
 use Rattle.hum_words.specs.Laws.{CanBeWritten}
 
 -- each word between quotes, with a blank before them
@@ -52,8 +53,7 @@ bare_are_quotable (x ∷ xs) h =
 
 -- what is written has no quote
 quotable : (word rest line : List ℕ) → BeginsWithWord word rest line → IsQuotable word
-quotable word rest line (Begins text (Plain some bare same) apart e) = bare_are_quotable word bare
-quotable word rest line (Begins text (Delimited all same) apart e) = all
+quotable = grind (arith, nat_tests, bare_are_quotable)
 
 all_quotable : (n : ℕ) (words : List (List ℕ)) (m : ℕ) (rest line : List ℕ)
     → GoesOn n (words_from n words) m rest line

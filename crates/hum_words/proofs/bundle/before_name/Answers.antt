@@ -1,4 +1,6 @@
-use Rattle.std.proofs.Common.{◌≡◌, ◌∙◌, ◌++◌, ap, sym, length, take, is_some, true, false, rules, append_assoc}
+use Rattle.std.proofs.lemmas.Bool.Decides.{nat_tests}
+use Rattle.std.proofs.Common.{arith}
+use Rattle.std.proofs.Common.{◌≡◌, ◌∙◌, ◌++◌, ap, sym, take, is_some, true, false, rules, append_assoc}
 use Rattle.std.proofs.lemmas.List.{append-nil, take-append-drop, nil_from_length}
 use Rattle.hum_words.specs.Bundle.{before_name, lines, name_in}
 use Rattle.hum_words.proofs.BundleCuts.{passed, met, none_left, front_on}
@@ -28,11 +30,4 @@ loop-rest-preserved c =
     }
 
 pub returns : goal.returns
-returns c =
-    let bytes = c.args.bytes.now in
-    let front = take c.loop-rest.len bytes in
-    let empty : length c.loop-rest.rest.now ≡ 0 = search rules in
-    let nothing = none_left c.loop-rest.rest.now empty in
-    let none = nil_from_length c.loop-rest.rest.now empty in
-    sym (c.loop-rest.invariant.before ∙ ap (λ more. front ++ more) (nothing ∙ sym (sym c.loop-rest.invariant.rest ∙ none))
-    ∙ take-append-drop c.loop-rest.len bytes)
+returns = grind (arith, nat_tests, none_left, nil_from_length, take-append-drop)

@@ -1,4 +1,5 @@
-use Rattle.std.proofs.Common.{◌≡◌, ◌∙◌, ap, sym, length, true, false, rules}
+use Rattle.std.proofs.lemmas.Bool.Decides.{nat_tests}
+use Rattle.std.proofs.Common.{◌≡◌, ◌∙◌, ap, sym, true, false, rules, arith}
 use Rattle.hum_words.specs.Bundle.{score_in, lines, name_in, names}
 use Rattle.hum_words.proofs.BundleCuts.{found, other, no_score}
 use Rattle.hum_words.proofs.bundle.score.Goals as goal
@@ -16,6 +17,4 @@ loop-rest-preserved c =
     ∙ other c.args.name.now c.cut_line.result.0.now (lines c.cut_line.result.1.now) plain
 
 pub returns : goal.returns
-returns c =
-    let empty : length c.loop-rest.rest.now ≡ 0 = search rules in
-    sym (c.loop-rest.invariant ∙ no_score c.args.name.now c.loop-rest.rest.now empty)
+returns = grind (arith, nat_tests, no_score)

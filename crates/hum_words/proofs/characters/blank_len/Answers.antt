@@ -1,12 +1,11 @@
-use Rattle.std.proofs.Common.{length, rules, sym, arith}
+use Rattle.std.proofs.lemmas.Bool.Decides.{nat_tests}
+use Rattle.std.proofs.Common.{length, sym, arith}
 use Rattle.std.proofs.lemmas.List.Sums.{prefix_len_is}
 use Rattle.hum_words.specs.Characters.{is_blank}
 use Rattle.hum_words.proofs.characters.blank_len.Goals as goal
 
 pub returns-then-not-is_blank : goal.returns-then-not-is_blank
-returns-then-not-is_blank c =
-    sym (prefix_len_is is_blank c.args.line.now c.loop-index.index 0 (omega arith)
-    c.loop-index.invariant (λ l. search rules))
+returns-then-not-is_blank = grind (arith, nat_tests, prefix_len_is)
 
 pub returns : goal.returns
 returns c =

@@ -1,12 +1,12 @@
-use Rattle.std.proofs.Common.{◌≡◌, true, false, rules}
+use Rattle.std.proofs.lemmas.Bool.Decides.{nat_tests}
+use Rattle.std.proofs.Common.{◌≡◌, true, false, rules, arith}
 use Rattle.hum_words.specs.Characters.{begins_apart}
 use Rattle.hum_words.proofs.Fronts.{cut_behind_word}
 use Rattle.hum_words.proofs.Spelled.{plain_begins, plain_breaks}
 use Rattle.hum_words.proofs.cutting.plain_word.Goals as goal
 
 pub split_at-requires : goal.split_at-requires
-split_at-requires c =
-    rw (c.bare_len.ensures, c.as_bytes.ensures.value) (cut_behind_word c.args.line.now)
+split_at-requires = grind (arith, nat_tests, cut_behind_word)
 
 pub returns-then-is_apart-clause-found : goal.returns-then-is_apart-clause-found
 returns-then-is_apart-clause-found c =

@@ -1,13 +1,13 @@
+use Rattle.std.proofs.lemmas.Bool.Decides.{nat_tests}
 use Rattle.hum_words.proofs.Texts.{too_long, a_text, no_utf8}
-use Rattle.std.proofs.Common.{ap, ◌+◌}
+use Rattle.std.proofs.Common.{ap, ◌+◌, arith}
 use Rattle.hum_words.proofs.text.plan_text.Goals as goal
 
 pub returns-then-bytes-gt-LONGEST_PLAN-clause-exact : goal.returns-then-bytes-gt-LONGEST_PLAN-clause-exact
 returns-then-bytes-gt-LONGEST_PLAN-clause-exact c = too_long c.args.bytes.now c.if-bytes-gt-LONGEST_PLAN.true
 
 pub returns-in-Ok-clause-exact : goal.returns-in-Ok-clause-exact
-returns-in-Ok-clause-exact c =
-    a_text c.args.bytes.now c.if-bytes-gt-LONGEST_PLAN.false c.in-Ok.ensures.cases.1
+returns-in-Ok-clause-exact = grind (arith, nat_tests, a_text)
 
 pub returns-in-Err-clause-exact : goal.returns-in-Err-clause-exact
 returns-in-Err-clause-exact c =

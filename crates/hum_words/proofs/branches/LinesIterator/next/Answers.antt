@@ -1,4 +1,5 @@
-use Rattle.std.proofs.Common.{◌≡◌, ◌∙◌, sym, ap, length, rules, arith}
+use Rattle.std.proofs.lemmas.Bool.Decides.{nat_tests}
+use Rattle.std.proofs.Common.{◌∙◌, sym, ap, length, rules, arith}
 use Rattle.hum_words.proofs.Divided.{passed, met, no_branches}
 use Rattle.hum_words.proofs.branches.LinesIterator.next.Goals as goal
 
@@ -28,6 +29,4 @@ loop-line-preserved c =
     ∙ c.loop-line.invariant
 
 pub returns-clause-steps : goal.returns-clause-steps
-returns-clause-steps c =
-    let empty : length c.loop-line.self.rest.now ≡ 0 = search rules in
-    (sym c.loop-line.invariant ∙ no_branches _ _ empty, no_branches _ _ empty)
+returns-clause-steps = grind (arith, nat_tests, no_branches)
