@@ -6,8 +6,8 @@ use Rattle.std.proofs.lemmas.Bool.{or_parts}
 use Rattle.std.proofs.lemmas.Bool.Decides.{nat_tests}
 use lib.Chars.{codes}
 use Rattle.hum_score.specs.declared.records.Kind.TheVariants.{Global, Interpretation as AnyInterpretation}
-use Rattle.hum_score.specs.declared.records.SpinedKind.TheVariants.{Local, Interpretation, Values}
-use Rattle.hum_score.specs.Row.{Row, Comment, Spined, kind_of, tokens_of, text_of}
+use Rattle.hum_score.specs.declared.records.SpinedKind.TheVariants.{Interpretation}
+use Rattle.hum_score.specs.Row.{Row, Spined, kind_of, tokens_of, text_of}
 use Rattle.hum_score.specs.Spelling.{IsToken, IsTokenOf}
 use Rattle.hum_record.specs.Building.{spelled}
 use Rattle.hum_cells.specs.Rewriting.{Heading, Renamed, Followed, Rewriting, is_kern, headed, with_heading, is_long, if_fit, rewrite, IsHeading}
@@ -17,10 +17,7 @@ comment_no_sign e = cc
 
 -- each token of an interpretation is one
 pub token_of_sign : (row : Row) (token : List ℕ) → kind_of row ≡ AnyInterpretation → IsTokenOf row token → IsToken Interpretation token
-token_of_sign (Comment text) token k h = absurd h
-token_of_sign (Spined Local tokens) token k h = absurd cc
-token_of_sign (Spined Values tokens) token k h = absurd cc
-token_of_sign (Spined Interpretation tokens) token k h = h
+token_of_sign = grind (arith, nat_tests)
 
 star : IsToken Interpretation (codes "*")
 star = record { filled = λ e. cc; one_token = refl; one_line = refl; no_line_end = refl; of_kind = refl; no_comment = refl }
@@ -54,7 +51,4 @@ same (Followed tandem) tokens none within = rw (none, short tokens within) refl
 
 pub sign_same : (rewriting : Rewriting) (past : List Row) (row : Row) → kind_of row ≡ AnyInterpretation → list_any is_kern (tokens_of row) ≡ false
     → length (text_of row) ≤ 1048576 → rewrite rewriting past row ≡ Ok (row ∷ [])
-sign_same rewriting past (Comment text) k none within = absurd (comment_no_sign k)
-sign_same rewriting past (Spined Local tokens) k none within = absurd cc
-sign_same rewriting past (Spined Values tokens) k none within = absurd cc
-sign_same rewriting past (Spined Interpretation tokens) k none within = same rewriting.heading tokens none within
+sign_same = grind (arith, nat_tests, comment_no_sign, same)

@@ -105,9 +105,7 @@ fit_only = grind (arith, nat_tests)
 -- as many tokens as before
 beside_size : (first : Result (List ℕ) Rule) (rest : Result (List (List ℕ)) Rule) (n : ℕ) (out : List (List ℕ))
     → ((ts : List (List ℕ)) → rest ≡ Ok ts → length ts ≡ n) → beside first rest ≡ Ok out → length out ≡ suc n
-beside_size (Ok t) (Ok ts) n out h e = let is : t ∷ ts ≡ out = cc in rw (← is) (ap suc (h ts refl))
-beside_size (Ok t) (Err rule) n out h e = cc
-beside_size (Err rule) rest n out h e = cc
+beside_size = grind (arith, nat_tests)
 
 told_size : (becomes : List (List ℕ) → List ℕ → Result (List ℕ) Rule) (kerns : List Bool) (columns : List (List (List ℕ))) (tokens out : List (List ℕ))
     → all_rewritten becomes kerns columns tokens ≡ Ok out → length out ≡ length tokens
@@ -118,8 +116,7 @@ told_size becomes kerns columns tokens out e = grind (arith, nat_tests)
 data_next : (heading : Heading) (path : Path) (tokens : List (List ℕ)) (told : Result (List (List ℕ)) Rule) (rows : List Row) → IsHeading heading
     → find (breaks_as_text path tokens) in_order ≡ None → ((out : List (List ℕ)) → told ≡ Ok out → length out ≡ length tokens)
     → data_record told ≡ Ok rows → Reach (led heading path) rows (led heading path)
-data_next heading path tokens (Ok out) rows lawful h size e =
-    rw (← fit_only (Spined Values out ∷ []) rows e) ((text_led heading path tokens out lawful h (size out refl), tt), refl)
+data_next heading path tokens (Ok out) rows lawful h size e = grind (arith, nat_tests, fit_only, text_led)
 data_next heading path tokens (Err rule) rows lawful h size e = cc
 
 rewrite_next : (rewriting : Rewriting) (past : List Row) (row : Row) (given : Path) (rows : List Row) → IsHeading rewriting.heading → IsOpen (row ∷ past)
@@ -127,8 +124,7 @@ rewrite_next : (rewriting : Rewriting) (past : List Row) (row : Row) (given : Pa
     → Reach given rows (led rewriting.heading (path_after (row ∷ past)))
 rewrite_next rewriting past (Comment text) given rows lawful sound leads e = grind (arith, nat_tests)
 rewrite_next rewriting past (Spined Local tokens) given rows lawful sound leads e =
-    let one : Spined Local tokens ∷ [] ≡ rows = cc in
-    rw (← one, leads) ((text_led rewriting.heading (path_after past) tokens tokens lawful sound.1 refl, tt), refl)
+    grind (arith, nat_tests, text_led)
 rewrite_next rewriting past (Spined Interpretation tokens) given rows lawful sound leads e =
     rw (← fit_only (with_heading rewriting.heading tokens) rows e, leads)
     (heading_next rewriting.heading (path_after past) tokens lawful sound.1)

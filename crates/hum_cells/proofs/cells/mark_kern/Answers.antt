@@ -1,3 +1,4 @@
+use Rattle.std.proofs.lemmas.Bool.Decides.{nat_tests}
 use Rattle.std.proofs.Common.{[], sym, arith, take_all}
 use Rattle.std.proofs.lemmas.List.{map_more}
 use Rattle.hum_score.specs.Spines.{exclusives}
@@ -12,7 +13,4 @@ loop-j-preserved c =
     rw (c.in_ok-push.ensures.items, c.is_kern.ensures, c.exclusive.ensures, c.loop-j.invariant) (sym more)
 
 pub returns : goal.returns
-returns c =
-    let width = c.width-j-end.ensures.width in
-    let past = c.loop-j-test.false in
-    rw (take_all c.loop-j.j (exclusives c.args.paths.now.path) (omega (arith, width, past))) at c.loop-j.invariant
+returns = grind (arith, nat_tests, take_all)

@@ -1,3 +1,4 @@
+use Rattle.std.proofs.lemmas.Bool.Decides.{nat_tests}
 use Rattle.std.proofs.Common.{subst, take, arith}
 use Rattle.hum_score.specs.Row.{tokens_of}
 use Rattle.hum_path.specs.Chains.{columns, longer}
@@ -34,8 +35,4 @@ loop-j-preserved g c = λ rewriting past h sound.
     (c.in_ok-hear.ensures rewriting _ (c.loop-j.invariant rewriting past h sound))
 
 pub returns : goal.returns
-returns g c = λ rewriting past h sound.
-    let width = c.width-j-end.ensures in
-    let at = c.loop-j-test.false in
-    subst (λ (x : Columns). g.T.TokenRewriter.follows c.loop-j.teller rewriting x)
-    (all_longer past c.args.row.now c.loop-j.j c.requires.kind (omega (arith, width, at))) (c.loop-j.invariant rewriting past h sound)
+returns = grind (arith, nat_tests, all_longer)
