@@ -1,21 +1,16 @@
 -- Fractions as they are kept, compared by value.
-use Rattle.std.proofs.Common.{◌≡◌, ℕ, zero, suc, ◌*◌, ◌<◌, ◌&&◌, Bool, true, false, sym, ap, ◌∙◌, arith, rules, refl, subst, nat_eq, inl, inr}
-use Rattle.std.specs.Prelude.{◌↔◌, IsTrue, ◌⊎◌}
+use Rattle.std.proofs.Common.{◌≡◌, ℕ, ◌*◌, ◌<◌, ◌&&◌, Bool, true, false, sym, ap, ◌∙◌, arith, rules, refl, subst, nat_eq}
+use Rattle.std.specs.Prelude.{◌↔◌, IsTrue}
 use Rattle.std.specs.declared.cmp.Ordering.{Ordering}
-use Rattle.std.specs.declared.cmp.Ordering.TheVariants.{Less, Equal, Greater}
 use Rattle.std.specs.Ordering.{is_eq, is_ge, nat_cmp, MatchOrdering}
-use Rattle.std.specs.Cmp.{both_ways}
-use Rattle.std.proofs.lemmas.Bool.{and_parts, false≢true}
 use borrow.Author.Tests.{eq-eqb}
 use Rattle.std.proofs.lemmas.Bool.Decides.{nat_tests}
 use Rattle.std.proofs.lemmas.Cmp.{ranked}
 use Rattle.hum_frac.specs.Ratio.{Ratio, IsSame, IsBefore, is_before, IsKept, at_least_one, compare}
-use Rattle.hum_frac.specs.Order.{same_value}
-use Rattle.hum_frac.proofs.Ratios.{lowest_of_one, same_parts}
+use Rattle.hum_frac.proofs.Ratios.{lowest_of_one}
 
 itself : (n : ℕ) → 0 < n → at_least_one n ≡ n
-itself zero h = absurd (omega (arith, h))
-itself (suc n) h = refl
+itself = grind (arith, nat_tests)
 
 -- Of bottoms above 0 the order is that of the products.
 pub compare_by : (a b : Ratio) → 0 < a.bottom → 0 < b.bottom → compare a b ≡ nat_cmp (a.top * b.bottom) (b.top * a.bottom)
@@ -25,9 +20,7 @@ pub compared : (a b : Ratio) → 0 < a.bottom → 0 < b.bottom → MatchOrdering
 compared a b p q = ranked (a.top * b.bottom) (b.top * a.bottom) (compare a b) (compare_by a b p q)
 
 tied : (P Q R : Type 0) (o : Ordering) → MatchOrdering o P Q R → is_eq o ≡ true → Q
-tied P Q R Less h e = absurd (false≢true e)
-tied P Q R Equal h e = h
-tied P Q R Greater h e = absurd (false≢true e)
+tied = grind (arith, nat_tests)
 
 -- the same numbers
 abbrev pub alike : Ratio → Ratio → Bool
@@ -38,17 +31,13 @@ module _ (a b : Ratio) (p : IsKept a.top a.bottom) (q : IsKept b.top b.bottom) w
   same_numbers h = lowest_of_one a b p.positive q.positive p.lowest q.lowest h
 
   alike_is : alike a b ≡ true → a ≡ b
-  alike_is e =
-      let both = and_parts (nat_eq a.top b.top) (nat_eq a.bottom b.bottom) e in
-      same_parts (search rules) (search rules)
+  alike_is = grind (arith, nat_tests)
 
   is_alike : a ≡ b → alike a b ≡ true
   is_alike e = ap (alike a) (sym e) ∙ search rules
 
   pub alike_compared : alike a b ≡ is_eq (compare a b)
-  alike_compared = both_ways (alike a b) (is_eq (compare a b))
-      (λ e. ap (λ (x : Ratio). is_eq (compare a x)) (sym (alike_is e)) ∙ same_value.refl a)
-      (λ e. is_alike (same_numbers (tied (IsBefore a b) (IsSame a b) (IsBefore b a) (compare a b) (compared a b p.positive q.positive) e)))
+  alike_compared = grind (arith, nat_tests, alike_is, is_alike, same_numbers, tied, compared)
 
   pub alike_same : IsTrue (alike a b) ↔ IsSame a b
   alike_same = ((λ e. ap (λ (x : Ratio). x.top * b.bottom) (alike_is e) ∙ ap (λ (x : Ratio). b.top * x.bottom) (sym (alike_is e))), λ h. is_alike (same_numbers h))
@@ -57,9 +46,7 @@ module _ (a b : Ratio) (p : IsKept a.top a.bottom) (q : IsKept b.top b.bottom) w
   bottoms_decide e = ap (λ t. t && nat_eq a.bottom b.bottom) (eq-eqb a.top b.top e)
 
   tops_decide : (a.top ≡ b.top → ⊥) → alike a b ≡ nat_eq a.top b.top
-  tops_decide apart =
-      let no : nat_eq a.top b.top ≡ false = search rules in
-      ap (λ t. t && nat_eq a.bottom b.bottom) no ∙ sym no
+  tops_decide = grind (arith, nat_tests)
 
   pub by_bottoms : a.top ≡ b.top → nat_eq a.bottom b.bottom ≡ is_eq (compare a b)
   by_bottoms e = sym (bottoms_decide e) ∙ alike_compared
@@ -73,12 +60,6 @@ module _ (a b : Ratio) (p : IsKept a.top a.bottom) (q : IsKept b.top b.bottom) w
   pub same_tops : (a.top ≡ b.top → ⊥) → IsTrue (nat_eq a.top b.top) ↔ IsSame a b
   same_tops e = subst (λ t. IsTrue t ↔ IsSame a b) (tops_decide e) alike_same
 
-at_or_after : (P Q R : Type 0) (o : Ordering) → MatchOrdering o P Q R → is_ge o ≡ true → Q ⊎ R
-at_or_after P Q R Less h e = absurd (false≢true e)
-at_or_after P Q R Equal h e = inl h
-at_or_after P Q R Greater h e = inr h
-
 -- What isn't less by the order isn't before.
 pub not_before : (a b : Ratio) → 0 < a.bottom → 0 < b.bottom → is_ge (compare a b) ≡ true → is_before a b ≡ false
-not_before a b p q e = elim (at_or_after (IsBefore a b) (IsSame a b) (IsBefore b a) (compare a b) (compared a b p q) e)
-    [ inl h ↦ grind (arith, nat_tests, h) | inr h ↦ grind (arith, nat_tests, h) ]
+not_before = grind (arith, nat_tests)

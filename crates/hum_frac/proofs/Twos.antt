@@ -5,10 +5,10 @@ use Rattle.std.specs.Int.{◌∣◌}
 use Rattle.std.specs.Int.Count.{count_trailing_zeros, under, trailing_of_zero}
 use Rattle.std.specs.Int.Bits.{bit_and}
 use Rattle.std.proofs.lemmas.Nat.{trailing_le}
-use Rattle.std.proofs.lemmas.Bool.Decides.{leb_tells}
+use Rattle.std.proofs.lemmas.Bool.Decides.{leb_tells, nat_tests}
 use Rattle.std.proofs.lemmas.Nat.Gcd.{same_from_IsGcd}
 use Rattle.std.proofs.lemmas.Nat.{shl-shr, pow-add, pow_pos, and_mask}
-use native.Mathlib.Nat.{mul_assoc, add-mul, one-mul, zero-mul, div-mul_cancel, dvd-mul_left, mul-div-mul_right}
+use native.Mathlib.Nat.{mul_assoc, add-mul, one-mul, div-mul_cancel, dvd-mul_left, mul-div-mul_right}
 use Rattle.std.proofs.Math.Nat.{dvd-mul_left_of_dvd, mul_left_comm, div-div-eq-div-mul, pow-succ'}
 use Rattle.hum_frac.specs.Gcd.{gcd}
 use Rattle.hum_frac.specs.Ratio.{reduced}
@@ -16,21 +16,11 @@ use Rattle.hum_frac.proofs.Gcds.{gcd_is, gcd-scaled, gcd-step, gcd-zero}
 use Rattle.hum_frac.proofs.Ratios.{same_parts}
 
 pub halves : (n : ℕ) → (n ≡ 2 * (n / 2)) ⊎ (n ≡ 2 * (n / 2) + 1)
-halves n = go (n % 2) refl
-  where
-    go : (r : ℕ) → n % 2 ≡ r → (n ≡ 2 * (n / 2)) ⊎ (n ≡ 2 * (n / 2) + 1)
-    go zero e = inl (omega (arith, e))
-    go (suc zero) e = inr (omega (arith, e))
-    go (suc (suc r)) e = absurd (omega (arith, e))
+halves = grind (arith, nat_tests)
 
 -- a factor of an odd number is odd
 odd_factor : (q d x : ℕ) → q * d ≡ x → x % 2 ≡ 1 → d % 2 ≡ 1
-odd_factor q d x e h = elim (halves d) [
-  | inl even ↦
-      let twice : q * d ≡ 2 * (q * (d / 2)) = ap (λ (n : ℕ). q * n) even ∙ mul_left_comm q 2 (d / 2) in
-      absurd (omega (arith, e, h, twice))
-  | inr odd ↦ omega (arith, odd)
-]
+odd_factor = grind (arith, nat_tests, halves, mul_left_comm)
 
 -- an odd number that divides twice a number divides it
 odd_divides : (r d m : ℕ) → r * d ≡ 2 * m → d % 2 ≡ 1 → d ∣ m
@@ -59,9 +49,7 @@ odd_half x m odd =
 -- a power of 2 has no part in what divides an odd number
 pub odd_power : (k x m : ℕ) → x % 2 ≡ 1 → gcd x (m * 2 ^ k) ≡ gcd x m
 odd_power zero x m odd = ap (gcd x) (omega arith)
-odd_power (suc k) x m odd =
-    let twice : m * 2 ^ suc k ≡ 2 * (m * 2 ^ k) = ap (λ (p : ℕ). m * p) (pow-succ' 2 k) ∙ mul_left_comm m 2 (2 ^ k) in
-    ap (gcd x) twice ∙ odd_half x (m * 2 ^ k) odd ∙ odd_power k x m odd
+odd_power (suc k) x m odd = grind (arith, nat_tests, odd_power k x m odd, pow-succ', mul_left_comm, odd_half)
 
 -- ---- the zeros at the end of a number
 
@@ -73,11 +61,7 @@ none_off : (n : ℕ) → Ends n 0
 none_off n = omega arith
 
 one_more_off : (n t : ℕ) → n % 2 ≡ 0 → Ends (n / 2) t → Ends n (suc t)
-one_more_off n t even h =
-    let parts : n / (2 * 2 ^ t) ≡ n / 2 / 2 ^ t = sym (div-div-eq-div-mul n 2 (2 ^ t)) in
-    let twice : n / 2 / 2 ^ t * (2 * 2 ^ t) ≡ 2 * (n / 2 / 2 ^ t * 2 ^ t) = mul_left_comm (n / 2 / 2 ^ t) 2 (2 ^ t) in
-    let whole : 2 * (n / 2 / 2 ^ t * 2 ^ t) ≡ n = omega (arith, even, h) in
-    subst (λ (p : ℕ). n / p * p ≡ n) (sym (pow-succ' 2 t)) (ap (λ (q : ℕ). q * (2 * 2 ^ t)) parts ∙ twice ∙ whole)
+one_more_off = grind (arith, nat_tests, div-div-eq-div-mul, mul_left_comm, pow-succ')
 
 pub zeros_off : (k n : ℕ) → Ends n (count_trailing_zeros k n)
 unfolding count_trailing_zeros
@@ -85,8 +69,7 @@ zeros_off zero n = none_off n
 zeros_off (suc k) n = go (n % 2) refl (zeros_off k (n / 2))
   where
     go : (r : ℕ) → n % 2 ≡ r → Ends (n / 2) (count_trailing_zeros k (n / 2)) → Ends n (under r (count_trailing_zeros k (n / 2)))
-    go zero e below = one_more_off n (count_trailing_zeros k (n / 2)) e below
-    go (suc r) e below = none_off n
+    go = grind (arith, nat_tests, one_more_off, none_off)
 
 -- and what is left is odd
 abbrev IsOdd : ℕ → ℕ → Type 0
@@ -99,14 +82,7 @@ odd_left (suc k) n some few = go (n % 2) refl (odd_left k (n / 2))
   where
     go : (r : ℕ) → n % 2 ≡ r → (0 < n / 2 → n / 2 < 2 ^ k → IsOdd (n / 2) (count_trailing_zeros k (n / 2)))
         → IsOdd n (under r (count_trailing_zeros k (n / 2)))
-    go zero e below =
-        let t = count_trailing_zeros k (n / 2) in
-        let parts : n / (2 * 2 ^ t) ≡ n / 2 / 2 ^ t = sym (div-div-eq-div-mul n 2 (2 ^ t)) in
-        let less : n < 2 * 2 ^ k = subst (λ (p : ℕ). n < p) (pow-succ' 2 k) few in
-        subst (λ (p : ℕ). (n / p) % 2 ≡ 1) (sym (pow-succ' 2 t))
-        (ap (λ (q : ℕ). q % 2) parts ∙ below (omega (arith, e, some)) (omega (arith, less)))
-    go (suc zero) e below = omega (arith, e)
-    go (suc (suc r)) e below = absurd (omega (arith, e))
+    go = grind (arith, nat_tests, div-div-eq-div-mul, pow-succ')
 
 pub odd_no_zeros : (k n : ℕ) → n % 2 ≡ 1 → count_trailing_zeros (suc k) n ≡ 0
 unfolding count_trailing_zeros
@@ -116,8 +92,7 @@ fewer_off : (n t s : ℕ) → s ≤ t → Ends n t → Ends n s
 fewer_off n t s le h =
     let e : (t - s) + s ≡ t = omega (arith, le) in
     let q = n / 2 ^ t in
-    let whole : q * 2 ^ (t - s) * 2 ^ s ≡ n =
-    mul_assoc q (2 ^ (t - s)) (2 ^ s) ∙ ap (λ (p : ℕ). q * p) (sym (pow-add 2 (t - s) s)) ∙ ap (λ (x : ℕ). q * 2 ^ x) e ∙ h in
+    let whole : q * 2 ^ (t - s) * 2 ^ s ≡ n = grind (arith, nat_tests, pow-add) in
     subst (λ (x : ℕ). Ends x s) whole (ap (λ (p : ℕ). p * 2 ^ s) (shl-shr (q * 2 ^ (t - s)) s))
 
 -- ---- what is left of two numbers
@@ -129,19 +104,13 @@ pub bottom_off : (t b s : ℕ) → s ≡ min (count_trailing_zeros 64 t) (count_
 bottom_off t b s e = fewer_off b (count_trailing_zeros 64 b) s (omega (arith, e)) (zeros_off 64 b)
 
 pub bottom_some : (t b s : ℕ) → s ≡ min (count_trailing_zeros 64 t) (count_trailing_zeros 64 b) → 0 < b → 0 < b / 2 ^ s
-bottom_some t b s e some = go (b / 2 ^ s) (bottom_off t b s e)
-  where
-    go : (q : ℕ) → q * 2 ^ s ≡ b → 0 < q
-    go zero h = let none = zero-mul (2 ^ s) in absurd (omega (arith, h, none, some))
-    go (suc q) h = omega arith
+bottom_some t b s e some = grind (arith, nat_tests, bottom_off t b s e)
 
 -- not both are even
 pub one_odd : (t b s : ℕ) → s ≡ min (count_trailing_zeros 64 t) (count_trailing_zeros 64 b) → 0 < b → t < 2 ^ 64 → b < 2 ^ 64
     → (t / 2 ^ s) % 2 ≡ 0 → (b / 2 ^ s) % 2 ≡ 1
 one_odd t b s e some p q even = elim (either (count_trailing_zeros 64 b) (count_trailing_zeros 64 t)) [
-  | inl le ↦
-      let is : count_trailing_zeros 64 b ≡ s = omega (arith, e, le) in
-      subst (IsOdd b) is (odd_left 64 b some q)
+  | inl le ↦ grind (arith, nat_tests, odd_left)
   | inr less ↦
       let is : count_trailing_zeros 64 t ≡ s = omega (arith, e, less) in
       let within = trailing_le 64 b in
@@ -170,9 +139,7 @@ reduced_off t b s e =
 -- the zeros at the end of the second number count for nothing
 pub gcd_odd_part : (x b : ℕ) → (x % 2 ≡ 0 → b % 2 ≡ 1) → gcd x (b / 2 ^ count_trailing_zeros 64 b) ≡ gcd x b
 gcd_odd_part x b odd = elim (halves x) [
-  | inl even ↦
-      let none = odd_no_zeros 63 b (odd (omega (arith, even))) in
-      ap (λ (t : ℕ). gcd x (b / 2 ^ t)) none ∙ ap (gcd x) (omega arith)
+  | inl even ↦ grind (arith, nat_tests, odd_no_zeros)
   | inr more ↦
       let t = count_trailing_zeros 64 b in
       sym (odd_power t x (b / 2 ^ t) (omega (arith, more))) ∙ ap (gcd x) (zeros_off 64 b)
@@ -183,13 +150,10 @@ gcd_one x = gcd-step x 1 (omega arith) ∙ ap (gcd 1) (omega arith) ∙ gcd-zero
 
 -- a number that is 1 without the zeros at its end is a power of 2
 pub one_bit : (b : ℕ) → b / 2 ^ count_trailing_zeros 64 b ≡ 1 → 2 ^ count_trailing_zeros 64 b ≡ b
-one_bit b one =
-    let t = count_trailing_zeros 64 b in
-    sym (one-mul (2 ^ t)) ∙ ap (λ (q : ℕ). q * 2 ^ t) (sym one) ∙ zeros_off 64 b
+one_bit b one = grind (arith, nat_tests, zeros_off 64 b)
 
 pub divided_by_bit : (a b : ℕ) → b / 2 ^ count_trailing_zeros 64 b ≡ 1 → a / 2 ^ count_trailing_zeros 64 b ≡ a / b
 divided_by_bit a b one = ap (λ (d : ℕ). a / d) (one_bit b one)
 
 pub masked_by_bit : (a b : ℕ) → b / 2 ^ count_trailing_zeros 64 b ≡ 1 → bit_and a (b - 1) ≡ a % b
-masked_by_bit a b one =
-    subst (λ (d : ℕ). bit_and a (d - 1) ≡ a % d) (one_bit b one) (and_mask a (count_trailing_zeros 64 b))
+masked_by_bit = grind (arith, nat_tests, one_bit, and_mask)

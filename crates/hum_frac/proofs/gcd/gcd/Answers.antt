@@ -1,4 +1,5 @@
-use Rattle.std.proofs.Common.{◌∙◌, sym, ap, arith}
+use Rattle.std.proofs.lemmas.Bool.Decides.{nat_tests}
+use Rattle.std.proofs.Common.{◌∙◌, sym, arith}
 use Rattle.hum_frac.specs.Gcd.{gcd}
 use Rattle.hum_frac.proofs.Gcds.{gcd-step, gcd-zero}
 use Rattle.hum_frac.proofs.gcd.gcd.Goals as goal
@@ -10,7 +11,4 @@ pub returns-then-y-eq0 : goal.returns-then-y-eq0
 returns-then-y-eq0 c = let zero = gcd-zero c.loop-y.x in let same = c.loop-y.invariant in cc
 
 pub returns : goal.returns
-returns c =
-    let step = gcd-step c.loop-y.x c.loop-y.y (omega arith) in
-    let remainder = ap (gcd c.loop-y.y) c.divided-remainder.ensures.remainder in
-    c.gcd_64.ensures ∙ remainder ∙ sym step ∙ c.loop-y.invariant
+returns = grind (arith, nat_tests, gcd-step)

@@ -1,3 +1,4 @@
+use Rattle.std.proofs.lemmas.Bool.Decides.{nat_tests}
 use Rattle.std.proofs.Common.{◌*◌, arith}
 use native.Mathlib.Nat.{div-le_self}
 use Rattle.hum_frac.proofs.Ratios.{are_between, small_product}
@@ -10,12 +11,10 @@ returns-clause-between c =
     rw (← c.self.view_is, ← c.other.view_is, ← c.unit.view_is) (are_between _ _ _ _ c.self.invariant.positive c.other.invariant.positive some count)
 
 pub overflow_mul-whole : goal.overflow_mul-whole
-overflow_mul-whole c =
-    let bound = small_product _ _ (rw (← c.self.view_is) at c.requires.bottom) (rw (← c.unit.view_is) at c.requires.unit_top) in omega (arith, bound)
+overflow_mul-whole = grind (arith, nat_tests)
 
 pub overflow_mul-self-inside : goal.overflow_mul-self-inside
-overflow_mul-self-inside c =
-    let bound = small_product _ _ (rw (← c.self.view_is) at c.requires.top) (rw (← c.unit.view_is) at c.requires.unit_bottom) in omega (arith, bound)
+overflow_mul-self-inside = grind (arith, nat_tests, small_product)
 
 pub overflow_mul-after : goal.overflow_mul-after
 overflow_mul-after c =
