@@ -1,5 +1,6 @@
 -- The lines that were given stand before the first fault.
-use Rattle.std.proofs.Common.{◌≡◌, ℕ, suc, ◌+◌, ◌<◌, List, [], ◌∷◌, ◌++◌, length, ap, sym, ◌∙◌, subst, arith}
+use Rattle.std.proofs.lemmas.Bool.Decides.{nat_tests}
+use Rattle.std.proofs.Common.{◌≡◌, ℕ, suc, ◌+◌, ◌<◌, List, [], ◌∷◌, ◌++◌, length, ap, ◌∙◌, subst, arith}
 use Rattle.std.proofs.Common.{Option, None, Some, append_assoc, length-append, inl, inr, ◌⊎◌}
 use Rattle.hum_text.specs.declared.Limits.{Limits}
 use Rattle.hum_text.specs.declared.TextFault.{TextFault}
@@ -11,11 +12,7 @@ use Rattle.hum_text.proofs.TextLemmas.{start-end}
 -- which fault it is
 one-of : (o : Option TextFault) (k : ℕ) (later : Option (ℕ × TextFault)) (n : ℕ) (f : TextFault) →
     or_later o k later ≡ Some (n, f) → (k ≡ n) ⊎ (later ≡ Some (n, f))
-one-of None k later n f h = inr h
-one-of (Some g) k later n f h = inl (first k n g f h)
-  where
-    first : (k n : ℕ) (g f : TextFault) → ◌≡◌ {A = Option (ℕ × TextFault)} (Some (k, g)) (Some (n, f)) → k ≡ n
-    first k n g f h = let same : ◌≡◌ {A = ℕ × TextFault} (k, g) (n, f) = cc in ap (λ (p : ℕ × TextFault). p.0) same
+one-of = grind (arith, nat_tests)
 
 -- a piece more than before
 longer : (before : List ℕ) (b : ℕ) (bs : List ℕ) → IsAtStart before → length (pieces before) < length (pieces (before ++ b ∷ bs))
@@ -30,14 +27,7 @@ longer before b bs start =
 behind : (l : Limits) (before : List ℕ) (b : ℕ) (bs rest : List ℕ) (n : ℕ) (f : TextFault) → IsAtStart before →
     fault_after l (before ++ b ∷ bs) rest ≡ Some (n, f) → length (pieces before) < n
 unfolding fault_after
-behind l before b bs [] n f start h = elim (one-of (rule_at_end (before ++ b ∷ bs))
-    (length (pieces (before ++ b ∷ bs))) None n f h) as (λ _. length (pieces before) < n) [
-      | inl here ↦ let more = longer before b bs start in omega (arith, more, here)
-      | inr later ↦ let z = later in absurd (none-some z)
-    ]
-  where
-    none-some : {A : Type 0} {x : A} → None ≡ Some x → ⊥
-    none-some e = cc
+behind l before b bs [] n f start h = grind (arith, nat_tests, one-of, longer)
 behind l before b bs (c ∷ rest) n f start h =
     let next : (before ++ b ∷ bs) ++ c ∷ [] ≡ before ++ b ∷ (bs ++ c ∷ []) = append_assoc before (b ∷ bs) (c ∷ []) in
     let F : List ℕ → Type 0 = λ zs. fault_after l zs rest ≡ Some (n, f) in
@@ -51,29 +41,12 @@ stands-before : (l : Limits) (before rest : List ℕ) (n : ℕ) (f : TextFault) 
     IsAtStart before ⊎ ((rest ≡ []) × (rule_at_end before ≡ None)) → fault_after l before rest ≡ Some (n, f) →
     length (pieces before) < n
 unfolding fault_after
-stands-before l before [] n f (inl start) h = let none = start-end before start in absurd (none-some (rw none at h))
-  where
-    none-some : {A : Type 0} {x : A} → None ≡ Some x → ⊥
-    none-some e = cc
-stands-before l before [] n f (inr over) h = absurd (none-some (rw over.1 at h))
-  where
-    none-some : {A : Type 0} {x : A} → None ≡ Some x → ⊥
-    none-some e = cc
-stands-before l before (b ∷ rest) n f (inr over) h = let e = over.0 in absurd (cons-nil e)
-  where
-    cons-nil : {b : ℕ} {rest : List ℕ} → b ∷ rest ≡ [] → ⊥
-    cons-nil e = cc
-stands-before l before (b ∷ rest) n f (inl start) h =
-    elim (one-of (rule_at l (before ++ b ∷ [])) (length (pieces (before ++ b ∷ [])))
-    (fault_after l (before ++ b ∷ []) rest) n f h) as (λ _. length (pieces before) < n) [
-      | inl here ↦ let more = longer before b [] start in omega (arith, more, here)
-      | inr later ↦ behind l before b [] rest n f start later
-    ]
+stands-before l before [] n f (inl start) h = grind (arith, nat_tests, start-end)
+stands-before l before [] n f (inr over) h = grind (arith, nat_tests)
+stands-before l before (b ∷ rest) n f (inr over) h = grind (arith, nat_tests)
+stands-before l before (b ∷ rest) n f (inl start) h = grind (arith, nat_tests, one-of, longer, behind)
 
 -- The first fault of all bytes stands in a line after those that were given.
 pub given-before : {R : Type 0} (v : Reader R) (all : List ℕ) (given : List (List ℕ)) (rest : List ℕ) (n : ℕ)
     (f : TextFault) → Holds v all given rest → fault_of v.limits all ≡ Some (n, f) → length given < n
-given-before v all given rest n f h is =
-    let st = h.stands in
-    let here = stands-before v.limits st.before (v.pending ++ rest) n f st.start (sym st.fault ∙ is) in
-    omega (arith, here, st.count, st.number)
+given-before = grind (arith, nat_tests, stands-before)

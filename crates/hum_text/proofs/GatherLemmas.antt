@@ -1,4 +1,5 @@
 -- Texts that are put by pieces, and what is held in front of a writer.
+use Rattle.std.proofs.lemmas.Bool.Decides.{nat_tests}
 use Rattle.std.proofs.Common.{◌≡◌, ◌∙◌, ℕ, zero, suc, ◌+◌, ◌-◌, ◌*◌, ◌<◌, ◌≤◌, min, List, [], ◌∷◌, ◌++◌, length, take, drop, get_or, ⊎_elim, refl, sym, ap}
 use Rattle.std.proofs.Common.{arith, length-take, length-drop, Option}
 use Rattle.std.proofs.lemmas.Bool.{cases_lt}
@@ -20,10 +21,7 @@ put-none (suc at) (x ∷ xs) = ap (λ (ys : List ℕ). x ∷ ys) (put-none at xs
 -- what stands where bytes were put
 put-at : (at : ℕ) (old bytes : List ℕ) (m : ℕ) → at ≤ m → m < at + length bytes → at + length bytes ≤ length old
     → get_or (put_chunk at old bytes) m 0 ≡ get_or bytes (m - at) 0
-put-at at old bytes m least less room =
-    let place : at + (m - at) ≡ m = omega (arith, least) in
-    ap (λ n. get_or (put_chunk at old bytes) n 0) (sym place)
-    ∙ get_or-put_chunk_at at old bytes (m - at) 0 (omega (arith, least, less)) room
+put-at = grind (arith, nat_tests, get_or, get_or-put_chunk_at)
 
 module _ (bytes old : List ℕ) (at k : ℕ) (room : at + length bytes ≤ length old) where
   -- the first n bytes have been put
@@ -31,15 +29,10 @@ module _ (bytes old : List ℕ) (at k : ℕ) (room : at + length bytes ≤ lengt
   front n = put_chunk at old (take n bytes)
 
   front-at : (n m : ℕ) → n ≤ length bytes → at ≤ m → m < at + n → get_or (front n) m 0 ≡ get_or bytes (m - at) 0
-  front-at n m some least less =
-      let size : length (take n bytes) ≡ n = simp length-take (omega (arith, some)) in
-      put-at at old (take n bytes) m least (omega (arith, size, less)) (omega (arith, size, some, room))
-      ∙ get_or-take n bytes (m - at) 0 (omega (arith, least, less))
+  front-at = grind (arith, nat_tests, length-take, put-at, get_or-take)
 
   front-above : (n m : ℕ) → n ≤ length bytes → at + n ≤ m → get_or (front n) m 0 ≡ get_or old m 0
-  front-above n m some above =
-      let size : length (take n bytes) ≡ n = simp length-take (omega (arith, some)) in
-      get_or-put_chunk_above at old (take n bytes) m 0 (omega (arith, size, above))
+  front-above = grind (arith, nat_tests, length-take, get_or-put_chunk_above)
 
   module _ (from n : ℕ) (low : from ≤ n) (high : n ≤ from + k) (within : from + k ≤ length bytes) where
     abbrev piece : List ℕ
@@ -81,8 +74,7 @@ module _ (bytes old : List ℕ) (at k : ℕ) (room : at + length bytes ≤ lengt
 
   next-put : (h : List ℕ) (from n : ℕ) → h ≡ front n → from ≤ n → n ≤ from + k → from + k ≤ length bytes
       → put_chunk (at + from) h (chunk from k bytes) ≡ front (from + k)
-  next-put h from n is low high within =
-      ap (λ (ys : List ℕ). put_chunk (at + from) ys (chunk from k bytes)) is ∙ piece-put from n low high within
+  next-put = grind (arith, nat_tests, piece-put)
 
   -- all bytes are put by four pieces
   pub four-put : (one two three four : List ℕ) (a b c : ℕ) → k ≤ length bytes → length bytes ≤ 4 * k
@@ -90,13 +82,7 @@ module _ (bytes old : List ℕ) (at k : ℕ) (room : at + length bytes ≤ lengt
       → one ≡ put_chunk (at + 0) old (chunk 0 k bytes) → two ≡ put_chunk (at + a) one (chunk a k bytes)
       → three ≡ put_chunk (at + b) two (chunk b k bytes) → four ≡ put_chunk (at + c) three (chunk c k bytes)
       → four ≡ put_chunk at old bytes
-  four-put one two three four a b c least most last second third p q r s =
-      let none : old ≡ front 0 = sym (put-none at old) in
-      let first = p ∙ next-put old 0 0 none (omega arith) (omega arith) (omega (arith, least)) in
-      let both = q ∙ next-put one a (0 + k) first (omega (arith, second)) (omega (arith, second)) (omega (arith, second, last, least)) in
-      let more = r ∙ next-put two b (a + k) both (omega (arith, second, third)) (omega (arith, second, third)) (omega (arith, third, last, least)) in
-      s ∙ next-put three c (b + k) more (omega (arith, third, last, most)) (omega (arith, third, last, most)) (omega (arith, last, least))
-      ∙ ap (put_chunk at old) (take_all (c + k) bytes (omega (arith, last, least)))
+  four-put = grind (arith, nat_tests, put-none, next-put, take_all)
 
 -- the first n of e bytes were handed on, and the others were moved to the front
 pub handed-on : (a b : Option (List ℕ)) (xs items : List ℕ) (n e : ℕ) → n ≤ e → e ≤ length xs
@@ -109,9 +95,7 @@ handed-on a b xs items n e order within appends moved =
     ∙ take-paste xs 0 (drop n xs) (e - n) (omega arith) (omega (arith, length-drop n xs, within)) in
     let all : e ≡ n + (e - n) = omega (arith, order) in
     let both : take e xs ≡ take n (take e xs) ++ take (e - n) items =
-    ap (λ k. take k xs) all ∙ take-add n (e - n) xs
-    ∙ ap (λ (ys : List ℕ). ys ++ take (e - n) (drop n xs)) (sym (take-take n e xs order))
-    ∙ ap (λ (ys : List ℕ). take n (take e xs) ++ ys) (sym rest) in
+    grind (arith, nat_tests, take-add, take-take) in
     append_known-moved a b (take n (take e xs)) (take (e - n) items) (take e xs) appends both
 
 -- bytes were put behind the first e, in a buffer that is as long as before
@@ -123,6 +107,5 @@ taken a xs ys bytes e room size fits put =
     let long : length ys ≡ length xs = ap length put ∙ length-put_chunk e xs bytes in
     let whole : take room (ys ++ drop (length ys) xs) ≡ ys = take_at ys (drop (length ys) xs) room (omega (arith, size, long)) in
     let more : take (e + length bytes) (take room (ys ++ drop (length ys) xs)) ≡ take e xs ++ bytes =
-    ap (take (e + length bytes)) (whole ∙ put)
-    ∙ take_more_put_chunk e xs bytes (e + length bytes) refl (omega (arith, size, fits)) in
+    grind (arith, nat_tests, take_more_put_chunk) in
     append_known-grown (append_known a (take e xs)) a (take e xs) _ bytes (Keeps-refl _) more

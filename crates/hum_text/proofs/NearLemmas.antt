@@ -1,5 +1,6 @@
 -- The first LF, found by the bits of the first bytes.
-use Rattle.std.proofs.Common.{◌≡◌, ℕ, ◌+◌, ◌<◌, ◌≤◌, Bool, true, false, not, List, [], ◌∷◌, length, map, refl, sym, ap, ◌∙◌, arith, Some, get_or, eqb, ⊎_elim}
+use Rattle.std.proofs.lemmas.Bool.Decides.{nat_tests}
+use Rattle.std.proofs.Common.{◌≡◌, ℕ, ◌+◌, ◌<◌, ◌≤◌, Bool, false, not, List, [], ◌∷◌, length, map, sym, ap, ◌∙◌, arith, Some, get_or, eqb, ⊎_elim}
 use Rattle.std.proofs.lemmas.Bool.{cases_lt, cond-true}
 use Rattle.std.specs.List.{prefix_len}
 use Rattle.std.specs.Simd.Lanes.{chunk, mask_l}
@@ -10,12 +11,7 @@ use Rattle.memchr.specs.Find.{IsFirstByte, is_byte}
 -- where some byte passes, fewer than all come before the first
 stops : (p : ℕ → Bool) (xs : List ℕ) → 0 < mask_l (map p xs) → prefix_len (λ x. not (p x)) xs < length xs
 stops p [] some = absurd (omega arith)
-stops p (x ∷ xs) some = by (p x) refl (stops p xs)
-  where
-    by : (t : Bool) → p x ≡ t → (0 < mask_l (map p xs) → prefix_len (λ x. not (p x)) xs < length xs)
-        → prefix_len (λ x. not (p x)) (x ∷ xs) < length (x ∷ xs)
-    by true w rest = rw w (omega arith)
-    by false w rest = let later = rest (let s = rw w at some in omega (arith, s)) in rw w (omega (arith, later))
+stops p (x ∷ xs) some = grind (arith, nat_tests, stops p xs)
 
 -- no LF stands in these bytes either, where no bit is set
 pub none-near : (xs : List ℕ) (at bits : ℕ) → at + 32 ≤ length xs

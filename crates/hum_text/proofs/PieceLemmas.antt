@@ -1,24 +1,20 @@
 -- The pieces of bytes in parts.
+use Rattle.std.proofs.lemmas.Bool.Decides.{nat_tests}
 use Rattle.std.proofs.Common.{◌≡◌, ℕ, suc, ◌<◌, Bool, true, false, ◌==◌, if◌then◌else◌, List, [], ◌∷◌, ◌++◌}
-use Rattle.std.proofs.Common.{length, get_or, refl, ap, ◌∙◌, arith}
-use Rattle.std.proofs.lemmas.Bool.{eqb-true}
+use Rattle.std.proofs.Common.{length, get_or, refl, ap, arith}
 use Rattle.hum_text.specs.Text.{onto, pieces, IsAtStart}
 
 pub IsAtStart-lf : (x : List ℕ) → IsAtStart (x ++ 10 ∷ [])
 unfolding IsAtStart
-IsAtStart-lf [] = refl
-IsAtStart-lf (b ∷ []) = refl
 IsAtStart-lf (b ∷ c ∷ bs) = IsAtStart-lf (c ∷ bs)
+IsAtStart-lf x = grind (arith, nat_tests)
 
 -- no byte is LF
 abbrev pub NoLf : List ℕ → Type 0
 NoLf q = (k : ℕ) → k < length q → get_or q k 0 ≡ 10 → ⊥
 
 NoLf-head : (b : ℕ) (q : List ℕ) → NoLf (b ∷ q) → (b == 10) ≡ false
-NoLf-head b q free = elim (b == 10) as (λ (v : Bool). (b == 10) ≡ v → v ≡ false) [
-  | true ↦ λ is. absurd (free 0 (omega arith) (eqb-true b 10 is))
-  | false ↦ λ is. refl
-] refl
+NoLf-head = grind (arith, nat_tests)
 
 NoLf-tail : (b : ℕ) (q : List ℕ) → NoLf (b ∷ q) → NoLf q
 NoLf-tail b q free = λ k h is. free (suc k) (omega arith) is
@@ -45,21 +41,10 @@ pieces-some b bs = elim (b == 10)
       | false ↦ onto-some b (pieces bs)
     ]
 
-onto-append : (b : ℕ) (p : List ℕ) (ps qs all : List (List ℕ)) → all ≡ p ∷ ps → onto b (all ++ qs) ≡ onto b all ++ qs
-onto-append b p ps qs all is = rw is refl
-
 pub pieces-append : (before q : List ℕ) → IsAtStart before → pieces (before ++ q) ≡ pieces before ++ pieces q
 unfolding pieces IsAtStart
-pieces-append [] q s = refl
-pieces-append (b ∷ []) q s = rw s refl
-pieces-append (b ∷ c ∷ bs) q s =
-    let ih : pieces ((c ∷ bs) ++ q) ≡ pieces (c ∷ bs) ++ pieces q = pieces-append (c ∷ bs) q s in
-    let some : (p : List ℕ) × (ps : List (List ℕ)) × (pieces (c ∷ bs) ≡ p ∷ ps) = pieces-some c bs in
-    elim (b == 10) as (λ (v : Bool). (if v then [] ∷ pieces ((c ∷ bs) ++ q) else onto b (pieces ((c ∷ bs) ++ q)))
-    ≡ (if v then [] ∷ pieces (c ∷ bs) else onto b (pieces (c ∷ bs))) ++ pieces q) [
-      | true ↦ ap (λ (ps : List (List ℕ)). [] ∷ ps) ih
-      | false ↦ ap (onto b) ih ∙ onto-append b some.0 some.1 (pieces q) (pieces (c ∷ bs)) some.2
-    ]
+pieces-append (b ∷ c ∷ bs) q s = grind (arith, nat_tests, pieces-append (c ∷ bs) q s, pieces-some c bs)
+pieces-append before q h = grind (arith, nat_tests)
 
 pub pieces-whole : (q : List ℕ) → NoLf q → pieces (q ++ 10 ∷ []) ≡ q ∷ []
 unfolding pieces

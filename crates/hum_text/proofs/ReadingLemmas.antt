@@ -1,10 +1,12 @@
 -- What a reader stands for, from step to step.
-use Rattle.std.proofs.Common.{◌≡◌, ◌≢◌, ℕ, zero, suc, ◌+◌, ◌<◌, ◌≤◌, true, false, List, [], ◌∷◌, ◌++◌}
-use Rattle.std.proofs.Common.{length, get_or, take, drop, refl, ap, sym, ◌∙◌, subst, arith, None}
+use Rattle.std.proofs.lemmas.Grind.{common_steps}
+use Rattle.std.proofs.lemmas.Bool.Decides.{nat_tests}
+use Rattle.std.proofs.Common.{◌≡◌, ◌≢◌, ℕ, ◌+◌, ◌<◌, ◌≤◌, true, false, List, [], ◌∷◌, ◌++◌}
+use Rattle.std.proofs.Common.{length, get_or, take, drop, ap, sym, ◌∙◌, subst, arith, None}
 use Rattle.std.proofs.Common.{Some, Result, Ok, Err, append_assoc, length-take}
 use Rattle.std.proofs.Common.{◌==◌}
 use Rattle.std.proofs.lemmas.Bool.{eqb-true, eq-eqb}
-use Rattle.std.proofs.lemmas.List.{take_more, drop_more, get_or-take, append-nil, take-append-drop}
+use Rattle.std.proofs.lemmas.List.{drop_more, get_or-take, append-nil, take-append-drop}
 use Rattle.std.proofs.Math.Seq.{drop-length, take-length}
 use Rattle.memchr.specs.Find.{IsFirstByte, is_byte}
 use Rattle.hum_text.specs.declared.Limits.{Limits}
@@ -29,14 +31,10 @@ first-free block k first j low is = first.0.before j (omega arith) low (eq-eqb _
 
 -- the line before the first LF, and that LF
 pub to-line : (block : List ℕ) (k : ℕ) → IsFirstByte (is_byte 10) block (Some k) → take k block ++ 10 ∷ [] ≡ take (k + 1) block
-to-line block k first =
-    let high : k < length block = first.0.high in
-    let ten : get_or block k 0 ≡ 10 = eqb-true _ 10 first.1 in
-    ap (λ (b : ℕ). take k block ++ b ∷ []) (sym ten) ∙ sym (take_more block k 0 high)
+to-line = grind (arith, common_steps)
 
 pub nil-of : (xs : List ℕ) → length xs ≡ 0 → xs ≡ []
-nil-of [] h = refl
-nil-of (x ∷ xs) h = absurd (omega arith)
+nil-of = grind (arith, common_steps)
 
 module _ (l : Limits) (all : List ℕ) (gs : List (List ℕ)) (block rest : List ℕ) (n t : ℕ) where
   -- the first byte that breaks a rule is the fault
@@ -86,8 +84,7 @@ module _ (l : Limits) (all : List ℕ) (gs : List (List ℕ)) (block rest : List
       let at : block ++ rest ≡ block = ap (λ (zs : List ℕ). block ++ zs) empty ∙ append-nil block in
       let S : List ℕ → Type 0 = λ zs. Stands l all gs zs n t in
       let T : List ℕ → Type 0 = λ zs. Stands l all (gs ++ without_cr block ∷ []) zs (n + 1) (t + length block) in
-      let nil : drop (length block) block ++ rest ≡ [] =
-      ap (λ (zs : List ℕ). zs ++ rest) (drop-length block) ∙ empty in
+      let nil : drop (length block) block ++ rest ≡ [] = grind (arith, nat_tests, drop-length) in
       subst T (sym nil) (step-last l all gs block n t (subst S at st) (none-free block unended) some none)
 
   -- the last line is one CR
@@ -119,15 +116,10 @@ take-all : (xs : List ℕ) (n : ℕ) → n ≡ length xs → take n xs ≡ xs
 take-all xs n is = ap (λ (m : ℕ). take m xs) is ∙ take-length xs
 
 pub drop-all : (xs : List ℕ) (n : ℕ) → length xs ≤ n → drop n xs ≡ []
-drop-all [] zero h = refl
-drop-all [] (suc n) h = refl
-drop-all (x ∷ xs) zero h = absurd (omega arith)
-drop-all (x ∷ xs) (suc n) h = drop-all xs n (omega arith)
+drop-all = grind (arith, common_steps)
 
 pub length-drop_le : (n : ℕ) (xs : List ℕ) → length (drop n xs) ≤ length xs
-length-drop_le zero xs = omega arith
-length-drop_le (suc n) [] = omega arith
-length-drop_le (suc n) (x ∷ xs) = omega (arith, length-drop_le n xs)
+length-drop_le = grind (arith, common_steps)
 
 -- What a fault gives, where it is the text's whatever follows.
 pub gives-fault : {R : Type 0} (old new : Reader R) (result : Result Step TextFault) (f : TextFault) → result ≡ Err f
@@ -149,16 +141,7 @@ pub gives-line : {R : Type 0} (old new : Reader R) (bytes : List ℕ) (size : �
     → ((all : List ℕ) (gs : List (List ℕ)) (rest : List ℕ) → Holds old all gs rest
     → Stands old.limits all (gs ++ bytes ∷ []) (drop size old.pending ++ rest) (old.given + 1) (old.taken + size))
     → GivesNext old (Ok Line) new
-gives-line {R} old new bytes size is step = λ all gs rest h end.
-    let none : bytes_read old new ≡ [] =
-    ap (λ (w : Reader R). bytes_read old w) is
-    ∙ drop-all (drop size old.pending) (length old.pending) (length-drop_le size old.pending) in
-    let H : List ℕ → Type 0 = λ zs. Holds old all gs (zs ++ rest) in
-    let here : Holds old all gs rest = subst H none h in
-    let Q : Reader R → Type 0 = λ w. Holds w all (gs ++ w.line ∷ []) rest in
-    let there : Holds (given_of old bytes size) all (gs ++ bytes ∷ []) rest =
-    record { stands = step all gs rest here; done = here.done } in
-    subst Q (sym is) there
+gives-line = grind (arith, nat_tests, drop-all, length-drop_le)
 
 -- the first fault in the first bytes of the line, as a scan of them finds it
 pub found-fault : {R : Type 0} (v : Reader R) (size : ℕ) (f : TextFault) → size ≤ length v.pending
@@ -173,31 +156,16 @@ found-fault v size f fits free found all gs rest h =
 -- a poll that needs a read finds no fault in the bytes that are pending
 pub no-fault : {R : Type 0} (v : Reader R) (size : ℕ) (f : TextFault) → NeedsRead v → size ≡ length v.pending
     → BreaksFirst v.limits (v.given + 1) v.taken (take size v.pending) f → ⊥
-no-fault v size f needs is found =
-    let same : take size v.pending ≡ v.pending = take-all v.pending size is in
-    let high : found.place < length v.pending = omega (arith, found.within, ap length same) in
-    let none : rule_of_line v.limits (v.given + 1) v.taken v.pending found.place ≡ None =
-    needs.lawful found.place high in
-    let some : rule_of_line v.limits (v.given + 1) v.taken v.pending found.place ≡ Some f =
-    ap (λ (zs : List ℕ). rule_of_line v.limits (v.given + 1) v.taken zs found.place) (sym same) ∙ found.breaks in
-    cc
+no-fault = grind (arith, nat_tests, take-all)
 
 -- where nothing is found in the bytes that are pending a poll needs a read
 pub needs-read : {R : Type 0} (v : Reader R) (size : ℕ) → v.fault ≡ None → v.ended ≡ false
     → IsFirstByte (is_byte 10) v.pending None
     → size ≡ length v.pending → IsLawful v.limits (v.given + 1) v.taken (take size v.pending) → NeedsRead v
-needs-read v size no_fault going unended is none =
-    let L : List ℕ → Type 0 = λ zs. IsLawful v.limits (v.given + 1) v.taken zs in
-    record {
-      no_fault = no_fault;
-      going = going;
-      unended = none-free v.pending unended;
-      lawful = subst L (take-all v.pending size is) none;
-    }
+needs-read = grind (arith, nat_tests, none-free, take-all)
 
 positive : (m : ℕ) → (m == 0) ≡ false → 0 < m
-positive zero h = cc
-positive (suc m) h = omega arith
+positive = grind (arith, nat_tests)
 
 -- The line before the first LF is given, as a scan of it finds.
 pub whole-given : {R : Type 0} (v : Reader R) (k size : ℕ) → IsFirstByte (is_byte 10) v.pending (Some k)
@@ -224,9 +192,7 @@ pub last-given : {R : Type 0} (v : Reader R) (hay line : List ℕ) (size : ℕ) 
 last-given v hay line size is-end unended same is cut some none all gs rest h =
     let all-of : take size v.pending ≡ v.pending = take-all v.pending size is in
     let L : List ℕ → Type 0 = λ zs. IsLawful v.limits (v.given + 1) v.taken zs in
-    let long : 0 < length (without_cr v.pending) =
-    positive (length (without_cr v.pending)) (ap (λ (zs : List ℕ). length (without_cr zs) == 0) (sym same)
-    ∙ ap (λ (zs : List ℕ). length zs == 0) (sym cut) ∙ some) in
+    let long : 0 < length (without_cr v.pending) = grind (arith, nat_tests, positive) in
     let P : ℕ → Type 0 =
     λ m. Stands v.limits all (gs ++ without_cr v.pending ∷ []) (drop m v.pending ++ rest)
     (v.given + 1) (v.taken + m) in

@@ -1,6 +1,8 @@
 -- How the rules go on from line to line.
-use Rattle.std.proofs.Common.{◌≡◌, ℕ, zero, suc, ◌+◌, ◌-◌, ◌<◌, Bool, true, false, ◌==◌, if◌then◌else◌, List}
-use Rattle.std.proofs.Common.{[], ◌∷◌, ◌++◌, length, get_or, take, map, refl, ap, sym, ◌∙◌, subst, arith}
+use Rattle.std.proofs.lemmas.Grind.{common_steps}
+use Rattle.std.proofs.lemmas.Bool.Decides.{nat_tests}
+use Rattle.std.proofs.Common.{◌≡◌, ℕ, suc, ◌+◌, ◌-◌, ◌<◌, Bool, true, false, ◌==◌, if◌then◌else◌, List}
+use Rattle.std.proofs.Common.{[], ◌∷◌, ◌++◌, length, get_or, take, refl, ap, sym, ◌∙◌, subst, arith}
 use Rattle.std.proofs.Common.{None, Some, inl, inr, append_assoc, length-append, length-take, add-one}
 use Rattle.std.proofs.lemmas.Bool.{eqb-true, eq-eqb, cases_lt}
 use Rattle.std.proofs.lemmas.List.{take_more, get_or-take, append-nil, get_or_append_left, get_or-append-add}
@@ -13,29 +15,19 @@ use Rattle.hum_text.specs.Reading.{Stands}
 use Rattle.hum_text.proofs.PieceLemmas.{NoLf, IsAtStart-lf, pieces-line, pieces-append, pieces-whole}
 use Rattle.hum_text.proofs.PieceLemmas.{pieces-part, pieces-none}
 
-at-end : {A : Type 0} (xs : List A) (x d : A) → get_or (xs ++ x ∷ []) (length xs) d ≡ x
-at-end [] x d = refl
-at-end (y ∷ xs) x d = at-end xs x d
-
 pub last-snoc : {A : Type 0} (xs : List A) (x d : A) → get_or (xs ++ x ∷ []) (length (xs ++ x ∷ []) - 1) d ≡ x
-last-snoc xs x d =
-    let count : length (xs ++ x ∷ []) - 1 ≡ length xs = simp length-append (omega arith) in
-    ap (λ (n : ℕ). get_or (xs ++ x ∷ []) n d) count ∙ at-end xs x d
+last-snoc = grind (arith, common_steps)
 
 -- the rule of a prefix whose last piece and end are known
 rule-at-parts : (l : Limits) (p : List ℕ) (ps : List (List ℕ)) (q : List ℕ) (e : Bool) → pieces p ≡ ps ++ q ∷ []
     → ends_in_lf p ≡ e → rule_at l p ≡ rule_in l (length ps + 1) q e (length p)
 unfolding rule_at
-rule-at-parts l p ps q e cut ends =
-    let count : length (ps ++ q ∷ []) ≡ length ps + 1 = simp length-append in
-    rw cut (rw last-snoc (rw count (rw ends refl)))
+rule-at-parts = grind (arith, common_steps)
 
 end-parts : (p : List ℕ) (ps : List (List ℕ)) (q : List ℕ) → pieces p ≡ ps ++ q ∷ [] → ends_in_lf p ≡ false
     → 0 < length p → rule_at_end p ≡ (if length (without_cr q) == 0 then Some S1 else None)
 unfolding rule_at_end
-end-parts p ps q cut ends long =
-    let some : (length p == 0) ≡ false = grind arith in
-    rw (some, ends, cut, last-snoc) refl
+end-parts = grind (arith, common_steps)
 
 -- at a line's start the end breaks no rule
 ends-at-start : (b : ℕ) (bs : List ℕ) → IsAtStart (b ∷ bs) → ends_in_lf (b ∷ bs) ≡ true
@@ -48,24 +40,14 @@ ends-at-start b (c ∷ bs) s = ap (λ (n : ℕ). get_or (b ∷ c ∷ bs) n 0 == 
 pub start-end : (p : List ℕ) → IsAtStart p → rule_at_end p ≡ None
 unfolding rule_at_end
 start-end [] s = refl
-start-end (b ∷ bs) s =
-    let some : (length (b ∷ bs) == 0) ≡ false = grind arith in
-    rw (some, ends-at-start b bs s) refl
+start-end (b ∷ bs) s = grind (arith, nat_tests, ends-at-start)
 
 free-front : (held : List ℕ) (k : ℕ) → ((j : ℕ) → j < k → get_or held j 0 ≡ 10 → ⊥) → NoLf (take k held)
-free-front held k free = λ j low is.
-    let lt : j < k = omega (arith, simp length-take at low) in
-    free j lt (sym (get_or-take k held j 0 lt) ∙ is)
+free-front = grind (arith, nat_tests, length-take, get_or-take)
 
 free-more : (held : List ℕ) (k : ℕ) → ((j : ℕ) → j < k → get_or held j 0 ≡ 10 → ⊥) → (get_or held k 0 == 10) ≡ false
     → NoLf (take (k + 1) held)
-free-more held k free other = free-front held (k + 1) (λ j low is. elim (cases_lt j k) [
-  | inl lt ↦ free j lt is
-  | inr ge ↦
-      let same : j ≡ k = omega arith in
-      let ten : (get_or held k 0 == 10) ≡ true = eq-eqb _ 10 (ap (λ (n : ℕ). get_or held n 0) (sym same) ∙ is) in
-      cc
-])
+free-more = grind (arith, nat_tests, free-front, cases_lt, get_or, eq-eqb)
 
 -- byte k of a line after a line's start breaks what the line's rule says
 pub rule-at-line : (l : Limits) (before held : List ℕ) (k : ℕ) → IsAtStart before → k < length held
@@ -77,17 +59,13 @@ rule-at-line l before held k s h free =
     let len : length p ≡ length before + (k + 1) = simp (length-append, length-take) (omega arith) in
     let whole : p ≡ (before ++ take k held) ++ get_or held k 0 ∷ [] =
     ap (λ (zs : List ℕ). before ++ zs) more ∙ sym (append_assoc before (take k held) (get_or held k 0 ∷ [])) in
-    let last : ends_in_lf p ≡ (get_or held k 0 == 10) =
-    ap ends_in_lf whole ∙ ap (λ (n : ℕ). n == 10) (last-snoc (before ++ take k held) (get_or held k 0) 0) in
+    let last : ends_in_lf p ≡ (get_or held k 0 == 10) = grind (arith, nat_tests, last-snoc, get_or) in
     elim (get_or held k 0 == 10) as (λ (v : Bool). (get_or held k 0 == 10) ≡ v → rule_at l (before ++ take (k + 1) held)
     ≡ (if v then rule_in l (length (pieces before) + 1) (take k held) true (length before + (k + 1))
     else rule_in l (length (pieces before) + 1) (take (k + 1) held) false (length before + (k + 1)))) [
       | true ↦ λ is.
           let cut : pieces p ≡ pieces before ++ take k held ∷ [] =
-          ap (λ (zs : List ℕ). pieces (before ++ zs)) (more
-          ∙ ap (λ (n : ℕ). take k held ++ n ∷ []) (eqb-true _ 10 is))
-          ∙ pieces-append before (take k held ++ 10 ∷ []) s
-          ∙ ap (λ (zs : List (List ℕ)). pieces before ++ zs) (pieces-whole (take k held) (free-front held k free)) in
+          grind (arith, nat_tests, eqb-true, pieces-append, pieces-whole, free-front) in
           rule-at-parts l p (pieces before) (take k held) true cut (last ∙ is)
           ∙ ap (λ (n : ℕ). rule_in l (length (pieces before) + 1) (take k held) true n) len
       | false ↦ λ is.
@@ -115,13 +93,12 @@ pub hit : (l : Limits) (before q r : List ℕ) (k : ℕ) (f : TextFault) → k <
     → rule_at l (before ++ take (suc k) q) ≡ Some f → ((j : ℕ) → j < k → rule_at l (before ++ take (suc j) q) ≡ None)
     → fault_after l before (q ++ r) ≡ Some (length (pieces (before ++ take (suc k) q)), f)
 unfolding fault_after
-hit l before [] r k f h is none = absurd (omega arith)
-hit l before (b ∷ q) r zero f h is none = rw is refl
 hit l before (b ∷ q) r (suc k) f h is none =
     let here : rule_at l (before ++ b ∷ []) ≡ None = none 0 (omega arith) in
     rw here (hit l (before ++ b ∷ []) q r k f (omega arith) (rw append_assoc is)
     (λ j low. rw append_assoc (none (suc j) (omega arith)))
     ∙ ap (λ (p : List ℕ). Some (length (pieces p), f)) (append_assoc before (b ∷ []) (take (suc k) q)))
+hit l before q r k f h w e = grind (arith, nat_tests)
 
 some-rest : (q : List ℕ) (b : ℕ) (r : List ℕ) → q ++ b ∷ r ≡ [] → ⊥
 some-rest [] b r is = cc
@@ -137,9 +114,7 @@ ap2 {A} f {a} {a'} {b} {b'} p q = ap (λ (x : A). f x b) p ∙ ap (f a') q
 -- the bytes of a line before its last are not LF
 free-held : (q : List ℕ) → NoLf q → (k : ℕ) → k < length (q ++ 10 ∷ []) → (j : ℕ) → j < k
     → get_or (q ++ 10 ∷ []) j 0 ≡ 10 → ⊥
-free-held q free k h j low is =
-    let lt : j < length q = omega (arith, simp length-append at h) in
-    free j lt (sym (get_or_append_left q (10 ∷ []) 0 j lt) ∙ is)
+free-held = grind (arith, nat_tests, length-append, get_or_append_left)
 
 -- A line that breaks no rule, with its LF, is given.
 pub step-line : (l : Limits) (all : List ℕ) (given : List (List ℕ)) (q r : List ℕ) (n t : ℕ)
@@ -156,8 +131,7 @@ step-line l all given q r n t st free none =
       before = st.before ++ held;
       whole = st.whole ∙ ap (λ (zs : List ℕ). st.before ++ zs) split ∙ sym (append_assoc st.before held r);
       start = inl (subst IsAtStart (append_assoc st.before q (10 ∷ [])) (IsAtStart-lf (st.before ++ q)));
-      left = st.left ∙ ap (λ (ps : List (List ℕ)). given ++ map without_cr ps) (pieces-line q r free)
-          ∙ sym (append_assoc given (without_cr q ∷ []) (lines r));
+      left = grind (arith, nat_tests, pieces-line, append_assoc);
       fault = st.fault ∙ ap (λ (zs : List ℕ). fault_after l st.before zs) split ∙ skip l st.before held r (λ k h.
           rw (← add-one k) (rule-at-line l st.before held k s h (free-held q free k h)
           ∙ ap2 (λ (a b : ℕ). rule_of_line l (a + 1) b held k) st.count st.size ∙ none k h));
@@ -167,16 +141,14 @@ step-line l all given q r n t st free none =
     }
 
 not-nil : (q : List ℕ) → 0 < length q → q ≡ [] → ⊥
-not-nil [] long is = absurd (omega arith)
-not-nil (b ∷ q) long is = cc
+not-nil = grind (arith, nat_tests)
 
 long-some : (held r : List ℕ) (k : ℕ) → k < length held → held ++ r ≡ [] → ⊥
 long-some [] r k h is = absurd (omega arith)
 long-some (b ∷ q) r k h is = cc
 
 long-without : (q : List ℕ) → 0 < length (without_cr q) → 0 < length q
-long-without [] some = some
-long-without (b ∷ q) some = omega arith
+long-without = grind (arith, nat_tests)
 
 kept : (q : List ℕ) → 0 < length (without_cr q) → (if length (without_cr q) == 0 then Some S1 else None) ≡ None
 kept q some = let other : (length (without_cr q) == 0) ≡ false = grind arith in rw other refl
@@ -185,14 +157,7 @@ gone : (q : List ℕ) → length (without_cr q) ≡ 0 → (if length (without_cr
 gone q empty = rw empty refl
 
 last-free : (before q : List ℕ) → 0 < length q → NoLf q → ends_in_lf (before ++ q) ≡ false
-last-free before q long free =
-    let at : length (before ++ q) - 1 ≡ length before + (length q - 1) = simp length-append (omega arith) in
-    let last : get_or (before ++ q) (length (before ++ q) - 1) 0 ≡ get_or q (length q - 1) 0 =
-    ap (λ (n : ℕ). get_or (before ++ q) n 0) at ∙ get_or-append-add before q (length q - 1) 0 in
-    elim (ends_in_lf (before ++ q)) as (λ (v : Bool). ends_in_lf (before ++ q) ≡ v → v ≡ false) [
-      | true ↦ λ is. absurd (free (length q - 1) (omega arith) (sym last ∙ eqb-true _ 10 is))
-      | false ↦ λ is. refl
-    ] refl
+last-free = grind (arith, nat_tests, length-append, get_or, get_or-append-add, eqb-true)
 
 at-end-fault : (l : Limits) (p : List ℕ) (f : TextFault) → rule_at_end p ≡ Some f
     → fault_after l p [] ≡ Some (length (pieces p), f)
@@ -211,11 +176,7 @@ begun before held k s h free =
     let more : take (suc k) held ≡ take k held ++ get_or held k 0 ∷ [] = rw (← add-one k) (take_more held k 0 h) in
     elim (get_or held k 0 == 10) as (λ (v : Bool). (get_or held k 0 == 10) ≡ v
     → length (pieces (before ++ take (suc k) held)) ≡ length (pieces before) + 1) [
-      | true ↦ λ is. ap length (ap (λ (zs : List ℕ). pieces (before ++ zs)) (more
-          ∙ ap (λ (n : ℕ). take k held ++ n ∷ []) (eqb-true _ 10 is))
-          ∙ pieces-append before (take k held ++ 10 ∷ []) s
-          ∙ ap (λ (zs : List (List ℕ)). pieces before ++ zs) (pieces-whole (take k held) (free-front held k free)))
-          ∙ simp length-append
+      | true ↦ grind (arith, nat_tests, eqb-true, pieces-append, pieces-whole, free-front, length-append)
       | false ↦ λ is.
           let long : 0 < length (take (suc k) held) = simp length-take (omega arith) in
           let part : NoLf (take (suc k) held) = rw (← add-one k) (free-more held k free is) in
@@ -257,9 +218,7 @@ step-last l all given q n t st free some none =
         end-parts (st.before ++ q) (pieces st.before) q cut (last-free st.before q long free)
             (simp length-append (omega arith)) ∙ kept q some,
       );
-      left = st.left ∙ ap (λ (ps : List (List ℕ)). given ++ map without_cr ps) (pieces-part q long free)
-          ∙ sym (append_assoc given (without_cr q ∷ []) (lines [])
-          ∙ ap (λ (ps : List (List ℕ)). given ++ (without_cr q ∷ map without_cr ps)) pieces-none);
+      left = grind (arith, nat_tests, pieces-part, append_assoc, pieces-none);
       fault = st.fault ∙ ap (λ (zs : List ℕ). fault_after l st.before zs) (sym (append-nil q))
           ∙ skip l st.before q [] (λ k h.
           rw (← add-one k) (rule-at-line l st.before q k s h (λ j low. free j (omega arith))
@@ -278,11 +237,9 @@ step-end-fault l all given q n t st free long empty none =
     let s : IsAtStart st.before = at-start st (not-nil q long) in
     let cut : pieces (st.before ++ q) ≡ pieces st.before ++ q ∷ [] =
     pieces-append st.before q s ∙ ap (λ (zs : List (List ℕ)). pieces st.before ++ zs) (pieces-part q long free) in
-    let count : length (pieces (st.before ++ q)) ≡ n + 1 =
-    ap length cut ∙ simp length-append (omega (arith, st.count)) in
+    let count : length (pieces (st.before ++ q)) ≡ n + 1 = grind (arith, nat_tests, length-append) in
     let rule : rule_at_end (st.before ++ q) ≡ Some S1 =
-    end-parts (st.before ++ q) (pieces st.before) q cut (last-free st.before q long free)
-    (simp length-append (omega arith)) ∙ gone q empty in
+    grind (arith, nat_tests, end-parts, last-free, length-append, gone) in
     st.fault ∙ ap (λ (zs : List ℕ). fault_after l st.before zs) (sym (append-nil q)) ∙ skip l st.before q [] (λ k h.
     rw (← add-one k) (rule-at-line l st.before q k s h (λ j low. free j (omega arith))
     ∙ ap2 (λ (a b : ℕ). rule_of_line l (a + 1) b q k) st.count st.size ∙ none k h))
@@ -291,22 +248,9 @@ step-end-fault l all given q n t st free long empty none =
 -- At the end all lines were given, and there is no fault.
 pub step-end : (l : Limits) (all : List ℕ) (given : List (List ℕ)) (n t : ℕ) → Stands l all given [] n t
     → (lines all ≡ given) × (fault_of l all ≡ None)
-step-end l all given n t st =
-    let none : rule_at_end st.before ≡ None = elim st.start [ inl s ↦ start-end st.before s | inr e ↦ e.1 ] in (
-      st.left ∙ ap (λ (ps : List (List ℕ)). given ++ map without_cr ps) pieces-none ∙ append-nil given,
-      st.fault ∙ at-end-none l st.before none,
-    )
+step-end = grind (arith, nat_tests, start-end, pieces-none, append-nil, at-end-none)
 
 -- Before the first line all of the text stands.
 pub stands-new : (l : Limits) (all : List ℕ) → Stands l all [] all 0 0
 unfolding IsAtStart
-stands-new l all = record {
-  before = [];
-  whole = refl;
-  start = inl tt;
-  left = refl;
-  fault = refl;
-  count = ap length pieces-none;
-  size = refl;
-  number = refl;
-}
+stands-new = grind (arith, nat_tests, pieces-none)

@@ -1,6 +1,7 @@
 -- What each way through a poll does.
+use Rattle.std.proofs.lemmas.Bool.Decides.{nat_tests}
 use Rattle.std.proofs.Common.{◌≡◌, ◌≢◌, ℕ, ◌+◌, ◌<◌, ◌≤◌, Bool, true, false, if◌then◌else◌, Option, List, [], ◌++◌, length}
-use Rattle.std.proofs.Common.{take, drop, refl, ap, sym, ◌∙◌, subst, arith, None, Some, Result, Ok, Err, length-drop, ◌&&◌, ◌==◌, slice_index}
+use Rattle.std.proofs.Common.{take, drop, refl, ap, sym, ◌∙◌, subst, arith, None, Some, Result, Ok, Err, length-drop, ◌==◌, slice_index}
 use Rattle.std.proofs.Math.Seq.{take-length}
 use Rattle.memchr.specs.Find.{IsFirstByte, is_byte}
 use Rattle.hum_text.specs.declared.Limits.{Limits}
@@ -8,8 +9,8 @@ use Rattle.hum_text.specs.declared.TextFault.{TextFault}
 use Rattle.hum_text.specs.declared.TextFault.TheVariants.{S1, S2, S3, S7}
 use Rattle.hum_text.specs.declared.reader.Step.{Step}
 use Rattle.hum_text.specs.declared.reader.Step.TheVariants.{Line, End}
-use Rattle.hum_text.specs.Text.{lf, without_cr, fault_of, rule_in, rule_of_line, IsOfText, IsLawful, BreaksFirst}
-use Rattle.hum_text.specs.Reading.{Reader, Holds, GivesLine, Fails, IsUnread, Goes, GoesUnread, bytes_read}
+use Rattle.hum_text.specs.Text.{without_cr, fault_of, IsOfText, IsLawful, BreaksFirst}
+use Rattle.hum_text.specs.Reading.{Reader, Holds, GivesLine, Fails, Goes, GoesUnread, bytes_read}
 use Rattle.hum_text.proofs.ReadingLemmas.{given_of, gives-line, gives-fault, drop-all, length-drop_le, last-given, none-left, nil-of}
 use Rattle.hum_text.proofs.LimitLemmas.{last-short, last-free}
 
@@ -40,77 +41,29 @@ module _ {R : Type 0} (v w : Reader R) (result : Result Step TextFault) where
       → ((all : List ℕ) (gs : List (List ℕ)) (rest : List ℕ) → Holds v all gs rest → IsOfText fault
       → fault_of v.limits all ≡ Some (length gs + 1, fault))
       → Goes v result w
-  fault-goes fault bytes is state tells =
-      let At : Result Step TextFault → Type 0 = λ r. Goes v r w in
-      let Within : Reader R → Type 0 = λ u. u.taken ≤ u.limits.bytes in
-      subst At (sym is) (record {
-        within = tt;
-        gives = gives-fault v w (Err fault) fault refl tells;
-        end = λ same. cc;
-        no_fault = tt;
-        err = state;
-        nears = tt;
-        limits = ap (λ u. u.limits) state;
-        taken = subst Within (sym state) bytes;
-      })
+  fault-goes = grind (arith, nat_tests, gives-fault)
 
   -- a fault of the text was met, in what was pending
   pub fault-unread : (fault : TextFault) → v.taken ≤ v.limits.bytes → result ≡ Err fault → w ≡ faulty v fault → IsOfText fault
       → ((all : List ℕ) (gs : List (List ℕ)) (rest : List ℕ) → Holds v all gs rest → IsOfText fault
       → fault_of v.limits all ≡ Some (length gs + 1, fault))
       → GoesUnread v result w
-  fault-unread fault bytes is state text tells =
-      let At : Result Step TextFault → Type 0 = λ r. GoesUnread v r w in
-      let Unread : Reader R → Type 0 = λ u. IsUnread v u in
-      let met = subst (λ r. Goes v r w) is (fault-goes fault bytes is (fails-here v w fault state) tells) in
-      subst At (sym is) (record {
-        goes = met;
-        unread = subst Unread (sym state) (refl, refl, nothing-read v);
-        not_more = λ same. cc;
-        not_read = λ same. subst FaultOfText same text;
-        not_memory = λ same. subst FaultOfText same text;
-      })
+  fault-unread = grind (arith, nat_tests, fault-goes, fails-here, nothing-read)
 
 -- A rule that a byte breaks is one of the text's.
 first-of : (a b c d : Bool)
     → RuleOfText (if a then Some S1 else if b then Some S2 else if c then Some S3 else if d then Some S7 else None)
-first-of true b c d = tt
-first-of false true c d = tt
-first-of false false true d = tt
-first-of false false false true = tt
-first-of false false false false = tt
+first-of = grind (arith, nat_tests)
 
 either-of : (test : Bool) (x y : Option TextFault) → RuleOfText x → RuleOfText y → RuleOfText (if test then x else y)
-either-of true x y one other = one
-either-of false x y one other = other
+either-of = grind (arith, nat_tests)
 
 pub of-text : (l : Limits) (n t : ℕ) (held : List ℕ) (f : TextFault) → BreaksFirst l n t held f → IsOfText f
-of-text l n t held f found =
-    let k = found.place in
-    let rule : RuleOfText (rule_of_line l n t held k) =
-    either-of (slice_index held k == lf) (rule_in l n (take k held) true (t + (k + 1))) (rule_in l n (take (k + 1) held) false (t + (k + 1)))
-    (first-of (true && length (without_cr (take k held)) == 0) _ _ _)
-    (first-of (false && length (without_cr (take (k + 1) held)) == 0) _ _ _) in
-    subst RuleOfText found.breaks rule
+of-text = grind (arith, nat_tests, either-of, slice_index, first-of)
 
 -- a line was given
 pub line-unread : {R : Type 0} (v w : Reader R) → GivesLine v w → GoesUnread v (Ok Line) w
-line-unread v w line = record {
-  goes = record {
-    within = line.within;
-    gives = line.gives;
-    end = λ same. cc;
-    no_fault = line.no_fault;
-    err = tt;
-    nears = line.nears;
-    limits = line.limits;
-    taken = line.taken;
-  };
-  unread = line.unread;
-  not_more = λ same. cc;
-  not_read = λ same. cc;
-  not_memory = λ same. cc;
-}
+line-unread = grind (arith, nat_tests)
 
 -- nothing is left, and no fault was met
 pub end-unread : {R : Type 0} (v : Reader R) → v.fault ≡ None → v.ended ≡ true → length v.pending ≡ 0

@@ -1,8 +1,10 @@
 -- Windows of a buffer.
-use Rattle.std.proofs.Common.{◌≡◌, ℕ, zero, suc, ◌+◌, ◌-◌, ◌<◌, ◌≤◌, List, [], ◌∷◌, ◌++◌, length, get_or, take, drop, max, ◌⊎◌, refl, ap}
-use Rattle.std.proofs.Common.{sym, ◌∙◌, arith, append-nil, length-append, length-take, length-drop, slice_range, Some, inl, inr}
-use Rattle.std.proofs.lemmas.List.{get_or-take, get_or-drop, drop-take, drop-drop, take_all, take_at, take-append-le}
-use Rattle.std.proofs.Math.Seq.{take-add, take-paste}
+use Rattle.std.proofs.lemmas.Grind.{common_steps}
+use Rattle.std.proofs.lemmas.Bool.Decides.{nat_tests}
+use Rattle.std.proofs.Common.{◌≡◌, ℕ, ◌+◌, ◌-◌, ◌<◌, ◌≤◌, List, ◌++◌, length, get_or, take, drop, max, refl, ap}
+use Rattle.std.proofs.Common.{sym, ◌∙◌, arith, length-take, length-drop, slice_range, Some, inl, inr}
+use Rattle.std.proofs.lemmas.List.{get_or-take, get_or-drop, drop-take, drop-drop}
+use Rattle.std.proofs.Math.Seq.{take-add}
 use Rattle.std.proofs.lemmas.Bool.{eqb-true, eq-eqb, cases_lt}
 use Rattle.std.specs.List.{copy_within}
 use Rattle.memchr.specs.Find.{IsFirstByte, is_byte, Passes, Nowhere}
@@ -17,8 +19,7 @@ length-window xs s e h = simp (length-take, length-drop) (omega arith)
 -- a place of the window passes as that of the buffer
 pub passes-from : (xs : List ℕ) (s e k j : ℕ) → k < e - s → j ≡ s + k → Passes (is_byte 10) (slice_range xs s e) k
     → get_or xs j 0 ≡ 10
-passes-from xs s e k j h at passes =
-    ap (λ (n : ℕ). get_or xs n 0) at ∙ sym (get-window xs s e k h) ∙ eqb-true _ 10 passes
+passes-from = grind (arith, nat_tests, get_or, get-window, eqb-true)
 
 pub passes-to : (xs : List ℕ) (s e k j : ℕ) → k < e - s → j ≡ s + k → get_or xs j 0 ≡ 10
     → Passes (is_byte 10) (slice_range xs s e) k
@@ -41,8 +42,7 @@ IsWindow-searched xs s m e k n w fits is none = record {
 pub none-searched : (xs : List ℕ) (s m e k : ℕ) → IsWindow xs s m e → k < m - s
     → Passes (is_byte 10) (slice_range xs s e) k → ⊥
 none-searched xs s m e k w h passes =
-    w.searched (s + k) (omega arith) (omega (arith, w.low))
-    (passes-from xs s e k (s + k) (omega (arith, w.low, w.middle)) refl passes)
+    grind (arith, nat_tests, passes-from xs s e k (s + k) (omega (arith, w.low, w.middle)) refl passes)
 
 -- a window over bytes that are the same up to its end
 pub IsWindow-kept : (xs ys : List ℕ) (s m e f : ℕ) → slice_range ys f (f + (e - s)) ≡ slice_range xs s e
@@ -134,69 +134,33 @@ grow-window xs s e j low high =
 
 -- a window that grows at its end
 pub IsWindow-grown : (xs : List ℕ) (s m e j : ℕ) → IsWindow xs s m e → e ≤ j → j ≤ length xs → IsWindow xs s m j
-IsWindow-grown xs s m e j w h fits =
-    record { low = w.low; middle = omega (arith, w.middle); high = fits; searched = w.searched }
-
--- a window whose first bytes are gone
-pub IsWindow-moved : (xs : List ℕ) (s m e j n : ℕ) → IsWindow xs s m e → s ≤ j → j ≤ n → n ≤ e → (n ≡ j) ⊎ (n ≡ m) → IsWindow xs j n e
-IsWindow-moved xs s m e j n w low middle high which = record {
-  low = middle;
-  middle = high;
-  high = w.high;
-  searched = λ k from below ten. elim which [
-    | inl start ↦ absurd (omega (arith, from, below, start))
-    | inr same ↦ w.searched k (omega (arith, low, from)) (omega (arith, below, same)) ten
-  ];
-}
+IsWindow-grown = grind (arith, nat_tests)
 
 -- the same where what was searched is told from a place that may stand before the window
 pub moved_on : (xs : List ℕ) (s m e n : ℕ) → IsWindow xs s (max m s) e → s + n ≤ e → IsWindow xs (s + n) (max m (s + n)) e
-moved_on xs s m e n w fits =
-    let middle = w.middle in
-    IsWindow-moved xs s (max m s) e (s + n) (max m (s + n)) w (omega arith) (omega arith) (omega (arith, middle, fits))
-    (elim (cases_lt m (s + n)) [ inl less ↦ inl (omega (arith, less)) | inr more ↦ inr (omega (arith, more)) ])
+moved_on = grind (arith, nat_tests)
 
 pub max_behind : (f x : ℕ) → max (f + x) f ≡ f + x
 max_behind f x = omega arith
 
-pub shorter : (n m : ℕ) (zs : List ℕ) → n ≤ m → take n (take m zs) ≡ take n zs
-shorter zero m zs h = refl
-shorter (suc n) zero zs h = absurd (omega arith)
-shorter (suc n) (suc m) [] h = refl
-shorter (suc n) (suc m) (z ∷ zs) h = ap (λ (ys : List ℕ). z ∷ ys) (shorter n m zs (omega arith))
-
 -- the first bytes of a window
 pub front-window : (xs : List ℕ) (s e n : ℕ) → n ≤ e - s → slice_range xs s (s + n) ≡ take n (slice_range xs s e)
-front-window xs s e n h =
-    ap (λ (k : ℕ). take k (drop s xs)) size ∙ sym (shorter n (e - s) (drop s xs) h) where
-      size : (s + n) - s ≡ n
-      size = omega arith
+front-window = grind (arith, common_steps)
 
 -- nothing was read
 pub end-nothing : (xs bs : List ℕ) → length bs ≡ 0 → xs ++ bs ≡ xs
-end-nothing xs [] e = append-nil xs
-end-nothing xs (b ∷ bs) e = absurd (omega (arith, e))
+end-nothing = grind (arith, common_steps)
 
 -- what stands in front of what is written
 pub front-stays : (at n : ℕ) (old rest behind : List ℕ) → at ≤ n → at ≤ length old
     → take at (take n ((take at old ++ rest) ++ behind)) ≡ take at old
-front-stays at n old rest behind low fits =
-    let count : length (take at old) ≡ at = omega (arith, length-take at old, fits) in
-    let more = length-append (take at old) rest in
-    shorter at n _ low ∙ take-append-le at (take at old ++ rest) behind (omega (arith, count, more)) ∙ take_at (take at old) rest at count
+front-stays = grind (arith, common_steps)
 
 -- a window that was moved to the front
 pub moved-window : (xs : List ℕ) (s e : ℕ) → e ≤ length xs → slice_range (copy_within xs s e 0) 0 (0 + (e - s)) ≡ slice_range xs s e
-moved-window xs s e fits =
-    let size : (0 + (e - s)) - 0 ≡ 0 + (e - s) = omega arith in
-    ap (λ (k : ℕ). take k (copy_within xs s e 0)) size
-    ∙ take-paste xs 0 (drop s xs) (e - s) (omega arith) (omega (arith, length-drop s xs, fits))
+moved-window = grind (arith, common_steps)
 
 -- a window of a buffer that grew
 pub wider-window : (xs more : List ℕ) (s e n : ℕ) → s ≤ e → e ≤ length xs → length xs ≤ n
     → slice_range (take n xs ++ more) s (s + (e - s)) ≡ slice_range xs s e
-wider-window xs more s e n low fits room =
-    let end : s + (e - s) ≡ e = omega (arith, low) in
-    let front : take e (take n xs ++ more) ≡ take e xs =
-    ap (λ (zs : List ℕ). take e (zs ++ more)) (take_all n xs room) ∙ take-append-le e xs more fits in
-    rw end (window-front xs (take n xs ++ more) s e low front)
+wider-window = grind (arith, common_steps)

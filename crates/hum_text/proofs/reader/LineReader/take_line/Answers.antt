@@ -1,5 +1,5 @@
-use Rattle.std.proofs.Common.{◌≡◌, ◌≢◌, ◌∙◌, ◌+◌, ◌-◌, ◌<◌, ℕ, List, length, take, get_or, inl, inr, ◌==◌, subst, sym, ap, arith, Some}
-use Rattle.std.proofs.lemmas.Bool.{cases_Bool, eqb-true, eq-eqb}
+use Rattle.std.proofs.lemmas.Bool.Decides.{nat_tests}
+use Rattle.std.proofs.Common.{◌≡◌, ◌≢◌, ◌∙◌, ◌+◌, ◌-◌, ◌<◌, ℕ, List, length, take, get_or, subst, sym, ap, arith, Some}
 use Rattle.memchr.specs.Find.{IsFirstByte, is_byte}
 use Rattle.hum_text.specs.Text.{without_cr}
 use Rattle.hum_text.proofs.LimitLemmas.{lf-place, same-place, front-text}
@@ -17,10 +17,7 @@ place pending k len size first is lf cr =
     same-place pending k len (size - 1) first is (λ h. let e = lf h in omega (arith, e)) (λ h. let e = cr h in omega (arith, e))
 
 some : (pending : List ℕ) (len size : ℕ) → (get_or pending len 0 ≡ 10 → size ≡ len + 1) → (get_or pending len 0 ≢ 10 → size ≡ len + 2) → 0 < size
-some pending len size lf cr = elim (cases_Bool (get_or pending len 0 == 10)) as (λ _. 0 < size) [
-  | inl is ↦ let e = lf (eqb-true _ 10 is) in omega (arith, e)
-  | inr other ↦ let e = cr (λ is. let yes = eq-eqb _ 10 is in cc) in omega (arith, e)
-]
+some = grind (arith, nat_tests)
 
 pub give_line-requires : goal.give_line-requires
 give_line-requires g c =
