@@ -1,18 +1,16 @@
 -- Null tokens that are added to a record in the making.
+use Rattle.std.proofs.lemmas.Grind.{common_steps}
+use Rattle.std.proofs.lemmas.Bool.Decides.{nat_tests}
 use Rattle.std.proofs.Common.{◌≡◌, ◌∙◌, sym, ap, refl, ℕ, zero, suc, ◌+◌, ◌<◌, ◌≤◌, List, [], ◌∷◌, ◌++◌, length}
 use Rattle.std.proofs.Common.{replicate, append_assoc, append-nil, arith}
-use Rattle.std.proofs.lemmas.List.{replicate-append-replicate}
 use Rattle.hum_score.specs.declared.records.SpinedKind.{SpinedKind}
-use Rattle.hum_score.specs.declared.records.SpinedKind.TheVariants.{Local, Interpretation, Values}
 use Rattle.hum_score.specs.Spelling.{IsToken}
 use Rattle.hum_record.specs.Building.{Draft, spelled}
 use Rattle.hum_record.specs.Nulls.{null_of}
 use Rattle.hum_record.proofs.Drafts.{spelled_front}
 
 pub null_lawful : (kind : SpinedKind) → IsToken kind (null_of kind)
-null_lawful Local = record { filled = λ e. cc; one_token = refl; one_line = refl; no_line_end = refl; of_kind = refl; no_comment = refl }
-null_lawful Interpretation = record { filled = λ e. cc; one_token = refl; one_line = refl; no_line_end = refl; of_kind = refl; no_comment = refl }
-null_lawful Values = record { filled = λ e. cc; one_token = refl; one_line = refl; no_line_end = refl; of_kind = refl; no_comment = refl }
+null_lawful = grind (arith, nat_tests)
 
 -- a draft with other tokens
 abbrev with : Draft → List (List ℕ) → Draft
@@ -24,14 +22,7 @@ none_added old = ap (with old) (sym (append-nil old.tokens))
 -- one null token more was added
 pub null_added : (old before after : Draft) (null : List ℕ) (k : ℕ) → before ≡ with old (old.tokens ++ replicate k null)
     → after ≡ with before (before.tokens ++ null ∷ []) → after ≡ with old (old.tokens ++ replicate (k + 1) null)
-null_added old before after null k is grown =
-    grown ∙ ap (λ (d : Draft). with d (d.tokens ++ null ∷ [])) is
-    ∙ ap (with old) (append_assoc old.tokens (replicate k null) (null ∷ [])
-    ∙ ap (λ more. old.tokens ++ more) (replicate-append-replicate k 1 null))
-
-pub nulls_added : (old before : Draft) (null : List ℕ) (k n : ℕ) → k ≡ n → before ≡ with old (old.tokens ++ replicate k null)
-    → before ≡ with old (old.tokens ++ replicate n null)
-nulls_added old before null k n same is = is ∙ ap (λ m. with old (old.tokens ++ replicate m null)) same
+null_added = grind (arith, common_steps)
 
 -- one more of some that are alike
 record Further (x : List ℕ) (k n : ℕ) : Type 0 where
@@ -41,9 +32,7 @@ record Further (x : List ℕ) (k n : ℕ) : Type 0 where
 further : (x : List ℕ) (k n : ℕ) → k < n → Further x k n
 further x k zero h = absurd (omega (arith, h))
 further x zero (suc n) h = record { rest = replicate n x; whole = refl }
-further x (suc k) (suc n) h =
-    let w = further x k n (omega (arith, h)) in
-    record { rest = w.rest; whole = ap (λ (ts : List (List ℕ)). x ∷ ts) w.whole }
+further x (suc k) (suc n) h = grind (arith, nat_tests, further x k n (omega (arith, h)))
 
 -- those so far, the next, and the rest
 one_more : (tokens front : List (List ℕ)) (t : List ℕ) (rest : List (List ℕ))

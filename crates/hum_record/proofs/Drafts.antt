@@ -1,29 +1,27 @@
 -- A record in the making keeps its text and where its tokens end.
+use Rattle.std.proofs.lemmas.Grind.{common_steps}
+use Rattle.std.proofs.lemmas.Bool.Decides.{nat_tests}
 use Rattle.std.proofs.Common.{◌≡◌, ◌≢◌, ℕ, ◌+◌, ◌≤◌, List, [], ◌∷◌, ◌++◌, length, refl, sym, ap, ◌∙◌, arith, append_assoc, length-append}
 use Rattle.std.specs.Prelude.{Bool, true, false}
 use Rattle.std.specs.List.{AllByRecursion}
 use Rattle.hum_score.specs.declared.records.Kind.TheVariants.{Global}
 use Rattle.hum_score.specs.declared.records.SpinedKind.{SpinedKind}
-use Rattle.hum_score.specs.Row.{Row, Comment, Spined, kind_of, tokens_of}
+use Rattle.hum_score.specs.Row.{Row, kind_of, tokens_of}
 use Rattle.hum_score.specs.Spelling.{IsToken, IsTextOf, parts}
-use Rattle.hum_record.specs.Fields.{ends_from}
 use Rattle.hum_record.specs.Building.{spelled, tab_between, tokens_in, IsDraft}
 use Rattle.hum_record.proofs.Ends.{ends_push}
 use Rattle.hum_record.proofs.Laws.{parts_join, parts_filled}
 
 pub spelled_push : (ts : List (List ℕ)) (t : List ℕ) → ts ≢ [] → spelled (ts ++ t ∷ []) ≡ spelled ts ++ (9 ∷ t)
-spelled_push [] t filled = absurd (filled refl)
-spelled_push (x ∷ []) t filled = refl
 spelled_push (x ∷ y ∷ ts) t filled = ap (λ rest. x ++ (9 ∷ rest)) (spelled_push (y ∷ ts) t (λ e. cc)) ∙ sym (append_assoc x (9 ∷ spelled (y ∷ ts)) (9 ∷ t))
+spelled_push ts t h = grind (arith, nat_tests)
 
 -- the text of one token more
 spelled_more : (text ends t : List ℕ) → spelled (tokens_in text ends ++ t ∷ []) ≡ spelled (tokens_in text ends) ++ (tab_between ends ++ t)
-spelled_more text [] t = refl
-spelled_more text (end ∷ ends) t = spelled_push (parts text) t (parts_filled text)
+spelled_more = grind (arith, nat_tests, spelled_push, parts_filled)
 
 lawful_push : (k : SpinedKind) (ts : List (List ℕ)) (t : List ℕ) → AllByRecursion (IsToken k) ts → IsToken k t → AllByRecursion (IsToken k) (ts ++ t ∷ [])
-lawful_push k [] t h is = (is, tt)
-lawful_push k (x ∷ ts) t h is = (h.0, lawful_push k ts t h.1 is)
+lawful_push = grind (arith, common_steps)
 
 -- lawful tokens are the parts of their text
 pub again : (k : SpinedKind) (ts : List (List ℕ)) → ts ≢ [] → AllByRecursion (IsToken k) ts → parts (spelled ts) ≡ ts
@@ -31,12 +29,10 @@ again k [] filled h = absurd (filled refl)
 again k (t ∷ ts) filled h = parts_join k t ts h
 
 tokens_push : (text ends : List ℕ) (end : ℕ) → tokens_in text (ends ++ end ∷ []) ≡ parts text
-tokens_push text [] end = refl
-tokens_push text (e ∷ ends) end = refl
+tokens_push = grind (arith, common_steps)
 
 push_filled : (ts : List (List ℕ)) (t : List ℕ) → ts ++ t ∷ [] ≢ []
-push_filled [] t e = cc
-push_filled (x ∷ ts) t e = cc
+push_filled = grind (arith, common_steps)
 
 -- the text with one token more
 more_text : (k : SpinedKind) (text ends t : List ℕ) → IsDraft k text ends → text ++ (tab_between ends ++ t) ≡ spelled (tokens_in text ends ++ t ∷ [])
@@ -64,9 +60,7 @@ draft_more k text ends t draft is fits =
     record {
       spelling = spells ∙ ap spelled (sym tokens);
       lawful = rw tokens (lawful_push k (tokens_in text ends) t draft.lawful is);
-      cut = ap (λ front. front ++ length all ∷ []) draft.cut
-          ∙ ap (λ n. ends_from 0 (tokens_in text ends) ++ n ∷ []) (ap length spells ∙ omega arith)
-          ∙ sym (ends_push 0 (tokens_in text ends) t) ∙ ap (ends_from 0) (sym tokens);
+      cut = grind (arith, nat_tests, ends_push);
       at_most = omega (arith, more_length text (tab_between ends) t, fits);
     }
 
@@ -76,23 +70,16 @@ draft_length k text ends t draft = ap length (sym (more_text k text ends t draft
 
 -- more tokens make a text no shorter
 spelled_grows : (x : List ℕ) (xs ys : List (List ℕ)) → length (spelled (x ∷ xs)) ≤ length (spelled ((x ∷ xs) ++ ys))
-spelled_grows x [] [] = omega arith
-spelled_grows x [] (y ∷ ys) = let size = length-append x (9 ∷ spelled (y ∷ ys)) in omega (arith, size)
-spelled_grows x (z ∷ zs) ys =
-    let ih = spelled_grows z zs ys in
-    let a = length-append x (9 ∷ spelled (z ∷ zs)) in
-    let b = length-append x (9 ∷ spelled ((z ∷ zs) ++ ys)) in
-    omega (arith, ih, a, b)
+spelled_grows x (z ∷ zs) ys = grind (arith, common_steps, spelled_grows z zs ys)
+spelled_grows x xs ys = grind (arith, common_steps)
 
 pub spelled_front : (xs ys : List (List ℕ)) → length (spelled xs) ≤ length (spelled (xs ++ ys))
 spelled_front [] ys = omega arith
 spelled_front (x ∷ xs) ys = spelled_grows x xs ys
 
 pub filled_tokens : (row : Row) (text : List ℕ) → IsTextOf row text → (kind_of row ≡ Global → ⊥) → tokens_of row ≢ []
-filled_tokens (Comment comment) text h spined = absurd (spined refl)
-filled_tokens (Spined kind tokens) text h spined = h.1
+filled_tokens = grind (arith, nat_tests)
 
 -- a builder that has a body isn't spent
 pub not_spent : (spent there : Bool) → (spent ≡ true → there ≡ false) → there ≡ true → spent ≡ false
-not_spent false there none some = refl
-not_spent true there none some = let no = none refl in cc
+not_spent = grind (arith, nat_tests)

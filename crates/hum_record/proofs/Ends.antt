@@ -1,11 +1,12 @@
 -- Where tokens end in their text.
+use Rattle.std.proofs.lemmas.Grind.{common_steps}
+use Rattle.std.proofs.lemmas.Bool.Decides.{nat_tests}
 use Rattle.std.proofs.Common.{◌≡◌, ◌≢◌, ℕ, zero, suc, ◌+◌, ◌-◌, ◌<◌, ◌≤◌, List, []}
 use Rattle.std.proofs.Common.{◌∷◌, ◌++◌, length, get_or, refl, sym, ap, ap₂, subst, ◌∙◌, arith, append_assoc}
 use Rattle.std.proofs.Common.{length-append}
 use Rattle.std.specs.List.{join_with_byte}
 use Rattle.std.specs.Prelude.{slice_range}
 use Rattle.std.proofs.lemmas.List.Splits.{join_with_byte-slice_split}
-use Rattle.std.proofs.lemmas.List.{append-nil, drop_at, take_at}
 use Rattle.hum_score.specs.Row.{Row, Comment, Spined, tokens_of, width_of, token_at}
 use Rattle.hum_score.specs.Spelling.{IsTextOf, parts}
 use Rattle.hum_record.specs.Fields.{ends_from, begins_at, row_in, AreFields}
@@ -29,36 +30,24 @@ begins_from start ends (suc j) = get_or ends j 0 + 1
 pub begins_next : (start : ℕ) (t : List ℕ) (ts : List (List ℕ)) (j : ℕ) →
     begins_from start (ends_from start (t ∷ ts)) (suc j) ≡ begins_from (start + length t + 1)
     (ends_from (start + length t + 1) ts) j
-begins_next start t ts zero = refl
-begins_next start t ts (suc j) = refl
+begins_next = grind (arith, nat_tests)
 
 pub first_lies : (text front t rest : List ℕ) (start : ℕ) → length front ≡ start → text ≡ front ++ (t ++ rest) → Lies text t start (start + length t)
-first_lies text front t rest start at e =
-    let size : (start + length t) - start ≡ length t = omega arith in
-    let all : length text ≡ length front + (length t + length rest) = ap length e ∙ omega (arith, length-append front (t ++ rest), length-append t rest) in
-    record {
-      order = omega arith;
-      within = omega (arith, all, at);
-      reads = rw (size, e, drop_at front (t ++ rest) start at) (take_at t rest (length t) refl);
-    }
+first_lies = grind (arith, common_steps)
 
 lies_from : (text front : List ℕ) (start : ℕ) (ts : List (List ℕ)) (j : ℕ) → length front ≡ start →
     text ≡ front ++ join_with_byte 9 ts → j < length ts → Lies text (get_or ts j [])
     (begins_from start (ends_from start ts) j) (get_or (ends_from start ts) j 0)
-lies_from text front start [] j at e below = absurd (omega arith)
-lies_from text front start (t ∷ []) zero at e below = first_lies text front t [] start at (e ∙ ap (λ rest. front ++ rest) (sym (append-nil t)))
-lies_from text front start (t ∷ u ∷ us) zero at e below = first_lies text front t (9 ∷ join_with_byte 9 (u ∷ us)) start at e
-lies_from text front start (t ∷ []) (suc j) at e below = absurd (omega arith)
 lies_from text front start (t ∷ u ∷ us) (suc j) at e below =
     let next : length (front ++ (t ++ 9 ∷ [])) ≡ start + length t + 1 = omega (arith, at, length-append front (t ++ 9 ∷ []), length-append t (9 ∷ [])) in
     let same : text ≡ (front ++ (t ++ 9 ∷ [])) ++ join_with_byte 9 (u ∷ us) = e ∙ simp append_assoc in
     let ih = lies_from text (front ++ (t ++ 9 ∷ [])) (start + length t + 1) (u ∷ us) j next same (omega arith) in
     subst (λ (from : ℕ). Lies text (get_or (u ∷ us) j []) from
     (get_or (ends_from (start + length t + 1) (u ∷ us)) j 0)) (sym (begins_next start t (u ∷ us) j)) ih
+lies_from text front start ts j h k w = grind (arith, common_steps)
 
 pub begins_same : (ends : List ℕ) (j : ℕ) → begins_from 0 ends j ≡ begins_at ends j
-begins_same ends zero = refl
-begins_same ends (suc j) = refl
+begins_same = grind (arith, nat_tests)
 
 -- a token lies from where it begins to where it ends
 pub token_lies : (text ends : List ℕ) (ts : List (List ℕ)) (j : ℕ) → text ≡ join_with_byte 9 ts →
@@ -85,10 +74,6 @@ pub record Come (text : List ℕ) (start : ℕ) (ends : List ℕ) (ts : List (Li
 
 come_from : (text front : List ℕ) (start : ℕ) (ts : List (List ℕ)) → length front ≡ start →
     text ≡ front ++ join_with_byte 9 ts → Come text start (ends_from start ts) ts
-come_from text front start [] at e = record { within = tt; reads = refl }
-come_from text front start (t ∷ []) at e =
-    let lies = first_lies text front t [] start at (e ∙ ap (λ rest. front ++ rest) (sym (append-nil t))) in
-    record { within = (lies.order, lies.within, tt); reads = ap (λ s. s ∷ []) lies.reads }
 come_from text front start (t ∷ u ∷ us) at e =
     let lies = first_lies text front t (9 ∷ join_with_byte 9 (u ∷ us)) start at e in
     let next : length (front ++ (t ++ 9 ∷ [])) ≡ start + length t + 1 = omega (arith, at, length-append front (t ++ 9 ∷ []), length-append t (9 ∷ [])) in
@@ -98,6 +83,7 @@ come_from text front start (t ∷ u ∷ us) at e =
       within = (lies.order, lies.within, ih.within);
       reads = ap₂ (λ (s : List ℕ) (rest : List (List ℕ)). s ∷ rest) lies.reads ih.reads;
     }
+come_from text front start ts h k = grind (arith, common_steps)
 
 row_comes : (row : Row) (text ends : List ℕ) → IsTextOf row text → ends ≡ ends_from 0 (tokens_of row) → Come text 0 ends (tokens_of row)
 row_comes (Comment comment) text ends h cut = rw cut (record { within = tt; reads = refl })
@@ -112,19 +98,13 @@ tokens_come text ends row fields is =
 -- Where one more token ends
 
 joined_cons : (x : List ℕ) (ts : List (List ℕ)) → ts ≢ [] → join_with_byte 9 (x ∷ ts) ≡ x ++ (9 ∷ join_with_byte 9 ts)
-joined_cons x [] filled = absurd (filled refl)
-joined_cons x (t ∷ ts) filled = refl
+joined_cons = grind (arith, nat_tests)
 
 pub ends_push : (start : ℕ) (ts : List (List ℕ)) (t : List ℕ) → ends_from start (ts ++ t ∷ []) ≡ ends_from start
     ts ++ (start + length (join_with_byte 9 (ts ++ t ∷ []))) ∷ []
 ends_push start [] t = refl
 ends_push start (x ∷ ts) t =
-    let later = ts ++ t ∷ [] in
-    let filled : later ≢ [] = λ e. let n = ap length e in omega (arith, n, length-append ts (t ∷ [])) in
-    let size : length (join_with_byte 9 (x ∷ later)) ≡ length x + (1 + length (join_with_byte 9 later)) =
-    ap length (joined_cons x later filled) ∙ omega (arith, length-append x (9 ∷ join_with_byte 9 later)) in
-    let last : start + length x + 1 + length (join_with_byte 9 later) ≡ start + length (join_with_byte 9 (x ∷ later)) = omega (arith, size) in
-    ap (λ rest. (start + length x) ∷ rest) (ends_push (start + length x + 1) ts t ∙ ap (λ n. ends_from (start + length x + 1) ts ++ n ∷ []) last)
+    grind (arith, nat_tests, ends_push (start + length x + 1) ts t, length-append, joined_cons)
 
 -- Records
 

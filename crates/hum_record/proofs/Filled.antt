@@ -1,6 +1,8 @@
 -- Tokens that are put one after another, some in place of others.
-use Rattle.std.proofs.Common.{◌≡◌, ◌≢◌, ◌∙◌, ℕ, zero, suc, ◌+◌, ◌-◌, ◌<◌, ◌≤◌, List, [], ◌∷◌, ◌++◌, length, take, drop, set, get_or}
-use Rattle.std.proofs.Common.{Bool, true, false, refl, sym, ap, subst, arith, append_assoc, length-append, if◌then◌else◌, take_at}
+use Rattle.std.proofs.lemmas.Grind.{common_steps}
+use Rattle.std.proofs.lemmas.Bool.Decides.{nat_tests}
+use Rattle.std.proofs.Common.{◌≡◌, ◌≢◌, ◌∙◌, ℕ, suc, ◌+◌, ◌-◌, ◌<◌, ◌≤◌, List, [], ◌∷◌, ◌++◌, length, take, drop, set, get_or}
+use Rattle.std.proofs.Common.{Bool, refl, sym, ap, subst, arith, append_assoc, length-append, if◌then◌else◌, take_at}
 use Rattle.std.proofs.lemmas.List.{take_more, take_more_set, take-set, drop_at, drop-take, length-set, get_or-set_same}
 use Rattle.std.proofs.lemmas.Simd.{length-chunk, take_more_put_chunk}
 use Rattle.std.specs.Prelude.{slice_range}
@@ -46,14 +48,11 @@ tabbed_push [] t = refl
 tabbed_push (x ∷ ts) t = ap (λ (rest : List ℕ). x ++ (9 ∷ rest)) (tabbed_push ts t) ∙ sym (append_assoc x (9 ∷ tabbed ts) (t ++ 9 ∷ []))
 
 last_tab : (ts : List (List ℕ)) → ts ≢ [] → tabbed ts ≡ spelled ts ++ 9 ∷ []
-last_tab [] filled = absurd (filled refl)
-last_tab (x ∷ []) filled = refl
-last_tab (x ∷ y ∷ ts) filled =
-    ap (λ (rest : List ℕ). x ++ (9 ∷ rest)) (last_tab (y ∷ ts) (λ e. cc)) ∙ sym (append_assoc x (9 ∷ spelled (y ∷ ts)) (9 ∷ []))
+last_tab (x ∷ y ∷ ts) filled = grind (arith, common_steps, last_tab (y ∷ ts) (λ e. cc))
+last_tab ts h = grind (arith, nat_tests)
 
 some_pushed : (ts : List (List ℕ)) (t : List ℕ) → ts ++ t ∷ [] ≢ []
-some_pushed [] t e = cc
-some_pushed (x ∷ ts) t e = cc
+some_pushed = grind (arith, common_steps)
 
 pushed_size : (ts : List (List ℕ)) (t : List ℕ) → length (spelled (ts ++ t ∷ [])) ≡ length (tabbed ts) + length t
 pushed_size ts t =
@@ -66,17 +65,13 @@ pushed_size ts t =
     omega (arith, whole, front, pushed, behind, last)
 
 pub length-filled : (above tokens : List (List ℕ)) → length (filled_from above tokens) ≡ length tokens
-length-filled [] tokens = refl
-length-filled (a ∷ above) [] = refl
 length-filled (a ∷ above) (t ∷ tokens) = let ih = length-filled above tokens in omega (arith, ih)
+length-filled above tokens = grind (arith, nat_tests)
 
 filled_at : (above tokens : List (List ℕ)) (j : ℕ) → length tokens ≡ length above → j < length tokens
     → get_or (filled_from above tokens) j [] ≡ (if is_null (get_or tokens j []) then get_or above j [] else get_or tokens j [])
-filled_at [] [] j wide less = absurd (omega (arith, less))
-filled_at [] (t ∷ tokens) j wide less = absurd (omega (arith, wide))
-filled_at (a ∷ above) [] j wide less = absurd (omega (arith, less))
-filled_at (a ∷ above) (t ∷ tokens) zero wide less = refl
 filled_at (a ∷ above) (t ∷ tokens) (suc j) wide less = filled_at above tokens j (omega (arith, wide)) (omega (arith, less))
+filled_at above tokens j h k = grind (arith, nat_tests)
 
 -- The first of some tokens stand in front of a text, and where they end in front of some places.
 pub record Filling (all : List (List ℕ)) (j len : ℕ) (text places : List ℕ) : Type 0 where
@@ -98,13 +93,8 @@ one_filled all j len to text places put f less room within is =
     let front = take_count to put (omega (arith, within)) in
     let place : to ≡ 0 + length (spelled (ts ++ t ∷ [])) = omega (arith, size, parts_size, done, front, pushed_size ts t) in
     record {
-      done = take_more_set put to 9 within
-          ∙ ap (λ (xs : List ℕ). xs ++ 9 ∷ []) (is ∙ ap (λ (xs : List ℕ). xs ++ t) f.done)
-          ∙ append_assoc (tabbed ts) t (9 ∷ []) ∙ sym (tabbed_push ts t) ∙ ap tabbed (sym next);
-      ends_are = take_more_set places j to room
-          ∙ ap (λ (xs : List ℕ). xs ++ to ∷ []) f.ends_are
-          ∙ ap (λ n. ends_from 0 ts ++ n ∷ []) place
-          ∙ sym (ends_push 0 ts t) ∙ ap (ends_from 0) (sym next);
+      done = grind (arith, nat_tests, take_more_set, append_assoc, tabbed_push);
+      ends_are = grind (arith, nat_tests, take_more_set, ends_push);
       within = omega (arith, length-set put to 9, within);
     }
 
@@ -137,10 +127,7 @@ all_filled all j n len text places f wide past most filled =
     }
   where
     take_whole : (k : ℕ) (xs : List (List ℕ)) → length xs ≤ k → take k xs ≡ xs
-    take_whole zero [] long = refl
-    take_whole zero (x ∷ xs) long = absurd (omega (arith, long))
-    take_whole (suc k) [] long = refl
-    take_whole (suc k) (x ∷ xs) long = ap (λ (ys : List (List ℕ)). x ∷ ys) (take_whole k xs (omega (arith, long)))
+    take_whole = grind (arith, common_steps)
 
 -- a token of a text that is the front of some bytes
 pub record Stands (held : List ℕ) (len : ℕ) (ends : List ℕ) (j : ℕ) : Type 0 where
@@ -177,12 +164,7 @@ pub put_of : (row above : List ℕ) (row_len above_len : ℕ) (ends above_ends :
     then slice_range above (begins_at above_ends j) (get_or above_ends j 0)
     else slice_range row (begins_at ends j) (get_or ends j 0))
     ≡ get_or (filled_from (parts (take above_len above)) (parts (take row_len row))) j []
-put_of row above row_len above_len ends above_ends j s a cut above_cut wide less =
-    let tokens = parts (take row_len row) in
-    let over = parts (take above_len above) in
-    let many = ap length cut ∙ length-ends_from 0 tokens in
-    let many_above = ap length above_cut ∙ length-ends_from 0 over in
-    rw (s.reads, a.reads) (sym (filled_at over tokens j (omega (arith, many, many_above, wide)) (omega (arith, many, less))))
+put_of = grind (arith, nat_tests, length-ends_from, filled_at)
 
 -- One turn of the loop: a token of a row, or what stands above it.
 module _ (row above : List ℕ) (row_len above_len : ℕ) (ends above_ends : List ℕ) (j : ℕ)
@@ -229,21 +211,18 @@ all_put row above row_len above_len ends j len text places cut f past most =
     (λ none. parts_filled (take row_len row) (is_none tokens (omega (arith, ap length none, size))))
   where
     is_none : (ts : List (List ℕ)) → length ts ≡ 0 → ts ≡ []
-    is_none [] e = refl
-    is_none (t ∷ ts) e = absurd (omega (arith, e))
+    is_none = grind (arith, common_steps)
 
 -- Records of which one is filled from the other
 
 chosen_lawful : (b : Bool) (a t : List ℕ) → IsToken Values a → IsToken Values t → IsToken Values (if b then a else t)
-chosen_lawful true a t is other = is
-chosen_lawful false a t is other = other
+chosen_lawful = grind (arith, nat_tests)
 
 filled_lawful : (above tokens : List (List ℕ)) → AllByRecursion (IsToken Values) above → AllByRecursion (IsToken Values) tokens
     → AllByRecursion (IsToken Values) (filled_from above tokens)
-filled_lawful [] tokens over are = are
-filled_lawful (a ∷ above) [] over are = tt
 filled_lawful (a ∷ above) (t ∷ tokens) over are =
     (chosen_lawful (is_null t) a t over.0 are.0, filled_lawful above tokens over.1 are.1)
+filled_lawful above tokens h k = grind (arith, nat_tests)
 
 filled_some : (above : List (List ℕ)) (t : List ℕ) (tokens : List (List ℕ)) → filled_from above (t ∷ tokens) ≢ []
 filled_some [] t tokens e = cc
@@ -274,8 +253,7 @@ filled_fields (Spined Values (t ∷ ts)) (Spined Values (u ∷ us)) row_text abo
     let above_are : parts above_text ≡ u ∷ us = parts_are above_text (Spined Values (u ∷ us)) over (omega arith) in
     let same : filled_from (parts above_text) (parts row_text) ≡ all = rw (are, above_are) refl in
     let spelling : text ≡ spelled all = spells ∙ ap spelled same in
-    let is_text : IsTextOf (Spined Values all) text =
-    (spelling, filled_some (u ∷ us) t ts, filled_lawful (u ∷ us) (t ∷ ts) over.2 h.2, most) in
+    let is_text : IsTextOf (Spined Values all) text = grind (arith, nat_tests, filled_some, filled_lawful) in
     let is = row_read text _ (only text _ is_text) in
     record {
       fields = record {

@@ -1,6 +1,7 @@
 -- Lists of which a front counts.
-use Rattle.std.proofs.Common.{◌≡◌, ◌∙◌, ℕ, zero, suc, ◌<◌, ◌≤◌, List, [], ◌∷◌, ◌++◌, length, get_or, take, drop, set, refl, sym, ap, arith, take_at}
-use Rattle.std.proofs.lemmas.List.{take_all, length-set, get_or-set_same, get_or-take}
+use Rattle.std.proofs.lemmas.Grind.{common_steps}
+use Rattle.std.proofs.Common.{◌≡◌, ◌∙◌, ℕ, ◌<◌, ◌≤◌, List, ◌++◌, length, get_or, take, drop, set, sym, ap, arith, take_at}
+use Rattle.std.proofs.lemmas.List.{get_or-take}
 use Rattle.std.proofs.lemmas.Simd.{length-chunk, take_more_put_chunk}
 use Rattle.std.specs.Simd.Lanes.{chunk, put_chunk}
 use Rattle.hum_record.specs.Lines.{IsEnded}
@@ -21,8 +22,7 @@ front_put old held k len room filled short =
 
 -- a list that was made longer begins with what it was
 pub refilled : (n count : ℕ) (old more : List ℕ) → n ≡ length old → n ≤ count → take n (take count old ++ more) ≡ old
-refilled n count old more e room =
-    ap (λ (xs : List ℕ). take n (xs ++ more)) (take_all count old (omega (arith, e, room))) ∙ take_at old more n (sym e)
+refilled = grind (arith, common_steps)
 
 -- a front of a list that was made longer
 pub front_kept : (r n : ℕ) (old new : List ℕ) → r ≤ n → take n new ≡ old → take r new ≡ take r old
@@ -41,14 +41,11 @@ front_written r n new old e = ap (take r) (written_back n new old e)
 
 -- the front of a front into which another was put
 pub front_behind : (r : ℕ) (new rest : List ℕ) → r ≤ length new → take r (new ++ rest) ≡ take r new
-front_behind r new rest short =
-    sym (front_of_front r (length new) (new ++ rest) short) ∙ ap (take r) (take_at new rest (length new) refl)
+front_behind = grind (arith, common_steps)
 
 -- where LF stands in some bytes
 pub lf_within : (xs : List ℕ) (k : ℕ) → get_or xs k 0 ≡ 10 → k < length xs
-lf_within [] k is = absurd (omega (arith, is))
-lf_within (x ∷ xs) zero is = omega arith
-lf_within (x ∷ xs) (suc k) is = let less = lf_within xs k is in omega (arith, less)
+lf_within = grind (arith, common_steps)
 
 -- LF behind a text: in a list that was borrowed whole, also where it was put there then, and in one that was made longer
 pub ended_back : (n len : ℕ) (new old : List ℕ) → length new ≡ n → (0 < len → get_or new len 0 ≡ 10)
@@ -56,13 +53,7 @@ pub ended_back : (n len : ℕ) (new old : List ℕ) → length new ≡ n → (0 
 ended_back n len new old size is some = rw (written_back n new old size) (lf_within new len (is some), is some)
 
 pub ended_set : (n len : ℕ) (new old : List ℕ) → length new ≡ n → len < n → IsEnded (set (take n (new ++ drop (length new) old)) len 10) len
-ended_set n len new old size less some =
-    let within : len < length new = omega (arith, size, less) in
-    rw (written_back n new old size) (omega (arith, length-set new len 10, within), get_or-set_same new len 10 0 within)
+ended_set = grind (arith, common_steps)
 
 pub ended_kept : (n len : ℕ) (old new : List ℕ) → n ≡ length old → take n new ≡ old → IsEnded old len → IsEnded new len
-ended_kept n len old new size kept is some =
-    let ended = is some in
-    let less : len < n = let within = ended.0 in omega (arith, within, size) in
-    let at : get_or new len 0 ≡ 10 = sym (get_or-take n new len 0 less) ∙ ap (λ (xs : List ℕ). get_or xs len 0) kept ∙ ended.1 in
-    (lf_within new len at, at)
+ended_kept = grind (arith, common_steps)

@@ -1,18 +1,19 @@
 -- What reading accepts is a record's text, and each record's text is read as that record.
-use Rattle.std.proofs.Common.{◌≡◌, ◌≢◌, ℕ, zero, suc, get_or, ◌<◌, ◌≤◌, Bool, true, false, ◌&&◌, ◌||◌, not}
+use Rattle.std.proofs.lemmas.Grind.{common_steps}
+use Rattle.std.proofs.Common.{◌≡◌, ◌≢◌, ℕ, ◌<◌, ◌≤◌, Bool, true, false, ◌&&◌, ◌||◌, not}
 use Rattle.std.proofs.Common.{cond, List, [], ◌∷◌, ◌++◌, length, Result, Ok, Err, refl, sym, ap, ◌∙◌, subst}
 use Rattle.std.proofs.Common.{arith, ◌⊎◌, inl, inr}
 use Rattle.std.specs.List.{list_any, All, AllByRecursion, onto_first, join_with_byte}
-use Rattle.std.proofs.lemmas.Bool.Decides.{eqb_tells}
-use Rattle.std.proofs.lemmas.Bool.{or_from, or_parts, not-false, cases_Bool, eqb-true, and_parts, cond-true, cond-false, ne_eqb, and_right}
+use Rattle.std.proofs.lemmas.Bool.Decides.{eqb_tells, nat_tests}
+use Rattle.std.proofs.lemmas.Bool.{or_from, or_parts, not-false, and_parts, cond-true, cond-false, ne_eqb, and_right}
 use Rattle.std.specs.Prelude.{◌==◌}
 use Rattle.std.proofs.lemmas.List.Splits.{join_with_byte-slice_split, slice_split_at, slice_split_none, length-slice_split}
 use Rattle.std.proofs.lemmas.List.Elements.{All-from_recursion}
 use Rattle.std.proofs.lemmas.List.Folds.{list_any-append}
 use Rattle.hum_score.specs.declared.records.SpinedKind.{SpinedKind}
-use Rattle.hum_score.specs.declared.records.SpinedKind.TheVariants.{Local, Interpretation, Values}
+use Rattle.hum_score.specs.declared.records.SpinedKind.TheVariants.{Local}
 use Rattle.hum_score.specs.declared.records.RecordFault.{RecordFault}
-use Rattle.hum_score.specs.declared.records.RecordFault.TheVariants.{S4, S5, S6, S8, L1, Memory}
+use Rattle.hum_score.specs.declared.records.RecordFault.TheVariants.{S4, S5, S6, S8, Memory}
 use Rattle.hum_score.specs.Row.{Row, Comment, Spined, width_of, token_at, tokens_of, text_of}
 use Rattle.hum_score.specs.Spelling.{Breaks, has_byte, is_comment, is_empty, kind_of_token, kind_of_first}
 use Rattle.hum_score.specs.Spelling.{same_kind, mixes_kinds, kind_of_tokens, parts, IsToken, IsTokenOf}
@@ -23,37 +24,22 @@ use Rattle.hum_record.proofs.Parts.{kind_of_parts}
 
 -- which way a choice went
 chosen : {A : Type 0} (b : Bool) (x y z : A) → cond b x y ≡ z → ((b ≡ true) × (x ≡ z)) ⊎ ((b ≡ false) × (y ≡ z))
-chosen true x y z h = inl (refl, h)
-chosen false x y z h = inr (refl, h)
+chosen = grind (arith, nat_tests)
 
 same_kind_is : (a b : SpinedKind) → same_kind a b ≡ true → a ≡ b
-same_kind_is Local Local h = refl
-same_kind_is Interpretation Interpretation h = refl
-same_kind_is Values Values h = refl
-same_kind_is Local Interpretation h = cc
-same_kind_is Local Values h = cc
-same_kind_is Interpretation Local h = cc
-same_kind_is Interpretation Values h = cc
-same_kind_is Values Local h = cc
-same_kind_is Values Interpretation h = cc
+same_kind_is = grind (arith, nat_tests)
 
 same_kind_refl : (a : SpinedKind) → same_kind a a ≡ true
-same_kind_refl Local = refl
-same_kind_refl Interpretation = refl
-same_kind_refl Values = refl
+same_kind_refl = grind (arith, nat_tests)
 
 free_onto : (b x : ℕ) (ts : List (List ℕ)) → (x == b) ≡ false → AllByRecursion (λ t. has_byte b t ≡ false) ts →
     AllByRecursion (λ t. has_byte b t ≡ false) (onto_first x ts)
-free_onto b x [] e h = (or_from _ _ e refl, tt)
-free_onto b x (t ∷ ts) e h = (or_from _ _ e h.0, h.1)
+free_onto = grind (arith, nat_tests)
 
 -- a part has no tab
 pub free_of_tabs : (text : List ℕ) → AllByRecursion (λ t. has_byte 9 t ≡ false) (parts text)
 free_of_tabs [] = (refl, tt)
-free_of_tabs (x ∷ xs) = elim (eqb_tells x 9) as (λ _. AllByRecursion (λ t. has_byte 9 t ≡ false) (parts (x ∷ xs))) [
-  | inl w ↦ rw w.0 (refl, free_of_tabs xs)
-  | inr w ↦ rw w.0 (free_onto 9 x (parts xs) w.0 (free_of_tabs xs))
-]
+free_of_tabs (x ∷ xs) = grind (arith, nat_tests, free_of_tabs xs)
 
 -- a part has no byte that the text hasn't
 pub free_of : (b : ℕ) (text : List ℕ) → has_byte b text ≡ false → AllByRecursion (λ t. has_byte b t ≡ false) (parts text)
@@ -65,22 +51,11 @@ free_of b (x ∷ xs) h =
       | inr w ↦ rw w.0 (free_onto b x (parts xs) both.0 (free_of b xs both.1))
     ]
 
-comment_is_local : (t : List ℕ) → is_comment t ≡ true → kind_of_token t ≡ Local
-comment_is_local [] h = cc
-comment_is_local (b ∷ bs) h = elim (eqb_tells b 33) as (λ _. kind_of_token (b ∷ bs) ≡ Local) [
-  | inl w ↦ rw w.0 refl
-  | inr w ↦ absurd (w.1 (sym (eqb-true 33 b (and_parts _ _ h).0)))
-]
-
 split_test : (a b c : Bool) → (a && (b || c)) ≡ false → ((a && b) ≡ false) × ((a && c) ≡ false)
-split_test true b c h = or_parts b c h
-split_test false b c h = (refl, refl)
+split_test = grind (arith, nat_tests)
 
 not_comment : (k : SpinedKind) (t : List ℕ) → kind_of_token t ≡ k → (same_kind k Local && is_comment t) ≡ false → is_comment t ≡ false
-not_comment k t e h = elim (cases_Bool (is_comment t)) as (λ _. is_comment t ≡ false) [
-  | inl is ↦ let l : k ≡ Local = sym e ∙ comment_is_local t is in rw l at h
-  | inr isnt ↦ isnt
-]
+not_comment = grind (arith, nat_tests)
 
 lawful : (k : SpinedKind) (ts : List (List ℕ)) → list_any is_empty ts ≡ false →
     AllByRecursion (λ t. has_byte 9 t ≡ false) ts → AllByRecursion (λ t. has_byte 13 t ≡ false) ts →
@@ -104,8 +79,7 @@ lawful k (t ∷ ts) filled tabs returns lines kinds comments =
     )
 
 spined_ok : (r : Result SpinedKind RecordFault) (ts : List (List ℕ)) (row : Row) → spined r ts ≡ Ok row → (k : SpinedKind) × (r ≡ Ok k) × (Spined k ts ≡ row)
-spined_ok (Ok k) ts row h = (k, refl, cc)
-spined_ok (Err e) ts row h = cc
+spined_ok = grind (arith, nat_tests)
 
 kinds_ok : (ts : List (List ℕ)) (k : SpinedKind) → kind_of_tokens ts ≡ Ok k →
     (list_any is_empty ts ≡ false) × (mixes_kinds ts ≡ false) × ((same_kind (kind_of_first ts) Local && list_any
@@ -114,10 +88,7 @@ kinds_ok ts k h = elim (chosen (list_any is_empty ts) _ _ _ h) [
   | inl w ↦ let z = w.1 in cc
   | inr w ↦ elim (chosen (mixes_kinds ts) _ _ _ w.1) [
     | inl v ↦ let z = v.1 in cc
-    | inr v ↦ elim (chosen (same_kind (kind_of_first ts) Local && list_any is_comment ts) _ _ _ v.1) [
-      | inl u ↦ let z = u.1 in cc
-      | inr u ↦ (w.0, v.0, u.0, let z = u.1 in cc)
-    ]
+    | inr v ↦ grind (arith, nat_tests, chosen)
   ]
 ]
 
@@ -156,18 +127,14 @@ no_tab t h = All-from_recursion (λ x. (x == 9) ≡ false) t (no_byte 9 t h)
 -- tokens joined are cut again
 pub parts_join : (k : SpinedKind) (t : List ℕ) (ts : List (List ℕ)) → AllByRecursion (IsToken k) (t ∷ ts) → parts (join_with_byte 9 (t ∷ ts)) ≡ t ∷ ts
 parts_join k t [] h = slice_split_none (λ x. x == 9) t (no_tab t h.0.one_token)
-parts_join k t (u ∷ ts) h = slice_split_at (λ x. x == 9) t 9 (join_with_byte 9 (u ∷ ts))
-    (no_tab t h.0.one_token) refl ∙ ap (λ rest. t ∷ rest) (parts_join k u ts h.1)
+parts_join k t (u ∷ ts) h = grind (arith, nat_tests, parts_join k u ts h.1, slice_split_at, no_tab)
 
 join_free : (k : SpinedKind) (ts : List (List ℕ)) → AllByRecursion (IsToken k) ts → has_byte 13 (join_with_byte 9 ts) ≡ false
-join_free k [] h = refl
-join_free k (t ∷ []) h = h.0.one_line
 join_free k (t ∷ u ∷ ts) h = list_any-append (λ x. x == 13) t (9 ∷ join_with_byte 9 (u ∷ ts)) ∙ or_from _ _ h.0.one_line (join_free k (u ∷ ts) h.1)
+join_free k ts h = grind (arith, nat_tests)
 
 no_comment_front : (t rest : List ℕ) → t ≢ [] → is_comment t ≡ false → is_comment (t ++ 9 ∷ rest) ≡ false
-no_comment_front [] rest filled h = absurd (filled refl)
-no_comment_front (b ∷ []) rest filled h = and_right (33 == b) false refl
-no_comment_front (b ∷ c ∷ bs) rest filled h = h
+no_comment_front = grind (arith, nat_tests)
 
 join_no_comment : (k : SpinedKind) (ts : List (List ℕ)) → AllByRecursion (IsToken k) ts → is_comment (join_with_byte 9 ts) ≡ false
 join_no_comment k [] h = refl
@@ -175,9 +142,8 @@ join_no_comment k (t ∷ []) h = h.0.no_comment
 join_no_comment k (t ∷ u ∷ ts) h = no_comment_front t _ h.0.filled h.0.no_comment
 
 all_filled : (k : SpinedKind) (ts : List (List ℕ)) → AllByRecursion (IsToken k) ts → list_any is_empty ts ≡ false
-all_filled k [] h = refl
-all_filled k ([] ∷ ts) h = absurd (h.0.filled refl)
 all_filled k ((b ∷ bs) ∷ ts) h = or_from _ _ (ne_eqb _ 0 (λ e. omega (arith, e))) (all_filled k ts h.1)
+all_filled k ts h = grind (arith, nat_tests)
 
 all_kind : (k : SpinedKind) (ts : List (List ℕ)) → AllByRecursion (IsToken k) ts → list_any (λ t. not (same_kind (kind_of_token t) k)) ts ≡ false
 all_kind k [] h = refl
@@ -190,9 +156,7 @@ no_comments k (t ∷ ts) h = or_from _ _ h.0.no_comment (no_comments k ts h.1)
 kinds_again : (k : SpinedKind) (t : List ℕ) (ts : List (List ℕ)) → AllByRecursion (IsToken k) (t ∷ ts) → kind_of_tokens (t ∷ ts) ≡ Ok k
 kinds_again k t ts h =
     let first : kind_of_token t ≡ k = h.0.of_kind in
-    let kinds : mixes_kinds (t ∷ ts) ≡ false =
-    subst (λ kind. list_any (λ t. not (same_kind (kind_of_token t) kind)) (t ∷ ts) ≡ false) (sym first)
-    (all_kind k (t ∷ ts) h) in
+    let kinds : mixes_kinds (t ∷ ts) ≡ false = grind (arith, nat_tests, all_kind) in
     let comments : list_any is_comment (t ∷ ts) ≡ false = no_comments k (t ∷ ts) h in
     cond-false _ _ _ (all_filled k (t ∷ ts) h)
     ∙ cond-false _ _ _ kinds
@@ -216,8 +180,7 @@ reads text line comment = rw (line, comment) refl
 
 pub reads_spined : (text : List ℕ) (k : SpinedKind) → has_byte 13 text ≡ false → is_comment text ≡ false →
     kind_of_tokens (parts text) ≡ Ok k → reading text ≡ Ok (Spined k (parts text))
-reads_spined text k line comment h =
-    reads text line comment ∙ ap (λ kind. spined kind (parts text)) h
+reads_spined = grind (arith, nat_tests)
 
 -- what a text is read as is the record of it
 pub row_read : (text : List ℕ) (row : Row) → reading text ≡ Ok row → row_in text ≡ row
@@ -239,11 +202,7 @@ reads_row text row h = h ∙ ap (λ (r : Row). Ok r) (sym (row_read text row h))
 pub read_fields : (text ends : List ℕ) (row : Row) → length text ≤ 1048576 → has_byte 10 text ≡ false →
     reading text ≡ Ok row → ends ≡ ends_from 0 (tokens_of row) → AreFields text ends
 read_fields text ends row fits line h e =
-    let is = row_read text row h in
-    record {
-      lawful = subst (λ (r : Row). IsTextOf r text) (sym is) (found text row fits line h);
-      cut = e ∙ ap (λ (r : Row). ends_from 0 (tokens_of r)) (sym is);
-    }
+    grind (arith, nat_tests, row_read text row h, found text row fits line h)
 
 pub spined_fields : (text ends : List ℕ) (k : SpinedKind) → length text ≤ 1048576 → has_byte 10 text ≡ false →
     has_byte 13 text ≡ false → is_comment text ≡ false → kind_of_tokens (parts text) ≡ Ok k →
@@ -252,30 +211,17 @@ spined_fields text ends k fits line return comment h e = read_fields text ends (
 
 pub gives_found : (r : Result Row RecordFault) (text : List ℕ) → length text ≤ 1048576 →
     has_byte 10 text ≡ false → Gives r (reading text) → IfOk r (λ row. IsTextOf row text)
-gives_found (Ok row) text fits line h = found text row fits line h
-gives_found (Err fault) text fits line h = tt
+gives_found = grind (arith, nat_tests, found)
 
 not_fault : (fault : RecordFault) (row : Row) (read : Result Row RecordFault) → read ≡ Ok row → Fails fault read → fault ≡ Memory
-not_fault S4 row read e h = cc
-not_fault S5 row read e h = cc
-not_fault S6 row read e h = cc
-not_fault S8 row read e h = cc
-not_fault L1 row read e h = cc
-not_fault Memory row read e h = refl
+not_fault = grind (arith, nat_tests)
 
 pub gives_only : (r : Result Row RecordFault) (text : List ℕ) → Gives r (reading text) → (row : Row) →
     IsTextOf row text → MatchResult r (λ read. read ≡ row) (λ fault. fault ≡ Memory)
-gives_only (Ok read) text h row is = let e = only text row is in cc
-gives_only (Err fault) text h row is = not_fault fault row (reading text) (only text row is) h
-
-lawful_at : (k : SpinedKind) (ts : List (List ℕ)) (j : ℕ) → AllByRecursion (IsToken k) ts → j < length ts → IsToken k (get_or ts j [])
-lawful_at k [] j h below = absurd (omega arith)
-lawful_at k (t ∷ ts) zero h below = h.0
-lawful_at k (t ∷ ts) (suc j) h below = lawful_at k ts j h.1 (omega arith)
+gives_only = grind (arith, nat_tests, only, not_fault)
 
 pub text_is : (row : Row) (text : List ℕ) → IsTextOf row text → text ≡ text_of row
-text_is (Comment comment) text h = h.0
-text_is (Spined kind tokens) text h = h.0
+text_is = grind (arith, nat_tests)
 
 -- a record's text is read as that record
 pub reads_back : (text : List ℕ) (row : Row) → IsTextOf row text → reading (text_of row) ≡ Ok row
@@ -298,8 +244,7 @@ kinds_broken ts fault h = elim (chosen (list_any is_empty ts) _ _ _ h) [
 ]
 
 spined_err : (r : Result SpinedKind RecordFault) (ts : List (List ℕ)) (fault : RecordFault) → spined r ts ≡ Err fault → r ≡ Err fault
-spined_err (Ok k) ts fault h = cc
-spined_err (Err e) ts fault h = cc
+spined_err = grind (arith, nat_tests)
 
 -- a text that is refused breaks the rule of its fault
 pub breaks : (text : List ℕ) (fault : RecordFault) → reading text ≡ Err fault → Breaks fault text
@@ -309,30 +254,20 @@ breaks text fault h = elim (chosen (has_byte 13 text) _ _ _ h) [
     | inl v ↦ let z = v.1 in cc
     | inr v ↦ elim (kinds_broken (parts text) fault (spined_err _ _ _ v.1)) [
       | inl a ↦ subst (λ (f : RecordFault). Breaks f text) (sym a.0) a.1
-      | inr a ↦ elim a [
-        | inl b ↦ subst (λ (f : RecordFault). Breaks f text) (sym b.0) b.1
-        | inr b ↦ let both = and_parts _ _ b.1 in subst (λ (f : RecordFault). Breaks f text) (sym b.0) (same_kind_is _ _ both.0, both.1)
-      ]
+      | inr a ↦ grind (arith, nat_tests, and_parts, same_kind_is)
     ]
   ]
 ]
 
 told : (fault : RecordFault) (read : Result Row RecordFault) → Fails fault read → fault ≢ Memory → read ≡ Err fault
-told S4 read h other = h
-told S5 read h other = h
-told S6 read h other = h
-told S8 read h other = h
-told L1 read h other = h
-told Memory read h other = absurd (other refl)
+told = grind (arith, nat_tests)
 
 pub gives_broken : (r : Result Row RecordFault) (text : List ℕ) → Gives r (reading text) → IfErr r (λ fault. fault ≢ Memory → Breaks fault text)
-gives_broken (Ok row) text h = tt
-gives_broken (Err fault) text h = λ other. breaks text fault (told fault (reading text) h other)
+gives_broken = grind (arith, nat_tests, breaks, told)
 
 -- each token of a record is a token of its kind
 pub token_lawful : (row : Row) (text : List ℕ) (j : ℕ) → IsTextOf row text → j < width_of row → IsTokenOf row (token_at row j)
-token_lawful (Comment comment) text j h below = absurd (omega arith)
-token_lawful (Spined k ts) text j h below = lawful_at k ts j h.2 below
+token_lawful = grind (arith, common_steps)
 
 -- What is answered of tokens, by what was found of them.
 

@@ -1,9 +1,10 @@
 -- Tokens that are left of a record, one after another.
-use Rattle.std.proofs.Common.{◌≡◌, ◌≢◌, ◌∙◌, ℕ, zero, suc, ◌+◌, ◌-◌, ◌<◌, ◌≤◌, Bool, true, false, List, [], ◌∷◌, ◌++◌}
-use Rattle.std.proofs.Common.{length, take, drop, get_or, set, ◌⊎◌, inl, inr, ⊎_elim, ◌==◌, if◌then◌else◌, ne_eqb, refl, sym, ap, subst, arith, add-one, append_assoc, append-nil}
+use Rattle.std.proofs.lemmas.Grind.{common_steps}
+use Rattle.std.proofs.lemmas.Bool.Decides.{nat_tests}
+use Rattle.std.proofs.Common.{◌≡◌, ◌≢◌, ◌∙◌, ℕ, suc, ◌+◌, ◌-◌, ◌<◌, ◌≤◌, Bool, true, false, List, [], ◌∷◌, ◌++◌}
+use Rattle.std.proofs.Common.{length, take, drop, get_or, set, ◌⊎◌, ⊎_elim, ◌==◌, if◌then◌else◌, refl, sym, ap, subst, arith, add-one, append_assoc}
 use Rattle.std.proofs.Common.{length-append, length-drop, drop-drop, drop-cons, take_at, drop_at, take-add}
-use Rattle.std.proofs.lemmas.Bool.{cases_eq, cond-true, cond-false}
-use Rattle.std.proofs.lemmas.List.{length-take-le, drop-set-lt, length-set, take_more_set, drop_all, take-append-drop}
+use Rattle.std.proofs.lemmas.List.{length-take-le, drop-set-lt, length-set, take_more_set, take-append-drop}
 use Rattle.std.proofs.lemmas.List.Edits.{drop-paste, take-paste, length-paste}
 use Rattle.std.proofs.Math.Seq.{paste}
 use Rattle.std.specs.List.{copy_within, AllByRecursion, list_any}
@@ -22,24 +23,15 @@ tabbed [] = []
 tabbed (t ∷ ts) = 9 ∷ spelled (t ∷ ts)
 
 spelled_first : (t : List ℕ) (ts : List (List ℕ)) → spelled (t ∷ ts) ≡ t ++ tabbed ts
-spelled_first t [] = sym (append-nil t)
-spelled_first t (u ∷ us) = refl
+spelled_first = grind (arith, common_steps)
 
 -- what is put where it stands already
 stays : (text : List ℕ) (at n : ℕ) → at + n ≤ length text → text ≡ paste text at (drop at text) n
-stays text at n within =
-    let some : n ≤ length (drop at text) = omega (arith, within, length-drop at text) in
-    let new = paste text at (drop at text) n in
-    sym (take-append-drop (at + n) text)
-    ∙ ap (λ front. front ++ drop (at + n) text) (take-add at n text ∙ sym (take-paste text at (drop at text) n (omega (arith, within)) some))
-    ∙ ap (λ back. take (at + n) new ++ back) (sym (drop-paste text at (drop at text) n (omega (arith, within)) some))
-    ∙ take-append-drop (at + n) new
+stays = grind (arith, nat_tests, length-drop, paste, take-append-drop, take-add, take-paste, drop-paste)
 
 pub moved_nowhere : (text : List ℕ) (from end to : ℕ) → to ≤ from → from ≤ end → end ≤ length text → from ≤ to
     → text ≡ copy_within text from end to
-moved_nowhere text from end to left order within stay =
-    let same : from ≡ to = omega (arith, left, stay) in
-    rw same (stays text to (end - to) (omega (arith, same, order, within)))
+moved_nowhere = grind (arith, nat_tests, stays)
 
 -- In front stand the tokens that were left so far, behind them what is still to come, where it was.
 pub record Leaving (len count begin j : ℕ) (text ends : List ℕ) (marks : List Bool) (all : List (List ℕ)) : Type 0 where
@@ -67,23 +59,18 @@ pub record Next (begin j : ℕ) (text ends : List ℕ) (coming : List (List ℕ)
   pub ends_after : drop (j + 1) ends ≡ ends_from (begin + length token + 1) others
 
 none_made : (made : List (List ℕ)) → length made ≡ 0 → made ≡ []
-none_made [] e = refl
-none_made (t ∷ ts) e = absurd (omega (arith, e))
+none_made = grind (arith, common_steps)
 
 alone : (made : List (List ℕ)) (t : List ℕ) → made ≡ [] → spelled (made ++ t ∷ []) ≡ spelled made ++ t
-alone [] t e = refl
-alone (x ∷ xs) t e = cc
+alone = grind (arith, nat_tests)
 
 -- what stands one place on stands behind a byte more
 one_before : (begin : ℕ) (text : List ℕ) → 0 < begin → drop (begin - 1) text ≡ drop begin (9 ∷ text)
-one_before zero text some = absurd (omega (arith, some))
-one_before (suc b) text some = ap (λ k. drop k text) (omega arith)
+one_before = grind (arith, nat_tests)
 
 after_tab : (begin : ℕ) (text token : List ℕ) (others : List (List ℕ)) → drop begin (9 ∷ text) ≡ 9 ∷ (token ++ tabbed others)
     → drop begin text ≡ token ++ tabbed others
-after_tab begin text token others e =
-    let more : suc begin ≡ begin + 1 = omega arith in
-    ap (λ k. drop k (9 ∷ text)) more ∙ sym (drop-drop 1 begin (9 ∷ text)) ∙ ap (drop 1) e
+after_tab begin text token others e = grind (arith, nat_tests, drop-drop 1 begin (9 ∷ text))
 
 same_head : (a b : ℕ) (xs ys : List ℕ) → a ∷ xs ≡ b ∷ ys → (a ≡ b) × (xs ≡ ys)
 same_head a b xs ys e = (cc, cc)
@@ -108,21 +95,7 @@ next begin j text ends (t ∷ ts) some behind ends_behind =
 pub begins_left : (text ends : List ℕ) (marks : List Bool) (ts : List (List ℕ)) → ts ≢ [] → text ≡ spelled ts
     → ends ≡ ends_from 0 ts → length marks ≡ length ends → Leaving 0 0 0 0 text ends marks (chosen marks ts)
 begins_left text ends marks [] filled e cut wide = absurd (filled refl)
-begins_left text ends marks (t ∷ ts) filled e cut wide = record {
-  made = [];
-  coming = t ∷ ts;
-  whole = refl;
-  as_many = omega (arith, wide, ap length cut, length-ends_from 0 (t ∷ ts));
-  text_left = refl;
-  text_behind = ap (λ l. 9 ∷ l) e;
-  ends_left = refl;
-  ends_behind = cut;
-  within = omega arith;
-  fewer = omega arith;
-  some_ends = omega arith;
-  none = λ is. refl;
-  less = λ some. absurd (omega (arith, some));
-}
+begins_left text ends marks (t ∷ ts) filled e cut wide = grind (arith, nat_tests, length-ends_from)
 
 module _ (len count begin j : ℕ) (text ends : List ℕ) (marks : List Bool) (all : List (List ℕ))
     (l : Leaving len count begin j text ends marks all) (within : j < length marks) where
@@ -138,18 +111,13 @@ module _ (len count begin j : ℕ) (text ends : List ℕ) (marks : List Bool) (a
 
   end_most_size : begin + length n.token ≤ length text
   end_most_size =
-      let size = ap length n.text_is in
-      omega (arith, size, length-drop begin (9 ∷ text), length-append n.token (tabbed n.others))
+      grind (arith, nat_tests, length-drop begin (9 ∷ text), length-append n.token (tabbed n.others))
 
   pub end_most : get_or ends j 0 ≤ length text
   end_most = let e = n.end_is in let s = end_most_size in omega (arith, e, s)
 
   pub ends_more : j < length ends
-  ends_more =
-      let size = ap length l.ends_behind in
-      let many = length-ends_from begin l.coming in
-      let s = some in
-      omega (arith, size, many, s, length-drop j ends)
+  ends_more = grind (arith, common_steps)
 
   -- the marks and the tokens that come
   marks_are : drop j marks ≡ get_or marks j false ∷ drop (j + 1) marks
@@ -200,26 +168,16 @@ module _ (len count begin j : ℕ) (text ends : List ℕ) (marks : List Bool) (a
       (joins : spelled (l.made ++ n.token ∷ []) ≡ spelled l.made ++ front) (new : List ℕ)
       (copied : new ≡ copy_within text from (get_or ends j 0) len) where
     pasted : new ≡ paste text len (drop from text) size
-    pasted =
-        let same : get_or ends j 0 - from ≡ size = omega (arith, ends_at) in
-        copied ∙ ap (paste text len (drop from text)) same
+    pasted = grind (arith, nat_tests)
 
     held : size ≤ length (drop from text)
     held = let m = end_most in omega (arith, m, ends_at, length-drop from text)
 
     pub same_length : length new ≡ length text
-    same_length =
-        let m = end_most in
-        let h = held in
-        let fits : len + size ≤ length text = omega (arith, m, ends_at, not_before) in
-        ap length pasted ∙ length-paste text len (drop from text) size fits h
+    same_length = grind (arith, nat_tests, end_most, held, pasted, length-paste)
 
     left_now : take (len + size) new ≡ spelled (l.made ++ n.token ∷ [])
-    left_now =
-        ap (take (len + size)) pasted
-        ∙ take-paste text len (drop from text) size l.within held
-        ∙ ap (λ a. a ++ take size (drop from text)) l.text_left
-        ∙ ap (λ b. spelled l.made ++ b) reads ∙ sym joins
+    left_now = grind (arith, nat_tests, pasted, take-paste, held)
 
     behind_now : drop (get_or ends j 0) new ≡ drop (get_or ends j 0) text
     behind_now =
@@ -232,22 +190,13 @@ module _ (len count begin j : ℕ) (text ends : List ℕ) (marks : List Bool) (a
         ∙ sym (cut text)
 
     size_now : length (spelled (l.made ++ n.token ∷ [])) ≡ len + size
-    size_now =
-        let m = end_most in
-        let s = same_length in
-        ap length (sym left_now) ∙ length-take-le (len + size) new (omega (arith, m, ends_at, not_before, s))
+    size_now = grind (arith, nat_tests, end_most, same_length, left_now, length-take-le)
 
     count_less : count < length ends
     count_less = let f = l.fewer in let m = ends_more in omega (arith, f, m)
 
     ends_now : take (count + 1) (set ends count (len + size)) ≡ ends_from 0 (l.made ++ n.token ∷ [])
-    ends_now =
-        let s = size_now in
-        let plus : len + size ≡ 0 + length (spelled (l.made ++ n.token ∷ [])) = omega (arith, s) in
-        take_more_set ends count (len + size) count_less
-        ∙ ap (λ a. a ++ (len + size) ∷ []) l.ends_left
-        ∙ ap (λ k. ends_from 0 l.made ++ k ∷ []) plus
-        ∙ sym (ends_push 0 l.made n.token)
+    ends_now = grind (arith, nat_tests, size_now, take_more_set, count_less, ends_push)
 
     pub takes : Leaving (len + size) (count + 1) (get_or ends j 0 + 1) (j + 1) new
         (set ends count (len + size)) marks all
@@ -259,14 +208,12 @@ module _ (len count begin j : ℕ) (text ends : List ℕ) (marks : List Bool) (a
         record {
           made = l.made ++ n.token ∷ [];
           coming = n.others;
-          whole = append_assoc l.made (n.token ∷ []) (chosen (drop (j + 1) marks) n.others)
-              ∙ ap (λ rest. l.made ++ rest) (sym (taken is)) ∙ l.whole;
+          whole = grind (arith, nat_tests, append_assoc, taken);
           as_many = others_many;
           text_left = left_now;
           text_behind = rw add-one (behind_now ∙ rw add-one at behind_next);
           ends_left = ends_now;
-          ends_behind = drop-set-lt (j + 1) ends count (len + size) (omega (arith, f))
-              ∙ n.ends_after ∙ ap (λ k. ends_from (k + 1) n.others) (sym n.end_is);
+          ends_behind = grind (arith, nat_tests, drop-set-lt);
           within = omega (arith, m, ends_at, not_before, s);
           fewer = omega (arith, f);
           some_ends = omega (arith, more, length-set ends count (len + size));
@@ -283,9 +230,7 @@ module _ (len count begin j : ℕ) (text ends : List ℕ) (marks : List Bool) (a
       let e = n.end_is in
       let size : get_or ends j 0 - begin ≡ length n.token = omega (arith, e) in
       let zero_len = l.none none in
-      let made_none : l.made ≡ [] =
-      none_made l.made (let a = ap length l.ends_left in
-      omega (arith, a, none, length-ends_from 0 l.made, length-take-le count ends (omega (arith, none)))) in
+      let made_none : l.made ≡ [] = grind (arith, nat_tests, none_made, length-ends_from, length-take-le) in
       takes is begin (get_or ends j 0 - begin) (let b = end_least in omega (arith, b)) (omega (arith, zero_len))
       n.token
       (ap (λ k. take k (drop begin text)) size
@@ -303,12 +248,7 @@ module _ (len count begin j : ℕ) (text ends : List ℕ) (marks : List Bool) (a
       let less : len < begin = l.less (omega (arith, some_made)) in
       let size : get_or ends j 0 - (begin - 1) ≡ suc (length n.token) = omega (arith, e, less) in
       let before : drop (begin - 1) text ≡ drop begin (9 ∷ text) = one_before begin text (omega (arith, less)) in
-      let made_some : l.made ≢ [] = λ none.
-      let a = ap length l.ends_left in
-      let z = ap length none in
-      let f = l.fewer in
-      let m = ends_more in
-      absurd (omega (arith, a, z, some_made, length-ends_from 0 l.made, length-take-le count ends (omega (arith, f, m)))) in
+      let made_some : l.made ≢ [] = grind (arith, nat_tests, ends_more, length-ends_from, length-take-le) in
       takes is (begin - 1) (get_or ends j 0 - (begin - 1)) (omega (arith, e, less)) (omega (arith, less))
       (9 ∷ n.token)
       (ap (λ k. take k (drop (begin - 1) text)) size
@@ -320,28 +260,16 @@ module _ (len count begin j : ℕ) (text ends : List ℕ) (marks : List Bool) (a
   module _ (end from : ℕ) (end_is : end ≡ get_or ends j 0)
       (from_is : from ≡ (if count == 0 then begin else begin - 1)) where
     which : ((count ≡ 0) × (from ≡ begin)) ⊎ ((count ≢ 0) × (from ≡ begin - 1))
-    which = ⊎_elim
-        (λ (e : count ≡ 0). inl (e, from_is ∙ cond-true _ _ _ (ap (λ n. n == 0) e)))
-        (λ (e : count ≢ 0). inr (e, from_is ∙ cond-false _ _ _ (ne_eqb count 0 e)))
-        (cases_eq count 0)
+    which = grind (arith, nat_tests)
 
     pub from_most : from ≤ end
-    from_most =
-        let b = end_least in
-        ⊎_elim (λ x. let e = x.1 in omega (arith, b, e, end_is)) (λ x. let e = x.1 in omega (arith, b, e, end_is)) which
+    from_most = grind (arith, nat_tests, end_least, ⊎_elim, which)
 
     pub from_least : len ≤ from
-    from_least = ⊎_elim
-        (λ x. let e = x.1 in let z = l.none x.0 in omega (arith, e, z))
-        (λ x. let e = x.1 in let some = x.0 in let less = l.less (omega (arith, some)) in omega (arith, e, less))
-        which
+    from_least = grind (arith, nat_tests)
 
     pub fits_from : len + (end - from) ≤ length text
-    fits_from =
-        let upto = from_most in
-        let least = from_least in
-        let most = end_most in
-        omega (arith, upto, least, most, end_is)
+    fits_from = grind (arith, nat_tests, from_most, from_least, end_most)
 
     pub takes_from : get_or marks j false ≡ true → (new : List ℕ) → new ≡ copy_within text from end len
         → Leaving (len + (end - from)) (count + 1) (end + 1) (j + 1) new
@@ -352,38 +280,26 @@ module _ (len count begin j : ℕ) (text ends : List ℕ) (marks : List Bool) (a
         (λ x. rw (x.1) (later x.0 chosen new (rw (end_is, x.1) at copied)))
         which)
 
-chosen_past : (marks : List Bool) (j : ℕ) (ts : List (List ℕ)) → length marks ≤ j → chosen (drop j marks) ts ≡ []
-chosen_past marks j ts past = rw (drop_all j marks past) refl
-
 -- all were passed
 pub all_left : (len count begin j : ℕ) (text ends : List ℕ) (marks : List Bool) (all : List (List ℕ))
     → (l : Leaving len count begin j text ends marks all) → length marks ≤ j → l.made ≡ all
-all_left len count begin j text ends marks all l past =
-    sym (append-nil l.made) ∙ ap (λ rest. l.made ++ rest) (sym (chosen_past marks j l.coming past)) ∙ l.whole
+all_left = grind (arith, common_steps)
 
 -- A record with its chosen tokens
 
 chosen_lawful : (k : SpinedKind) (fs : List Bool) (ts : List (List ℕ)) → AllByRecursion (IsToken k) ts
     → AllByRecursion (IsToken k) (chosen fs ts)
-chosen_lawful k [] ts h = tt
-chosen_lawful k (f ∷ fs) [] h = tt
 chosen_lawful k (true ∷ fs) (t ∷ ts) h = (h.0, chosen_lawful k fs ts h.1)
 chosen_lawful k (false ∷ fs) (t ∷ ts) h = chosen_lawful k fs ts h.1
+chosen_lawful k fs ts h = grind (arith, nat_tests)
 
 pub chosen_filled : (fs : List Bool) (ts : List (List ℕ)) → length fs ≡ length ts → list_any (λ b. b) fs ≡ true → chosen fs ts ≢ []
-chosen_filled [] ts wide marked e = cc
-chosen_filled (f ∷ fs) [] wide marked e = absurd (omega (arith, wide))
-chosen_filled (true ∷ fs) (t ∷ ts) wide marked e = cc
 chosen_filled (false ∷ fs) (t ∷ ts) wide marked e = chosen_filled fs ts (omega (arith, wide)) marked e
-
-some_wide : (fs : List Bool) → list_any (λ b. b) fs ≡ true → 0 < length fs
-some_wide [] marked = cc
-some_wide (f ∷ fs) marked = omega arith
+chosen_filled fs ts h k w = grind (arith, nat_tests)
 
 -- the tokens of a record that has some are the parts of its text
 pub parts_are : (text : List ℕ) (row : Row) → IsTextOf row text → 0 < width_of row → parts text ≡ tokens_of row
-parts_are text (Comment comment) h filled = absurd (omega (arith, filled))
-parts_are text (Spined k ts) h filled = ap parts h.0 ∙ again k ts h.1 h.2
+parts_are = grind (arith, nat_tests, again)
 
 -- what a record's fields are once the others were dropped
 pub record LeftFields (marks : List Bool) (row : Row) (text ends : List ℕ) : Type 0 where
@@ -399,19 +315,11 @@ left_fields (Spined k []) old text ends marks h wide marked spells cut short = a
 left_fields (Spined k (t ∷ ts)) old text ends marks h wide marked spells cut short =
     let are : parts old ≡ t ∷ ts = parts_are old (Spined k (t ∷ ts)) h (omega arith) in
     let all = t ∷ ts in
-    let is_text : IsTextOf (Spined k (chosen marks all)) text = (
-      spells ∙ ap (λ p. spelled (chosen marks p)) are,
-      chosen_filled marks all wide marked,
-      chosen_lawful k marks all h.2,
-      (let most = h.3 in omega (arith, short, most)),
-    ) in
+    let is_text : IsTextOf (Spined k (chosen marks all)) text =
+    grind (arith, nat_tests, chosen_filled, chosen_lawful) in
     let is = row_read text _ (only text _ is_text) in
     record {
-      fields = record {
-        lawful = subst (λ (r : Row). IsTextOf r text) (sym is) is_text;
-        cut = cut ∙ ap (λ p. ends_from 0 (chosen marks p)) are
-            ∙ ap (λ (r : Row). ends_from 0 (tokens_of r)) (sym is);
-      };
+      fields = grind (arith, nat_tests, is_text);
       is = is;
     }
 
@@ -424,9 +332,7 @@ module _ (row : Row) (text ends : List ℕ) (marks : List Bool) (fields : AreFie
   ends_are = fields.cut ∙ ap (λ (r : Row). ends_from 0 (tokens_of r)) view
 
   pub ends_cut : ends ≡ ends_from 0 (parts text)
-  ends_cut =
-      let filled = some_wide marks marked in
-      ends_are ∙ ap (ends_from 0) (sym (parts_are text row is_text (omega (arith, wide, filled))))
+  ends_cut = grind (arith, common_steps)
 
   pub ends_wide : length marks ≡ length ends
   ends_wide = wide ∙ sym (ap length ends_are ∙ length-ends_from 0 (tokens_of row))

@@ -1,4 +1,5 @@
 -- A token of one letter, so many times.
+use Rattle.std.proofs.lemmas.Bool.Decides.{nat_tests}
 use Rattle.std.proofs.Common.{◌≡◌, ℕ, zero, suc, ◌<◌, false, replicate, refl, arith}
 use Rattle.std.specs.Prelude.{◌==◌}
 use Rattle.std.proofs.lemmas.Bool.{or_from}
@@ -10,12 +11,4 @@ no_other b zero e = refl
 no_other b (suc n) e = or_from _ _ e (no_other b n e)
 
 pub repeated_token : (n : ℕ) → 0 < n → IsToken Values (replicate n 97)
-repeated_token zero h = absurd (omega arith)
-repeated_token (suc n) h = record {
-  filled = λ e. cc;
-  one_token = no_other 9 (suc n) refl;
-  one_line = no_other 13 (suc n) refl;
-  no_line_end = no_other 10 (suc n) refl;
-  of_kind = refl;
-  no_comment = refl;
-}
+repeated_token = grind (arith, nat_tests, no_other)

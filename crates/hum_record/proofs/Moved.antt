@@ -1,5 +1,6 @@
 -- Bytes that are moved by the first of them and the last, which may overlap.
-use Rattle.std.proofs.Common.{◌≡◌, ◌∙◌, ℕ, ◌+◌, ◌-◌, ◌*◌, ◌<◌, ◌≤◌, List, ◌++◌, length, take, drop, get_or, ⊎_elim, sym, ap, arith, append_assoc, drop-drop}
+use Rattle.std.proofs.lemmas.Bool.Decides.{nat_tests}
+use Rattle.std.proofs.Common.{◌≡◌, ◌∙◌, ℕ, ◌+◌, ◌-◌, ◌*◌, ◌<◌, ◌≤◌, List, length, drop, get_or, ⊎_elim, sym, ap, arith, append_assoc, drop-drop}
 use Rattle.std.proofs.lemmas.Bool.{cases_lt}
 use Rattle.std.proofs.lemmas.List.{ext_get_or}
 use Rattle.std.proofs.lemmas.Simd.{length-chunk, get_or-chunk, length-put_chunk, put_chunk_is}
@@ -10,22 +11,12 @@ use Rattle.std.proofs.Math.Seq.{paste}
 -- what stands in a store of what stood elsewhere
 stored : (a b : List ℕ) (i from k m : ℕ) → from + k ≤ length a → i + k ≤ length b → i ≤ m → m < i + k
     → get_or (put_chunk i b (chunk from k a)) m 0 ≡ get_or a (from + (m - i)) 0
-stored a b i from k m held room least less =
-    let long = length-chunk from k a held in
-    let at : i + (m - i) ≡ m = omega (arith, least) in
-    ap (λ n. get_or (put_chunk i b (chunk from k a)) n 0) (sym at)
-    ∙ get_or-put_chunk_at i b (chunk from k a) (m - i) 0 (omega (arith, long, less, least)) (omega (arith, long, room))
-    ∙ get_or-chunk from k a (m - i) 0 (omega (arith, less, least))
+stored = grind (arith, nat_tests, length-chunk, get_or, get_or-put_chunk_at, get_or-chunk)
 
 module _ (a b : List ℕ) (from end to : ℕ) (order : from ≤ end) (within : end ≤ length a) (room : to + (end - from) ≤ length b) where
   -- all at once
   at_once : put_chunk to b (chunk from (end - from) a) ≡ paste b to (drop from a) (end - from)
-  at_once =
-      let w = chunk from (end - from) a in
-      let long : length w ≡ end - from = length-chunk from (end - from) a (omega (arith, order, within)) in
-      put_chunk_is to b w (omega (arith, long, room))
-      ∙ sym (append_assoc (take to b) w (drop (length w) (drop to b)))
-      ∙ ap (λ back. (take to b ++ w) ++ back) (ap (λ n. drop n (drop to b)) long ∙ drop-drop (end - from) to b)
+  at_once = grind (arith, nat_tests, length-chunk, put_chunk_is, append_assoc, drop-drop)
 
   module _ (k : ℕ) (few : from + k ≤ end) (many : end ≤ from + 2 * k) where
     abbrev last : ℕ

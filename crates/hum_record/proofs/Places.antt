@@ -1,6 +1,7 @@
 -- Bits that say where a byte stands.
-use Rattle.std.proofs.Common.{◌≡◌, ◌∙◌, refl, sym, ap, ap₂, subst, ℕ, zero, suc, ◌+◌, ◌-◌, ◌*◌, ◌/◌, ◌%◌, ◌^◌}
-use Rattle.std.proofs.Common.{◌<◌, ◌≤◌, Bool, true, false, not, ◌||◌, cond, List, [], ◌∷◌, ◌++◌}
+use Rattle.std.proofs.lemmas.Grind.{common_steps}
+use Rattle.std.proofs.Common.{◌≡◌, ◌∙◌, refl, sym, ap, ap₂, subst, ℕ, suc, ◌+◌, ◌-◌, ◌*◌, ◌/◌, ◌%◌, ◌^◌}
+use Rattle.std.proofs.Common.{◌<◌, ◌≤◌, Bool, not, cond, List, [], ◌∷◌, ◌++◌}
 use Rattle.std.proofs.Common.{length, take, drop, map, arith, append_assoc, length-drop, take_all}
 use Rattle.std.proofs.lemmas.List.{append-nil, drop-drop, length-map}
 use lib.Pow.{pow_mono}
@@ -13,26 +14,22 @@ use Rattle.std.proofs.lemmas.Nat.{and_mask}
 use Rattle.std.proofs.Math.Nat.{add-mul-mod_self_right}
 use Rattle.std.proofs.lemmas.Bool.Decides.{nat_tests}
 use Rattle.std.proofs.lemmas.Simd.{mask_l-lt, trailing_mask_l}
-use native.Mathlib.Nat.{pow-suc, mul_comm, zero-div, div-one, div-div-eq-div-mul, mod-eq_of_lt, two-pow-succ}
+use native.Mathlib.Nat.{pow-suc, mul_comm, div-div-eq-div-mul, mod-eq_of_lt, two-pow-succ}
 use Rattle.hum_score.specs.Spelling.{has_byte}
 use Rattle.hum_record.specs.Cutting.{bits_of, tabs_from}
 
 lowest : (b : Bool) (n : ℕ) → ((cond b 1 0 + 2 * n) / 2) ≡ n
-lowest true n = omega arith
-lowest false n = omega arith
+lowest = grind (arith, nat_tests)
 
 -- bits moved down are those of the bytes further on
 pub moved_down : (b : ℕ) (xs : List ℕ) (k : ℕ) → bits_of b xs / 2 ^ k ≡ bits_of b (drop k xs)
-moved_down b xs zero = div-one (bits_of b xs)
-moved_down b [] (suc k) = zero-div (2 ^ suc k)
 moved_down b (x ∷ xs) (suc k) =
     ap (λ n. bits_of b (x ∷ xs) / n) (pow-suc 2 k ∙ mul_comm (2 ^ k) 2) ∙ sym (div-div-eq-div-mul (bits_of b (x ∷ xs)) 2 (2 ^ k))
     ∙ ap (λ n. n / 2 ^ k) (lowest (x == b) (bits_of b xs)) ∙ moved_down b xs k
+moved_down b xs k = grind (arith, common_steps)
 
 -- the bits of the first bytes, and of the rest
 in_two_by : (p : ℕ → Bool) (xs : List ℕ) (k : ℕ) → k ≤ length xs → mask_l (map p xs) ≡ mask_l (map p (take k xs)) + mask_l (map p (drop k xs)) * 2 ^ k
-in_two_by p xs zero le = omega arith
-in_two_by p [] (suc k) le = absurd (omega arith)
 in_two_by p (x ∷ xs) (suc k) le =
     let rest = mask_l (map p (drop k xs)) in
     ap (λ n. cond (p x) 1 0 + 2 * n) (in_two_by p xs k (omega arith))
@@ -40,6 +37,7 @@ in_two_by p (x ∷ xs) (suc k) le =
   where
     by : (c t r p q : ℕ) → q ≡ p + p → c + 2 * (t + r * p) ≡ (c + 2 * t) + r * q
     by c t r p q e = rw e (grind arith)
+in_two_by p xs k h = grind (arith, nat_tests)
 
 pub in_two : (b : ℕ) (xs : List ℕ) (k : ℕ) → k ≤ length xs → bits_of b xs ≡ bits_of b (take k xs) + bits_of b (drop k xs) * 2 ^ k
 in_two b xs k le = in_two_by (λ x. x == b) xs k le
@@ -53,31 +51,18 @@ bits_below b xs = subst (λ n. bits_of b xs < 2 ^ n) (length-map xs (λ x. x == 
 -- the bits further on, from the last bytes
 pub from_last : (b : ℕ) (xs : List ℕ) (each last : ℕ) → each ≤ length xs → length xs ≤ 2 * each
     → last ≡ bits_of b (chunk (length xs - each) each xs) → last / 2 ^ (2 * each - length xs) ≡ bits_of b (drop each xs)
-from_last b xs each last le covered is =
-    let n = length xs in
-    let back = drop (n - each) xs in
-    let whole : take each back ≡ back = take_all each back (omega (arith, length-drop (n - each) xs)) in
-    let place : (n - each) + (2 * each - n) ≡ each = omega arith in
-    ap (λ m. m / 2 ^ (2 * each - n)) (is ∙ ap (bits_of b) whole)
-    ∙ moved_down b back (2 * each - n)
-    ∙ ap (bits_of b) (drop-drop (2 * each - n) (n - each) xs ∙ ap (λ m. drop m xs) place)
+from_last = grind (arith, nat_tests, take_all, length-drop, moved_down, drop-drop)
 
 -- the bits of a text, from those of its first and its last bytes
 pub join : (b : ℕ) (xs : List ℕ) (each first last : ℕ) → each ≤ length xs → length xs ≤ 2 * each
     → first ≡ bits_of b (chunk 0 each xs) → last ≡ bits_of b (chunk (length xs - each) each xs)
     → first + last / 2 ^ (2 * each - length xs) * 2 ^ each ≡ bits_of b xs
-join b xs each first last le covered is_first is_last =
-    ap₂ (λ f l. f + l * 2 ^ each) is_first (from_last b xs each last le covered is_last) ∙ sym (in_two b xs each le)
+join = grind (arith, nat_tests, ap₂, from_last, in_two)
 
 -- no bit is set where the byte stands nowhere
 pub any_bit : (b : ℕ) (xs : List ℕ) → not (bits_of b xs == 0) ≡ has_byte b xs
 any_bit b [] = refl
-any_bit b (x ∷ xs) = by (x == b) (bits_of b xs) (any_bit b xs)
-  where
-    by : (t : Bool) (n : ℕ) → not (n == 0) ≡ has_byte b xs → not ((cond t 1 0 + 2 * n) == 0) ≡ (t || has_byte b xs)
-    by true n e = grind (arith, nat_tests)
-    by false zero e = e
-    by false (suc n) e = grind (arith, nat_tests, e)
+any_bit b (x ∷ xs) = grind (arith, nat_tests, any_bit b xs)
 
 abbrev before_tab : List ℕ → ℕ
 before_tab = prefix_len (λ x. not (x == 9))
@@ -89,24 +74,7 @@ pub record FirstTab (at : ℕ) (xs : List ℕ) (k : ℕ) : Type 0 where
 
 first_tab : (at : ℕ) (xs : List ℕ) → 0 < bits_of 9 xs → FirstTab at xs (before_tab xs)
 first_tab at [] some = absurd (omega arith)
-first_tab at (x ∷ xs) some = by (x == 9) refl (first_tab (at + 1) xs)
-  where
-    by : (t : Bool) → (x == 9) ≡ t → (0 < bits_of 9 xs → FirstTab (at + 1) xs (before_tab xs)) → FirstTab at (x ∷ xs) (before_tab (x ∷ xs))
-    by true w rest_of = record {
-      within = rw w (omega arith);
-      places = rw w (ap₂ (λ a b. a ∷ tabs_from b xs) (omega arith) (omega arith));
-    }
-    by false w rest_of =
-        let more : 0 < bits_of 9 xs = (let s = rw w at some in omega (arith, s)) in
-        let rest = rest_of more in
-        let k = before_tab xs in
-        let within = rest.within in
-        let here : at + 1 + k ≡ at + (1 + k) = omega arith in
-        let behind : drop (1 + k + 1) (x ∷ xs) ≡ drop (k + 1) xs = (let n : 1 + k + 1 ≡ suc (k + 1) = omega arith in ap (λ m. drop m (x ∷ xs)) n) in
-        record {
-          within = rw w (omega (arith, within));
-          places = rw w (rest.places ∙ ap₂ (λ n ys. n ∷ tabs_from (n + 1) ys) here (sym behind));
-        }
+first_tab at (x ∷ xs) some = grind (arith, nat_tests, first_tab (at + 1) xs)
 
 -- What is pending of a block of which the tabs are added one by one.
 pub record Pending (block : List ℕ) (start at rest : ℕ) (ends all : List ℕ) : Type 0 where
@@ -128,8 +96,7 @@ next_tab block start at rest ends all short later some p =
     let place = p.place in
     let some_left : 0 < bits_of 9 left = rw p.bits at some in
     let first = first_tab at left some_left in
-    let k : count_trailing_zeros 64 rest ≡ before_tab left = ap (count_trailing_zeros 64) p.bits
-    ∙ trailing_mask_l (λ x. x == 9) 64 left (omega (arith, place, short, later)) some_left in
+    let k : count_trailing_zeros 64 rest ≡ before_tab left = grind (arith, nat_tests, trailing_mask_l) in
     let within = first.within in
     record {
       within = omega (arith, k, within, place);
@@ -141,25 +108,17 @@ next_tab block start at rest ends all short later some p =
             ∙ ap (λ n. n / 2 ^ 1) (moved_down 9 left (before_tab left))
             ∙ moved_down 9 (drop (before_tab left) left) 1
             ∙ ap (bits_of 9) (drop-drop 1 (before_tab left) left);
-        places =
-            append_assoc ends ((at + before_tab left) ∷ []) _
-            ∙ ap (λ ts. ends ++ ts) (sym first.places)
-            ∙ p.places;
+        places = grind (arith, nat_tests, append_assoc);
       });
     }
 
 -- no tab is left
 no_tabs : (at : ℕ) (xs : List ℕ) → bits_of 9 xs ≡ 0 → tabs_from at xs ≡ []
 no_tabs at [] none = refl
-no_tabs at (x ∷ xs) none = by (x == 9) refl (no_tabs (at + 1) xs)
-  where
-    by : (t : Bool) → (x == 9) ≡ t → (bits_of 9 xs ≡ 0 → tabs_from (at + 1) xs ≡ []) → tabs_from at (x ∷ xs) ≡ []
-    by true w rest_of = absurd (let s = rw w at none in omega (arith, s))
-    by false w rest_of = rw w (rest_of (let s = rw w at none in omega (arith, s)))
+no_tabs at (x ∷ xs) none = grind (arith, nat_tests, no_tabs (at + 1) xs)
 
 pub none_pending : (block : List ℕ) (start at rest : ℕ) (ends all : List ℕ) → rest ≡ 0 → Pending block start at rest ends all → ends ≡ all
-none_pending block start at rest ends all none p =
-    sym (append-nil ends) ∙ ap (λ ts. ends ++ ts) (sym (no_tabs at p.left (sym p.bits ∙ none))) ∙ p.places
+none_pending = grind (arith, nat_tests, append-nil, no_tabs)
 
 -- the bits of a short text make a small number
 pub bits_short : (b : ℕ) (xs : List ℕ) → length xs ≤ 32 → bits_of b xs < 4294967296
@@ -179,16 +138,11 @@ high_fits b xs each first last few le covered is_first is_last =
     (mod-eq_of_lt (omega (arith, fits)), fits)
 
 pub take_count : (k : ℕ) (zs : List ℕ) → k ≤ length zs → length (take k zs) ≡ k
-take_count zero zs h = refl
-take_count (suc k) [] h = absurd (omega arith)
-take_count (suc k) (z ∷ zs) h = let next = take_count k zs (omega arith) in omega (arith, next)
+take_count = grind (arith, common_steps)
 
 -- the front of a front
 pub front_of_front : (k m : ℕ) (zs : List ℕ) → k ≤ m → take k (take m zs) ≡ take k zs
-front_of_front zero m zs h = refl
-front_of_front (suc k) zero zs h = absurd (omega arith)
-front_of_front (suc k) (suc m) [] h = refl
-front_of_front (suc k) (suc m) (z ∷ zs) h = ap (λ (ys : List ℕ). z ∷ ys) (front_of_front k m zs (omega arith))
+front_of_front = grind (arith, common_steps)
 
 -- the bits of the first bytes are the low ones of those of more bytes
 pub mask_front : (p : ℕ → Bool) (xs : List ℕ) (w n bits : ℕ) → n ≤ w → w ≤ length xs → bits ≡ mask_l (map p (chunk 0 w xs))
@@ -198,8 +152,7 @@ mask_front p xs w n bits few room is =
     let mask : List ℕ → ℕ = λ zs. mask_l (map p zs) in
     let size : length ys ≡ w = take_count w xs room in
     let two : mask ys ≡ mask (take n ys) + mask (drop n ys) * 2 ^ n = in_two_by p ys n (omega (arith, size, few)) in
-    let below : mask (take n ys) < 2 ^ n =
-    subst (λ k. mask (take n ys) < 2 ^ k) (take_count n ys (omega (arith, size, few))) (mask_below p (take n ys)) in
+    let below : mask (take n ys) < 2 ^ n = grind (arith, nat_tests, take_count, mask_below) in
     and_mask bits n ∙ ap (λ m. m % 2 ^ n) (is ∙ two)
     ∙ add-mul-mod_self_right (mask (take n ys)) (mask (drop n ys)) (2 ^ n)
     ∙ mod-eq_of_lt below
@@ -210,7 +163,4 @@ pub bits_front : (b : ℕ) (xs : List ℕ) (w n bits : ℕ) → n ≤ w → w �
 bits_front b xs w n bits few room is = mask_front (λ x. x == b) xs w n bits few room is
 
 pub one_moved : (n : ℕ) → n ≤ 63 → 1 * 2 ^ n % 18446744073709551616 ≡ 2 ^ n
-one_moved n few =
-    let bound : 2 ^ n ≤ 2 ^ 63 = pow_mono few in
-    let same : 1 * 2 ^ n ≡ 2 ^ n = omega arith in
-    ap (λ m. m % 18446744073709551616) same ∙ mod-eq_of_lt (omega (arith, bound))
+one_moved = grind (arith, common_steps)

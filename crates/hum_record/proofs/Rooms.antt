@@ -1,4 +1,5 @@
 -- Room of records.
+use Rattle.std.proofs.lemmas.Bool.Decides.{nat_tests}
 use Rattle.std.proofs.Common.{◌≡◌, arith, ℕ, ◌+◌, ◌≤◌, min, map, List, [], ◌∷◌, ◌++◌, Bor}
 use Rattle.std.proofs.lemmas.List.{map-append}
 use Rattle.hum_score.specs.Row.{Row}
@@ -6,9 +7,7 @@ use Rattle.hum_record.specs.Room.{room_for, rooms_for}
 
 pub rooms_append : (a b : List Row) → rooms_for (a ++ b) ≡ rooms_for a + rooms_for b
 rooms_append [] b = omega arith
-rooms_append (row ∷ a) b =
-    let rest = rooms_append a b in
-    omega (arith, rest)
+rooms_append (row ∷ a) b = grind (arith, nat_tests, rooms_append a b)
 
 -- one more of those that were looked at
 pub one_more : (seen : List (Bor Row)) (row : Bor Row) (before now room : ℕ)

@@ -1,5 +1,7 @@
 -- All tokens of a record behind those of one in the making.
-use Rattle.std.proofs.Common.{◌≡◌, ◌∙◌, ◌≢◌, ℕ, ◌+◌, ◌<◌, ◌≤◌, List, [], ◌∷◌, ◌++◌, length, map, refl, sym, ap, ap₂, arith, append_assoc}
+use Rattle.std.proofs.lemmas.Grind.{common_steps}
+use Rattle.std.proofs.lemmas.Bool.Decides.{nat_tests}
+use Rattle.std.proofs.Common.{◌≡◌, ◌∙◌, ◌≢◌, ℕ, ◌+◌, ◌<◌, ◌≤◌, List, [], ◌∷◌, ◌++◌, length, map, refl, sym, ap, arith, append_assoc}
 use Rattle.std.proofs.Common.{length-append}
 use Rattle.std.specs.List.{AllByRecursion}
 use Rattle.hum_score.specs.declared.records.SpinedKind.{SpinedKind}
@@ -7,23 +9,20 @@ use Rattle.hum_score.specs.Spelling.{IsToken, parts}
 use Rattle.hum_score.specs.Row.{Row, Spined, tokens_of}
 use Rattle.hum_record.specs.Fields.{ends_from, row_in, AreFields}
 use Rattle.hum_record.specs.Building.{spelled, tab_between, tokens_in, IsDraft}
-use Rattle.hum_record.proofs.Drafts.{again, draft_more, more_tokens}
+use Rattle.hum_record.proofs.Drafts.{draft_more, more_tokens}
 
 -- where tokens end, so many bytes further on
 pub shifted : (begin start : ℕ) (ts : List (List ℕ)) → map (λ end. begin + end) (ends_from start ts) ≡ ends_from (begin + start) ts
 shifted begin start [] = refl
-shifted begin start (t ∷ ts) =
-    ap₂ (λ (e : ℕ) (es : List ℕ). e ∷ es) (omega arith)
-    (shifted begin (start + length t + 1) ts ∙ ap (λ n. ends_from n ts) (omega arith))
+shifted begin start (t ∷ ts) = grind (arith, nat_tests, shifted begin (start + length t + 1) ts)
 
 -- all of them end within the text
 pub ends_within : (begin start most : ℕ) (ts : List (List ℕ)) → begin + (start + length (spelled ts)) < most
     → AllByRecursion (λ end. begin + end < most) (ends_from start ts)
-ends_within begin start most [] less = tt
-ends_within begin start most (t ∷ []) less = (less, tt)
 ends_within begin start most (t ∷ u ∷ us) less =
     let size = length-append t (9 ∷ spelled (u ∷ us)) in
     (omega (arith, less, size), ends_within begin (start + length t + 1) most (u ∷ us) (omega (arith, less, size)))
+ends_within begin start most ts h = grind (arith, nat_tests)
 
 -- a record in the making of these tokens
 pub record IsDraftOf (kind : SpinedKind) (text ends : List ℕ) (tokens : List (List ℕ)) : Type 0 where
@@ -31,8 +30,7 @@ pub record IsDraftOf (kind : SpinedKind) (text ends : List ℕ) (tokens : List (
   pub tokens_are : tokens_in text ends ≡ tokens
 
 tab_behind : (ends : List ℕ) (end : ℕ) → tab_between (ends ++ end ∷ []) ≡ 9 ∷ []
-tab_behind [] end = refl
-tab_behind (e ∷ ends) end = refl
+tab_behind = grind (arith, common_steps)
 
 alike : (k : SpinedKind) (text text' ends ends' : List ℕ) (tokens tokens' : List (List ℕ)) → text ≡ text' → ends ≡ ends' → tokens ≡ tokens'
     → IsDraftOf k text ends tokens → IsDraftOf k text' ends' tokens'
@@ -82,14 +80,11 @@ draft_all k text ends (t ∷ ts) filled draft are fits = draft_row k text ends t
 -- the text of a record of this kind is cut into its tokens
 pub row_parts : (k : SpinedKind) (row : Row) (text ends : List ℕ) → AreFields text ends → row ≡ row_in text → row ≡ Spined k (tokens_of row)
     → parts text ≡ tokens_of row
-row_parts k row text ends fields is spined =
-    let text_of_row = rw (← is, spined) at fields.lawful in
-    ap parts text_of_row.0 ∙ again k (tokens_of row) text_of_row.1 text_of_row.2
+row_parts = grind (arith, nat_tests)
 
 pub row_cut : (k : SpinedKind) (row : Row) (text ends : List ℕ) → AreFields text ends → row ≡ row_in text → row ≡ Spined k (tokens_of row)
     → ends ≡ ends_from 0 (parts text)
-row_cut k row text ends fields is spined =
-    fields.cut ∙ ap (λ r. ends_from 0 (tokens_of r)) (sym is) ∙ ap (ends_from 0) (sym (row_parts k row text ends fields is spined))
+row_cut = grind (arith, nat_tests)
 
 pub row_added : (k : SpinedKind) (row : Row) (text ends more more_ends new new_ends : List ℕ) → IsDraft k text ends → AreFields more more_ends
     → row ≡ row_in more → row ≡ Spined k (tokens_of row) → length text + length (tab_between ends) + length more ≤ 1048576

@@ -1,7 +1,9 @@
 -- Selected tokens are left, one after another.
-use Rattle.std.proofs.Common.{◌≡◌, ◌≢◌, ◌∙◌, ℕ, zero, suc, ◌+◌, ◌-◌, ◌<◌, ◌≤◌, Bool, true, false, not, List, [], ◌∷◌, ◌++◌}
-use Rattle.std.proofs.Common.{length, take, drop, get_or, set, ◌==◌, ne_eqb, ⊎_elim, if◌then◌else◌, refl, sym, ap, subst, arith, add-one, drop-cons, append-nil}
-use Rattle.std.proofs.lemmas.Bool.{cases_lt, cond-false}
+use Rattle.std.proofs.lemmas.Grind.{common_steps}
+use Rattle.std.proofs.lemmas.Bool.Decides.{nat_tests}
+use Rattle.std.proofs.Common.{◌≡◌, ◌≢◌, ◌∙◌, ℕ, zero, suc, ◌+◌, ◌-◌, ◌<◌, ◌≤◌, Bool, true, false, not, List, [], ◌∷◌}
+use Rattle.std.proofs.Common.{length, take, drop, get_or, set, ◌==◌, ⊎_elim, if◌then◌else◌, refl, sym, ap, subst, arith, add-one, drop-cons, append-nil}
+use Rattle.std.proofs.lemmas.Bool.{cases_lt}
 use Rattle.std.proofs.lemmas.List.{set-get_or, drop_all, get_or-set_other, get_or_past}
 use Rattle.std.proofs.lemmas.List.Sums.{prefix_len-le-length, prefix_len_passes, prefix_len_stops}
 use Rattle.std.specs.List.{copy_within, list_any}
@@ -12,8 +14,7 @@ use Rattle.hum_record.specs.Selecting.{marked_from, front_of, moved_of}
 use Rattle.hum_record.proofs.Left.{Leaving, begins_left, end_most, ends_more, skips, from_most, from_least, takes_from, moved_nowhere}
 
 in_place : (ends : List ℕ) (m : ℕ) → (if m == 0 then begins_at ends m else begins_at ends m - 1) ≡ begins_at ends m - 1
-in_place ends zero = refl
-in_place ends (suc m) = cond-false _ _ _ (ne_eqb (suc m) 0 (λ e. absurd (omega (arith, e))))
+in_place = grind (arith, nat_tests)
 
 -- Behind those in front that are left where they stand
 module _ (text ends : List ℕ) (marks : List Bool) (ts : List (List ℕ)) (filled : ts ≢ []) (spells : text ≡ spelled ts)
@@ -46,9 +47,8 @@ module _ (text ends : List ℕ) (marks : List Bool) (ts : List (List ℕ)) (fill
 
 -- no mark is set where none has a place
 pub marked_none : (j : ℕ) (marks : List Bool) → (length (marked_from j marks) == 0) ≡ not (list_any (λ b. b) marks)
-marked_none j [] = refl
-marked_none j (true ∷ marks) = ne_eqb (suc (length (marked_from (j + 1) marks))) 0 (λ e. absurd (omega (arith, e)))
 marked_none j (false ∷ marks) = marked_none (j + 1) marks
+marked_none j marks = grind (arith, nat_tests)
 
 -- What was moved so far, and the places of what is still to be moved.
 pub record Moving (len count : ℕ) (text ends : List ℕ) (marks : List Bool) (all : List (List ℕ)) (rest : List ℕ) : Type 0 where
@@ -66,8 +66,7 @@ pub record Reached (len count k : ℕ) (text ends : List ℕ) (marks : List Bool
   pub places : rest ≡ marked_from (suc k) (drop (suc k) marks)
 
 by_bool : {P : Type 0} (b : Bool) → (b ≡ true → P) → (b ≡ false → P) → P
-by_bool true on off = on refl
-by_bool false on off = off refl
+by_bool = grind (arith, nat_tests)
 
 same_first : (a b : ℕ) (xs ys : List ℕ) → a ∷ xs ≡ b ∷ ys → (a ≡ b) × (xs ≡ ys)
 same_first a b xs ys e = (cc, cc)
@@ -77,8 +76,7 @@ module _ (len count k : ℕ) (text ends : List ℕ) (marks : List Bool) (all : L
   reach : (n j : ℕ) → j + n ≡ length marks → Leaving len count (begins_at ends j) j text ends marks all
       → k ∷ rest ≡ marked_from j (drop j marks) → (j ≤ count → get_or marks j false ≡ false)
       → Reached len count k text ends marks all rest
-  reach zero j e l places gap =
-      let none = drop_all j marks (omega (arith, e)) in cc (rw none at places)
+  reach zero j e l places gap = grind (arith, common_steps)
   reach (suc n) j e l places gap =
       let within : j < length marks = omega (arith, e) in
       let is = drop-cons marks j false within in
@@ -121,16 +119,13 @@ moved_on len count k text ends marks all rest r end from end_is from_is new copi
     }
 
 no_marks : (j : ℕ) (marks : List Bool) (ts : List (List ℕ)) → [] ≡ marked_from j marks → chosen marks ts ≡ []
-no_marks j [] ts e = refl
-no_marks j (true ∷ marks) ts e = cc
-no_marks j (false ∷ marks) [] e = refl
 no_marks j (false ∷ marks) (t ∷ ts) e = no_marks (j + 1) marks ts e
+no_marks j marks ts h = grind (arith, nat_tests)
 
 -- all were moved
 pub all_moved : (len count : ℕ) (text ends : List ℕ) (marks : List Bool) (left : List (List ℕ))
     → (m : Moving len count text ends marks left []) → m.left.made ≡ left
-all_moved len count text ends marks left m =
-    sym (append-nil m.left.made) ∙ ap (λ rest. m.left.made ++ rest) (sym (no_marks m.j (drop m.j marks) m.left.coming m.places)) ∙ m.left.whole
+all_moved = grind (arith, nat_tests, append-nil, no_marks)
 
 -- none was moved as yet
 pub unmoved : (text ends : List ℕ) (marks : List Bool) (ts : List (List ℕ)) (filled : ts ≢ []) (spells : text ≡ spelled ts)
@@ -138,23 +133,17 @@ pub unmoved : (text ends : List ℕ) (marks : List Bool) (ts : List (List ℕ)) 
     → Moving (begins_at ends (front_of marks) - 1) (front_of marks) text ends marks (chosen marks ts) (moved_of marks)
 unmoved text ends marks ts filled spells cut wide = record {
   j = front_of marks;
-  left = in_front text ends marks ts filled spells cut wide (front_of marks)
-      (λ k less. prefix_len_passes (λ b. b) marks k false less) (prefix_len-le-length (λ b. b) marks);
+  left = grind (arith, nat_tests, in_front, prefix_len_passes, prefix_len-le-length);
   places = refl;
-  gap = λ _. ⊎_elim
-      (λ (less : front_of marks < length marks). prefix_len_stops (λ b. b) marks false less)
-      (λ (past : length marks ≤ front_of marks). get_or_past marks (front_of marks) false past)
-      (cases_lt (front_of marks) (length marks));
+  gap = grind (arith, nat_tests, ⊎_elim, prefix_len_stops, get_or_past, cases_lt);
 }
 
 begins_before : (ends : List ℕ) (k : ℕ) → 0 < k → begins_at ends k ≡ get_or ends (k - 1) 0 + 1
-begins_before ends zero some = absurd (omega (arith, some))
-begins_before ends (suc k) some = ap (λ n. get_or ends n 0 + 1) (omega arith)
+begins_before = grind (arith, nat_tests)
 
 from_same : (c : Bool) (before begin : ℕ) → begin ≡ before + 1
     → (if c then before + 1 else before) ≡ (if c then begin else begin - 1)
-from_same true before begin e = sym e
-from_same false before begin e = omega (arith, e)
+from_same = grind (arith, nat_tests)
 
 -- one turn
 module _ (len count i : ℕ) (text ends : List ℕ) (marks : List Bool) (all : List (List ℕ)) (moved : List ℕ)

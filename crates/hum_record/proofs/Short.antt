@@ -1,4 +1,5 @@
 -- Short lines of plain data, by the bits of their bytes.
+use Rattle.std.proofs.lemmas.Bool.Decides.{nat_tests}
 use Rattle.std.proofs.Common.{◌≡◌, ◌∙◌, refl, sym, ap, ap₂, ◌⊎◌, ℕ, suc, zero, ◌+◌, ◌*◌, ◌-◌, ◌/◌, ◌%◌, ◌≤◌, ◌<◌, ◌^◌, min, Bool, true, false, not, ◌||◌}
 use Rattle.std.proofs.Common.{List, [], ◌∷◌, ◌++◌, map, length, take, drop, get_or, replicate, cond, eqb, Ok, Some, Fits, w8, arith, append_assoc, length-append, subst, ⊎_elim}
 use Rattle.std.proofs.Common.{mod-lt, zero-lt-suc, pow-suc, add-zero}
@@ -7,16 +8,15 @@ use Rattle.std.specs.Simd.Lanes.{chunk, mask_l, top, zip2, Each1}
 use Rattle.std.proofs.lemmas.Simd.{mask_l-mod, length-chunk, trailing_mask_l, zip2_splat, map-map}
 use Rattle.std.specs.List.{prefix_len}
 use Rattle.std.proofs.lemmas.List.{length-map, append-nil, get_or-take}
-use Rattle.std.proofs.lemmas.Bool.{eqb-true, eq-eqb, and_parts, or_from, cases_lt}
+use Rattle.std.proofs.lemmas.Bool.{eqb-true, eq-eqb, or_from, cases_lt}
 use Rattle.hum_record.proofs.Bytes.{upto_sound, same, same_is}
 use lib.Bits.{bit_and, bit_or, and_step, and_self, and_zero_r}
 use lib.Count.{count_trailing_zeros, under}
 use lib.Pow.{pow_mono}
-use native.Mathlib.Nat.{two-pow-succ}
 use Rattle.memchr.specs.Find.{IsFirstByte, is_byte}
 use Rattle.hum_score.specs.declared.records.Kind.TheVariants.{Values as AnyValues}
 use Rattle.hum_score.specs.declared.records.SpinedKind.TheVariants.{Values}
-use Rattle.hum_score.specs.Row.{Row, Comment, Spined, kind_of, text_of}
+use Rattle.hum_score.specs.Row.{Row, Spined, kind_of, text_of}
 use Rattle.hum_score.specs.Spelling.{IsTextOf, has_byte, is_comment, reading, parts}
 use Rattle.hum_record.specs.Fields.{AreFields, ends_from, row_in}
 use Rattle.hum_record.specs.Cutting.{bits_of, set_places, tabs_from}
@@ -30,9 +30,7 @@ use Rattle.hum_record.proofs.Plain.{mark_append, no_marks, plain_data, or_left, 
 -- The places of bits
 
 bit_cases : (P : ℕ → Type 0) → P 0 → P 1 → (x : ℕ) → x < 2 → P x
-bit_cases P p q zero h = p
-bit_cases P p q (suc zero) h = q
-bit_cases P p q (suc (suc r)) h = absurd (omega (arith, h))
+bit_cases = grind (arith, nat_tests)
 
 pub no_places : (k b : ℕ) → set_places k b 0 ≡ []
 unfolding set_places
@@ -85,19 +83,13 @@ lowest (suc k) b x some h =
 -- one place more in a list
 pub next_place : (front all : List ℕ) (b x : ℕ) → 0 < x → x < 2 ^ 64 → front ++ set_places 64 b x ≡ all
     → (front ++ (b + count_trailing_zeros 64 x) ∷ []) ++ set_places 64 b (bit_and x (x - 1)) ≡ all
-next_place front all b x some fits e =
-    append_assoc front ((b + count_trailing_zeros 64 x) ∷ []) (set_places 64 b (bit_and x (x - 1)))
-    ∙ ap (λ ys. front ++ ys) (sym (lowest 64 b x some fits))
-    ∙ e
+next_place = grind (arith, nat_tests, append_assoc, lowest)
 
 -- there are no more places than bits were looked at
 pub most_places : (k b x : ℕ) → length (set_places k b x) ≤ k
 unfolding set_places
 most_places zero b x = omega arith
-most_places (suc k) b x =
-    let ih = most_places k (b + 1) (x / 2) in
-    let rest = set_places k (b + 1) (x / 2) in
-    bit_cases (λ r. length (if r == 1 then b ∷ rest else rest) ≤ suc k) (omega (arith, ih)) (omega (arith, ih)) (x % 2) (mod-lt x (zero-lt-suc 1))
+most_places (suc k) b x = grind (arith, nat_tests, most_places k (b + 1) (x / 2))
 
 -- half as many where no two of them stand side by side
 pub apart_places : (k b head x : ℕ) → head ≤ 1 → bit_and (head + 2 * x) x ≡ 0 → 2 * length (set_places k b x) + head ≤ suc k
@@ -121,46 +113,26 @@ apart_places (suc k) b head x few apart =
 -- where a bit is left there is room for its place
 pub room_left : (places all : List ℕ) (j b x : ℕ) → 0 < x → x < 2 ^ 64 → j ≤ length places → length all ≤ length places
     → take j places ++ set_places 64 b x ≡ all → j < length places
-room_left places all j b x some fits within size e =
-    let front = take_count j places within in
-    let later : length (set_places 64 b x) ≡ suc (length (set_places 64 b (bit_and x (x - 1)))) = ap length (lowest 64 b x some fits) in
-    let whole : length (take j places) + length (set_places 64 b x) ≡ length all = sym (length-append (take j places) (set_places 64 b x)) ∙ ap length e in
-    omega (arith, front, later, whole, size)
+room_left = grind (arith, nat_tests, take_count, lowest, length-append)
 
 -- where none is left all places are put
 pub all_put : (places all : List ℕ) (j b x : ℕ) → take j places ++ set_places 64 b x ≡ all → x ≡ 0 → take j places ≡ all
-all_put places all j b x e done =
-    let none : set_places 64 b x ≡ [] = ap (set_places 64 b) done ∙ no_places 64 b in
-    sym (append-nil (take j places)) ∙ ap (λ ys. take j places ++ ys) (sym none) ∙ e
+all_put = grind (arith, nat_tests, no_places, append-nil)
 
 one_step : (k b n m : ℕ) (t : Bool) → n ≡ cond t 1 0 + 2 * m → set_places (suc k) b n ≡ (if t then b ∷ set_places k (b + 1) m else set_places k (b + 1) m)
 unfolding set_places
-one_step k b n m true e =
-    let low : n % 2 ≡ 1 = omega (arith, e) in
-    let half : n / 2 ≡ m = omega (arith, e) in
-    rw (low, half) refl
-one_step k b n m false e =
-    let low : n % 2 ≡ 0 = omega (arith, e) in
-    let half : n / 2 ≡ m = omega (arith, e) in
-    rw (low, half) refl
+one_step = grind (arith, nat_tests)
 
 -- the places of the bits of tabs are those of the tabs
 pub set_tabs : (k b : ℕ) (xs : List ℕ) → length xs ≤ k → set_places k b (bits_of 9 xs) ≡ tabs_from b xs
 set_tabs k b [] h = no_places k b
 set_tabs zero b (x ∷ xs) h = absurd (omega (arith, h))
-set_tabs (suc k) b (x ∷ xs) h =
-    one_step k b (bits_of 9 (x ∷ xs)) (bits_of 9 xs) (x == 9) refl
-    ∙ ap (λ ts. if x == 9 then b ∷ ts else ts) (set_tabs k (b + 1) xs (omega (arith, h)))
+set_tabs (suc k) b (x ∷ xs) h = grind (arith, nat_tests, set_tabs k (b + 1) xs (omega (arith, h)), one_step)
 
 -- a tab behind a text is one bit more
 pub tab_behind : (xs : List ℕ) → bits_of 9 xs + 2 ^ length xs ≡ bits_of 9 (xs ++ 9 ∷ [])
 tab_behind [] = refl
-tab_behind (x ∷ xs) =
-    by (cond (x == 9) 1 0) (bits_of 9 xs) (2 ^ length xs) (2 ^ suc (length xs)) (two-pow-succ (length xs))
-    ∙ ap (λ n. cond (x == 9) 1 0 + 2 * n) (tab_behind xs)
-  where
-    by : (c t p q : ℕ) → q ≡ p + p → (c + 2 * t) + q ≡ c + 2 * (t + p)
-    by c t p q e = omega (arith, e)
+tab_behind (x ∷ xs) = grind (arith, nat_tests, tab_behind xs)
 
 -- the tabs of a line from the bits of more bytes
 pub tabs_at : (held : List ℕ) (w len bits : ℕ) → len ≤ w → len ≤ 63 → w ≤ length held → bits ≡ bits_of 9 (chunk 0 w held)
@@ -170,11 +142,7 @@ tabs_at held w len bits few short filled is = rw (one_moved len short) (bits_fro
 -- and where its tokens end
 pub ends_at : (held : List ℕ) (len tabs : ℕ) → len ≤ 63 → len ≤ length held → tabs ≡ bits_of 9 (take len held)
     → tabs + 1 * 2 ^ len % 18446744073709551616 ≡ bits_of 9 (take len held ++ 9 ∷ [])
-ends_at held len tabs short filled is =
-    let text = take len held in
-    let size : length text ≡ len = take_count len held (omega (arith, short, filled)) in
-    rw (one_moved len short) (ap (λ n. n + 2 ^ len) is
-    ∙ ap (λ n. bits_of 9 text + 2 ^ n) (sym size) ∙ tab_behind text)
+ends_at = grind (arith, nat_tests, take_count, one_moved, tab_behind)
 
 pub ends_fit : (held : List ℕ) (len tabs : ℕ) → len ≤ 63 → len ≤ length held → tabs ≡ bits_of 9 (take len held)
     → tabs + 1 * 2 ^ len % 18446744073709551616 < 18446744073709551616
@@ -209,8 +177,7 @@ stop_mask v z short fits e =
 
 -- the lanes of a vector that are equal to one value, once they were changed
 pub equal_lanes : (f : ℕ → ℕ) (y n : ℕ) (v : List ℕ) {a : List ℕ} → length v ≡ n → a ≡ map f v → zip2 hit a (replicate n y) ≡ map (λ x. hit (f x) y) v
-equal_lanes f y n v long p =
-    ap (λ a. zip2 hit a (replicate n y)) p ∙ zip2_splat hit (map f v) n y (length-map v f ∙ long) ∙ map-map (λ x. hit x y) f v
+equal_lanes = grind (arith, nat_tests, zip2_splat, length-map, map-map)
 
 -- no bit is set of a byte
 pub record NoneRare (xs : List ℕ) : Type 0 where
@@ -219,12 +186,10 @@ pub record NoneRare (xs : List ℕ) : Type 0 where
   pub returns : bits_of 13 xs ≡ 0
 
 pub not_set : (t : Bool) (n : ℕ) → cond t 1 0 + 2 * n ≡ 0 → (t ≡ false) × (n ≡ 0)
-not_set true n h = absurd (omega (arith, h))
-not_set false n h = (refl, omega (arith, h))
+not_set = grind (arith, nat_tests)
 
 pub unset : (t : Bool) (n : ℕ) → t ≡ false → n ≡ 0 → cond t 1 0 + 2 * n ≡ 0
-unset true n e z = let w = e in cc
-unset false n e z = omega (arith, z)
+unset = grind (arith, nat_tests)
 
 pub none_rare : (xs : List ℕ) → mask_l (map is_rare xs) ≡ 0 → NoneRare xs
 none_rare [] h = record { bangs = refl; stars = refl; returns = refl }
@@ -255,44 +220,17 @@ pub one_line : (xs : List ℕ) → mask_l (map is_stop xs) ≡ 0 → has_byte 10
 one_line xs h = sym (any_bit 10 xs) ∙ ap (λ n. not (n == 0)) (lf_bits xs h)
 
 lf_free : (xs : List ℕ) (k : ℕ) → mask_l (map is_stop xs) ≡ 0 → k < length xs → get_or xs k 0 ≡ 10 → ⊥
-lf_free [] k h less is = absurd (omega (arith, less))
-lf_free (x ∷ xs) zero h less is =
-    let here = not_set (is_stop x) (mask_l (map is_stop xs)) h in
-    let yes : (x == 10) ≡ true = eq-eqb x 10 is in
-    let no = or_right (is_rare x) (x == 10) here.0 in
-    cc
 lf_free (x ∷ xs) (suc k) h less is = lf_free xs k (not_set (is_stop x) (mask_l (map is_stop xs)) h).1 (omega (arith, less)) is
+lf_free xs k h w e = grind (arith, nat_tests)
 
 not_true : (b : Bool) → (b ≡ true → ⊥) → b ≡ false
-not_true true h = absurd (h refl)
-not_true false h = refl
+not_true = grind (arith, nat_tests)
 
 -- The line ends at the first LF.
 pub front_lf : (held : List ℕ) (len lf : ℕ) → mask_l (map is_stop (take len held)) ≡ 0 → IsBehind held len lf
     → IsFirstByte (is_byte 10) held (Some lf)
-front_lf held len lf free behind =
-    let within : lf < length held = behind.0 in
-    let short : len ≤ lf = ⊎_elim (λ same. omega (arith, same)) (λ one. let more = one.0 in omega (arith, more)) behind.2 in
-    let size : length (take len held) ≡ len = take_count len held (omega (arith, short, within)) in
-    let before : (k : ℕ) → k < lf → get_or held k 0 ≡ 10 → ⊥ =
-    λ k less ten. ⊎_elim
-    (λ below. lf_free (take len held) k free (omega (arith, below, size)) (get_or-take len held k 0 below ∙ ten))
-    (λ from. ⊎_elim
-    (λ same. absurd (omega (arith, same, from, less)))
-    (λ one.
-    let more = one.0 in
-    let at : k ≡ len = omega (arith, more, from, less) in
-    let cr : 13 ≡ 10 = sym one.1 ∙ ap (λ n. get_or held n 0) (sym at) ∙ ten in
-    absurd (omega (arith, cr)))
-    behind.2)
-    (cases_lt k len) in (
-      record {
-        low = omega arith;
-        high = within;
-        before = λ k low less ten. before k less (eqb-true _ 10 ten);
-      },
-      eq-eqb _ 10 behind.1,
-    )
+front_lf =
+    grind (arith, nat_tests, ⊎_elim, take_count, get_or, lf_free, get_or-take, cases_lt, eqb-true, eq-eqb)
 
 pub front_line : (held : List ℕ) (len lf : ℕ) → mask_l (map is_stop (take len held)) ≡ 0 → IsBehind held len lf → IsLine held len
 front_line held len lf free behind = record { lf = lf; first = front_lf held len lf free behind; text = behind.2 }
@@ -305,39 +243,16 @@ no_lf (x ∷ xs) free =
     (no_lf xs (λ k less. free (suc k) (omega (arith, less))))
 
 pub line_text : (held : List ℕ) (len : ℕ) → IsLine held len → (has_byte 10 (take len held) ≡ false) × (length (take len held) ≡ len)
-line_text held len line =
-    let within : line.lf < length held = line.first.0.high in
-    let short : len ≤ line.lf = ⊎_elim (λ same. omega (arith, same)) (λ one. let more = one.0 in omega (arith, more)) line.text in
-    let size : length (take len held) ≡ len = take_count len held (omega (arith, short, within)) in (
-      no_lf (take len held) (λ k less ten.
-          let below : k < len = omega (arith, less, size) in
-          line.first.0.before k (omega arith) (omega (arith, below, short))
-          (eq-eqb _ 10 (sym (get_or-take len held k 0 below) ∙ ten))),
-      size,
-    )
+line_text = grind (arith, nat_tests, ⊎_elim, take_count, no_lf, eq-eqb, get_or-take)
 
 -- in front of the first stop there is none
 no_stop : (xs : List ℕ) (n : ℕ) → n ≡ prefix_len (λ x. not (is_stop x)) xs → mask_l (map is_stop (take n xs)) ≡ 0
-no_stop [] zero is = refl
-no_stop [] (suc n) is = refl
-no_stop (x ∷ xs) zero is = refl
-no_stop (x ∷ xs) (suc n) is = by (is_stop x) refl (no_stop xs n)
-  where
-    by : (t : Bool) → is_stop x ≡ t → (n ≡ prefix_len (λ x. not (is_stop x)) xs → mask_l (map is_stop (take n xs)) ≡ 0)
-        → mask_l (map is_stop (take (suc n) (x ∷ xs))) ≡ 0
-    by true w rest = let s = rw w at is in absurd (omega (arith, s))
-    by false w rest =
-        let s = rw w at is in
-        unset (is_stop x) (mask_l (map is_stop (take n xs))) w (rest (omega (arith, s)))
+no_stop (x ∷ xs) (suc n) is = grind (arith, nat_tests, no_stop xs n)
+no_stop xs n h = grind (arith, nat_tests)
 
 stop_within : (xs : List ℕ) → 0 < mask_l (map is_stop xs) → prefix_len (λ x. not (is_stop x)) xs < length xs
 stop_within [] some = absurd (omega (arith, some))
-stop_within (x ∷ xs) some = by (is_stop x) refl (stop_within xs)
-  where
-    by : (t : Bool) → is_stop x ≡ t → (0 < mask_l (map is_stop xs) → prefix_len (λ x. not (is_stop x)) xs < length xs)
-        → prefix_len (λ x. not (is_stop x)) (x ∷ xs) < length (x ∷ xs)
-    by true w rest = rw w (omega arith)
-    by false w rest = let later = rest (let s = rw w at some in omega (arith, s)) in rw w (omega (arith, later))
+stop_within (x ∷ xs) some = grind (arith, nat_tests, stop_within xs)
 
 -- the first stop, by the lowest bit
 pub record FirstStop (held : List ℕ) (at n rest : ℕ) : Type 0 where
@@ -351,8 +266,7 @@ first_stop held at n stops few room is some =
     let size : length xs ≡ n = length-chunk at n held room in
     let some_here : 0 < mask_l (map is_stop xs) = omega (arith, is, some) in
     let rest = count_trailing_zeros 64 stops in
-    let counted : rest ≡ prefix_len (λ x. not (is_stop x)) xs =
-    ap (count_trailing_zeros 64) is ∙ trailing_mask_l is_stop 64 xs (omega (arith, size, few)) some_here in
+    let counted : rest ≡ prefix_len (λ x. not (is_stop x)) xs = grind (arith, nat_tests, trailing_mask_l) in
     let near : rest < n = omega (arith, counted, stop_within xs some_here, size) in
     record {
       near = near;
@@ -366,15 +280,10 @@ unset_behind b (x ∷ xs) other h =
     unset (x == b) (bits_of b (xs ++ 9 ∷ [])) here.0 (unset_behind b xs other here.1)
 
 no_bang : (xs : List ℕ) → bits_of 33 xs ≡ 0 → is_comment xs ≡ false
-no_bang [] h = refl
-no_bang (x ∷ xs) h =
-    let other = (not_set (x == 33) (bits_of 33 xs) h).0 in
-    not_true (is_comment (x ∷ xs)) (λ yes.
-    let is : (x == 33) ≡ true = eq-eqb x 33 (sym (eqb-true 33 x (and_parts _ _ yes).0)) in cc)
+no_bang = grind (arith, nat_tests)
 
 no_head : (h : Bool) → has_mark h (9 ∷ []) ≡ false → h ≡ false
-no_head true e = let w = e in cc
-no_head false e = refl
+no_head = grind (arith, nat_tests)
 
 -- Plain data, by the bits of where its tokens end
 
@@ -412,9 +321,7 @@ near_ends held len size ends line =
     }
 
 pub near_free : (held : List ℕ) (len size ends : ℕ) → EndsLine held 0 1 len size ends → mask_l (map is_stop (take len held)) ≡ 0
-near_free held len size ends line =
-    let place : len ≡ line.rest = omega (arith, line.place) in
-    ap (λ n. mask_l (map is_stop (take n held))) place ∙ line.free
+near_free = grind (arith, nat_tests)
 
 pub plain_fields : (text ends : List ℕ) → length text ≤ 1048576 → has_byte 10 text ≡ false → HasPlaces text ends → AreFields text ends
 plain_fields text ends few line is =
@@ -425,14 +332,11 @@ pub tabs_cut : (text : List ℕ) → tabs_from 0 (text ++ 9 ∷ []) ≡ ends_fro
 tabs_cut text = tabs_append 0 text (9 ∷ []) ∙ sym (ends_tabs 0 text)
 
 pub short_places : (text all : List ℕ) (ends : ℕ) → length text ≤ 63 → HasEnds text ends → all ≡ set_places 64 0 ends → HasPlaces text all
-short_places text all ends few h is =
-    let size : length (text ++ 9 ∷ []) ≤ 64 = omega (arith, length-append text (9 ∷ []), few) in
-    record { plain = h.plain; cut = is ∙ ap (set_places 64 0) h.bits ∙ set_tabs 64 0 (text ++ 9 ∷ []) size ∙ tabs_cut text }
+short_places = grind (arith, nat_tests, length-append, set_tabs, tabs_cut)
 
 -- what a text's record says again
 text_known : (row : Row) (text : List ℕ) → IsTextOf row text → text_of row ≡ text
-text_known (Comment comment) text is = sym is.0
-text_known (Spined kind tokens) text is = sym is.0
+text_known = grind (arith, nat_tests)
 
 pub plain_reads : (text : List ℕ) → IsPlain text → reading text ≡ Ok (row_in text)
 plain_reads text plain = reads_row text _ (reads_spined text Values plain.unbroken plain.spined plain.lawful)

@@ -1,5 +1,7 @@
 -- Longer lines of plain data, by the bits of their words.
-use Rattle.std.proofs.Common.{◌≡◌, ◌∙◌, refl, sym, ap, ap₂, ℕ, suc, zero, ◌+◌, ◌*◌, ◌-◌, ◌/◌, ◌%◌, ◌≤◌, ◌<◌, ◌^◌, Bool, true, false}
+use Rattle.std.proofs.lemmas.Grind.{common_steps}
+use Rattle.std.proofs.lemmas.Bool.Decides.{nat_tests}
+use Rattle.std.proofs.Common.{◌≡◌, ◌∙◌, refl, sym, ap, ap₂, ℕ, suc, ◌+◌, ◌*◌, ◌-◌, ◌/◌, ◌%◌, ◌≤◌, ◌<◌, ◌^◌, Bool, true, false}
 use Rattle.std.proofs.Common.{List, [], ◌∷◌, ◌++◌, map, length, take, drop, cond, get_or, arith, length-append, length-drop, append_assoc, subst, ⊎_elim}
 use Rattle.std.specs.Prelude.{◌==◌}
 use Rattle.std.specs.Simd.Lanes.{chunk, mask_l}
@@ -49,11 +51,7 @@ pub no_words : Words [] [] 1
 no_words = record { tabs = refl; stops = refl; marks = refl; head_is = refl }
 
 pub head_few : (front places : List ℕ) (head : ℕ) → Words front places head → head ≤ 1
-head_few front places head w = rw w.head_is (by (head_after true front))
-  where
-    by : (b : Bool) → cond b 1 0 ≤ 1
-    by true = omega arith
-    by false = omega arith
+head_few = grind (arith, nat_tests)
 
 -- one word more
 pub more_words : (front block places next : List ℕ) (head ends later : ℕ) → Words front places head → length block ≤ 64
@@ -63,28 +61,18 @@ pub more_words : (front block places next : List ℕ) (head ends later : ℕ) �
 more_words front block places next head ends later w few is_ends free apart put is_later =
     let h = head_after true front in
     let none = none_rare block (rare_free block free) in
-    let clear : has_mark h block ≡ false =
-    unmarked_by h block (ap₂ (λ a n. bit_and (a + 2 * n) n) (sym w.head_is) (sym is_ends) ∙ apart) none.bangs none.stars in
+    let clear : has_mark h block ≡ false = grind (arith, nat_tests, unmarked_by, ap₂) in
     record {
-      tabs =
-          put ∙ ap₂ (λ (xs ys : List ℕ). xs ++ ys) w.tabs (ap (set_places 64 (length front)) is_ends ∙ set_tabs 64 (length front) block few
-          ∙ ap (λ n. tabs_from n block) (omega arith))
-          ∙ sym (tabs_append 0 front block);
+      tabs = grind (arith, nat_tests, ap₂, set_tabs, tabs_append);
       stops = none_behind front block w.stops free;
       marks = mark_append true front block ∙ rw (w.marks, clear) refl;
       head_is = is_later ∙ ap (λ b. cond b 1 0) (sym (head_append true front block));
     }
 
-none_taken : (b : ℕ) → take {A = ℕ} b [] ≡ []
-none_taken zero = refl
-none_taken (suc b) = refl
-
 -- a front is one part and the next
 pub joined : (a b n : ℕ) (xs : List ℕ) → a + b ≡ n → take n xs ≡ take a xs ++ take b (drop a xs)
-joined zero b n xs e = ap (λ m. take m xs) (omega (arith, e))
-joined (suc a) b zero xs e = absurd (omega (arith, e))
-joined (suc a) b (suc n) [] e = sym (none_taken b)
 joined (suc a) b (suc n) (x ∷ xs) e = ap (λ (ys : List ℕ). x ∷ ys) (joined a b n xs (omega (arith, e)))
+joined a b n xs h = grind (arith, common_steps)
 
 -- a whole word
 pub whole_word : (held places next : List ℕ) (at head ends stops : ℕ) → at + 64 ≤ length held → Words (take at held) places head
@@ -106,14 +94,10 @@ whole_word held places next at head ends stops room w is_ends is_stops none apar
     length_last xs size = let d = length-drop 63 xs in omega (arith, d, size)
 
     last_bit : (xs : List ℕ) → length xs ≡ 1 → bits_of 9 xs ≡ cond (get_or xs 0 0 == 9) 1 0
-    last_bit [] e = absurd (omega (arith, e))
-    last_bit (x ∷ []) e = omega arith
-    last_bit (x ∷ y ∷ xs) e = absurd (omega (arith, e))
+    last_bit = grind (arith, common_steps)
 
     first_of : (k : ℕ) (xs : List ℕ) → get_or (drop k xs) 0 0 ≡ get_or xs k 0
-    first_of zero xs = refl
-    first_of (suc k) [] = refl
-    first_of (suc k) (x ∷ xs) = first_of k xs
+    first_of = grind (arith, common_steps)
 
 -- the last word, as if a tab stood behind it
 pub record FarLine (held places : List ℕ) (len : ℕ) : Type 0 where
@@ -135,8 +119,7 @@ last_word held places next at head len whole_size ends short w end put =
     let size : length block ≤ 64 = omega (arith, length-append rest (9 ∷ []), some, short, place) in
     let free : mask_l (map is_stop block) ≡ 0 = none_behind rest (9 ∷ []) end.free refl in
     let whole : text ≡ take at held ++ rest = joined at end.rest len held (sym place) in
-    let all : take at held ++ block ≡ text ++ 9 ∷ [] =
-    sym (append_assoc (take at held) rest (9 ∷ [])) ∙ ap (λ (xs : List ℕ). xs ++ 9 ∷ []) (sym whole) in
+    let all : take at held ++ block ≡ text ++ 9 ∷ [] = grind (arith, nat_tests, append_assoc) in
     let words = subst (λ (xs : List ℕ). Words xs next (cond (head_after (head_after true (take at held)) block) 1 0)) all
     (more_words (take at held) block places next head ends _ w size end.bits free end.apart
     (put ∙ ap (λ n. places ++ set_places 64 n ends) (sym front)) refl) in

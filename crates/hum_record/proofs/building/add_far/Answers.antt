@@ -1,11 +1,11 @@
-use Rattle.std.proofs.Common.{refl}
+use Rattle.std.proofs.lemmas.Bool.Decides.{nat_tests}
+use Rattle.std.proofs.Common.{refl, arith}
 use Rattle.std.proofs.lemmas.Result.{err_from_is_err_and}
 use Rattle.hum_record.proofs.building.add_far.Goals as goal
 
 pub returns-in_err-provide : goal.returns-in_err-provide
 returns-in_err-provide c =
-    let p = err_from_is_err_and c.from_residual.result c.from_residual.ensures.1 in
-    rw p.1 (record { fits = tt; text = tt; ends = tt; there = tt })
+    grind (arith, nat_tests, err_from_is_err_and c.from_residual.result c.from_residual.ensures.1)
 
 pub returns-then-not-has_room : goal.returns-then-not-has_room
 returns-then-not-has_room c =

@@ -1,3 +1,4 @@
+use Rattle.std.proofs.lemmas.Bool.Decides.{nat_tests}
 use Rattle.std.proofs.Common.{arith}
 use Rattle.std.proofs.lemmas.List.{length-set}
 use Rattle.hum_record.proofs.Filled.{stands_below, stands_above, one_put, begins_next, all_put}
@@ -122,9 +123,4 @@ returns-clause-ends c =
     c.requires.cut l.invariant.0 (let t = c.loop-j-test.false in omega (arith, t)) (let e = l.auto.j-end in omega (arith, e))).ends_are
 
 pub returns-clause-at_most : goal.returns-clause-at_most
-returns-clause-at_most c =
-    let l = c.loop-j in
-    let most = l.invariant.3 in
-    let begin = l.invariant.6 in
-    let above = l.invariant.7 in
-    omega (arith, most, begin, above)
+returns-clause-at_most c = grind (arith, nat_tests)

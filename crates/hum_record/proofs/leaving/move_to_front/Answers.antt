@@ -1,3 +1,4 @@
+use Rattle.std.proofs.lemmas.Bool.Decides.{nat_tests}
 use Rattle.std.proofs.Common.{sym, arith}
 use Rattle.std.proofs.lemmas.List.Sums.{prefix_len-le-length}
 use Rattle.std.proofs.lemmas.List.Splits.{join_with_byte-slice_split}
@@ -89,8 +90,4 @@ pub returns-clause-shorter : goal.returns-clause-shorter
 returns-clause-shorter c = c.loop-j.invariant.left.within
 
 pub returns-clause-fewer : goal.returns-clause-fewer
-returns-clause-fewer c =
-    let l = c.loop-j.invariant.left in
-    let f = l.fewer in
-    let s = l.some_ends in
-    omega (arith, f, s)
+returns-clause-fewer c = grind (arith, nat_tests)

@@ -1,12 +1,11 @@
+use Rattle.std.proofs.lemmas.Bool.Decides.{nat_tests}
 use Rattle.std.proofs.Common.{◌≤◌, length, drop, refl, arith, length-drop}
 use lib.Count.{count_trailing_zeros}
 use Rattle.hum_record.proofs.Short.{first_stop, tabs_at, ends_at, ends_fit}
 use Rattle.hum_record.proofs.near.line_end.Goals as goal
 
 pub lf_behind-requires-clause-near : goal.lf_behind-requires-clause-near
-lf_behind-requires-clause-near g c =
-    let stop = first_stop c.args.held.now c.args.at g.row.N c.args.stops c.requires.few c.requires.within c.requires.stops c.requires.some in
-    omega (arith, stop.near, c.requires.within)
+lf_behind-requires-clause-near = grind (arith, nat_tests, first_stop)
 
 pub overflow_add-ends : goal.overflow_add-ends
 overflow_add-ends g c =

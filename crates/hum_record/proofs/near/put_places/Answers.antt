@@ -1,4 +1,5 @@
-use Rattle.std.proofs.Common.{◌≡◌, ◌≤◌, ◌<◌, ◌^◌, ◌∙◌, ◌+◌, ◌++◌, ℕ, List, length, take, ap, refl, arith, length-append}
+use Rattle.std.proofs.lemmas.Bool.Decides.{nat_tests}
+use Rattle.std.proofs.Common.{◌≡◌, ◌≤◌, ◌<◌, ◌^◌, ◌+◌, ◌++◌, ℕ, List, length, take, ap, refl, arith, length-append}
 use Rattle.hum_record.specs.Cutting.{set_places}
 use Rattle.hum_record.proofs.Places.{take_count}
 use Rattle.hum_record.proofs.Short.{room_left, all_put}
@@ -37,61 +38,29 @@ pub loop-init : goal.loop-init
 loop-init c = (refl, refl, omega (arith, c.requires.room), c.ranges.bits.fits)
 
 pub returns-then-rest-eq0-clause-count : goal.returns-then-rest-eq0-clause-count
-returns-then-rest-eq0-clause-count c =
-    let l = c.loop in
-    (done c.args.places.now l.places c.args.count l.end c.args.start c.args.bits l.rest c.requires.room l.invariant c.if-rest-eq0.true).0
+returns-then-rest-eq0-clause-count = grind (arith, nat_tests, done)
 
 pub returns-then-rest-eq0-clause-places : goal.returns-then-rest-eq0-clause-places
-returns-then-rest-eq0-clause-places c =
-    let l = c.loop in
-    (done c.args.places.now l.places c.args.count l.end c.args.start c.args.bits l.rest c.requires.room l.invariant c.if-rest-eq0.true).1
+returns-then-rest-eq0-clause-places = grind (arith, nat_tests, done)
 
 pub put_place-rest-requires-clause-room : goal.put_place-rest-requires-clause-room
-put_place-rest-requires-clause-room c =
-    let l = c.loop in
-    let test = c.if-rest-eq0.false in
-    left c.args.places.now l.places c.args.count l.end c.args.start c.args.bits l.rest c.requires.room l.invariant (omega (arith, test))
+put_place-rest-requires-clause-room = grind (arith, nat_tests, left)
 
 pub loop-preserved : goal.loop-preserved
-loop-preserved c =
-    let l = c.loop in
-    let put = c.put_place-rest.ensures in
-    let size = c.put_place-rest.auto.places in (
-      put.put ∙ l.invariant.0,
-      omega (arith, size, l.invariant.1),
-      omega (arith, size, c.put_place-rest.ensures.within),
-      omega (arith, put.less, l.invariant.3),
-    )
+loop-preserved = grind (arith, nat_tests)
 
 pub loop-rest-init : goal.loop-rest-init
 loop-rest-init c = c.loop.invariant
 
 pub put_place-rest-requires-in-loop-rest-clause-room :
     goal.put_place-rest-requires-in-loop-rest-clause-room
-put_place-rest-requires-in-loop-rest-clause-room c =
-    let l = c.loop-rest in
-    let test = c.loop-rest-test.true in
-    left c.args.places.now l.places c.args.count l.end c.args.start c.args.bits l.rest c.requires.room l.invariant (omega (arith, test))
+put_place-rest-requires-in-loop-rest-clause-room = grind (arith, nat_tests, left)
 
 pub loop-rest-preserved : goal.loop-rest-preserved
-loop-rest-preserved c =
-    let l = c.loop-rest in
-    let put = c.put_place-rest-in-loop-rest.ensures in
-    let size = c.put_place-rest-in-loop-rest.auto.places in (
-      put.put ∙ l.invariant.0,
-      omega (arith, size, l.invariant.1),
-      omega (arith, size, c.put_place-rest-in-loop-rest.ensures.within),
-      omega (arith, put.less, l.invariant.3),
-    )
+loop-rest-preserved = grind (arith, nat_tests)
 
 pub returns-clause-count : goal.returns-clause-count
-returns-clause-count c =
-    let l = c.loop-rest in
-    let test = c.loop-rest-test.false in
-    (done c.args.places.now l.places c.args.count l.end c.args.start c.args.bits l.rest c.requires.room l.invariant (omega (arith, test))).0
+returns-clause-count = grind (arith, nat_tests, done)
 
 pub returns-clause-places : goal.returns-clause-places
-returns-clause-places c =
-    let l = c.loop-rest in
-    let test = c.loop-rest-test.false in
-    (done c.args.places.now l.places c.args.count l.end c.args.start c.args.bits l.rest c.requires.room l.invariant (omega (arith, test))).1
+returns-clause-places = grind (arith, nat_tests, done)

@@ -1,6 +1,7 @@
+use Rattle.std.proofs.lemmas.Bool.Decides.{nat_tests}
+use Rattle.std.proofs.Common.{arith}
 use Rattle.hum_record.proofs.Moved.{whole_by_both}
 use Rattle.hum_record.proofs.putting.put_by.Goals as goal
 
 pub returns : goal.returns
-returns g c =
-    whole_by_both c.args.token.now c.args.text.now c.args.at g.row.N c.requires.few c.requires.many c.requires.within
+returns = grind (arith, nat_tests, whole_by_both)

@@ -1,4 +1,5 @@
-use Rattle.std.proofs.Common.{◌≡◌, ◌∙◌, sym, subst, Ok, false, rules}
+use Rattle.std.proofs.lemmas.Bool.Decides.{nat_tests}
+use Rattle.std.proofs.Common.{◌≡◌, ◌∙◌, sym, subst, Ok, false, rules, arith}
 use Rattle.std.proofs.lemmas.Result.{err_from_is_err_and}
 use Rattle.hum_score.specs.Spelling.{is_comment, kind_of_tokens, parts}
 use Rattle.hum_record.specs.Cutting.{IsCut}
@@ -24,8 +25,7 @@ returns-in_ok-lawful_kind-in-Whole-clause-fields c =
 
 pub returns-in_err-push_ends : goal.returns-in_err-push_ends
 returns-in_err-push_ends c =
-    let p = err_from_is_err_and c.from_residual.result c.from_residual.ensures.1 in
-    rw p.1 (record { fields = tt; read = tt; refused = search rules })
+    grind (arith, nat_tests, err_from_is_err_and c.from_residual.result c.from_residual.ensures.1)
 
 pub returns-in_err-lawful_kind-in-Whole : goal.returns-in_err-lawful_kind-in-Whole
 returns-in_err-lawful_kind-in-Whole c =

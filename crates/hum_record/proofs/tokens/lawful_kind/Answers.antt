@@ -1,3 +1,4 @@
+use Rattle.std.proofs.lemmas.Bool.Decides.{nat_tests}
 use Rattle.std.proofs.Common.{◌≡◌, ◌≤◌, ◌∙◌, sym, ap, ◌+◌, [], length, take, get_or, Bool, arith, List, ℕ, rules}
 use Rattle.std.specs.List.{list_any}
 use Rattle.std.proofs.lemmas.List.{take_all}
@@ -34,17 +35,12 @@ loop-j-preserved c =
 -- what was found of all tokens
 none_empty : (text ends : List ℕ) (j : ℕ) (found : Bool) → ends ≡ ends_from 0 (parts text) → length ends ≤ j → found ≡ list_any is_empty (take j (parts text))
     → list_any is_empty (parts text) ≡ found
-none_empty text ends j found cut all e =
-    let count = parts_count text ends cut in
-    sym (e ∙ ap (list_any is_empty) (take_all j (parts text) (omega (arith, count, all))))
+none_empty = grind (arith, nat_tests, parts_count, take_all)
 
 none_mixed : (text ends : List ℕ) (j : ℕ) (found : Bool) → ends ≡ ends_from 0 (parts text) → length ends ≤ j →
     found ≡ list_any (is_other (kind_of_token text)) (take j (parts text))
     → mixes_kinds (parts text) ≡ found
-none_mixed text ends j found cut all e =
-    let count = parts_count text ends cut in
-    sym (e ∙ ap (list_any (is_other (kind_of_token text))) (take_all j (parts text) (omega (arith, count, all)))
-    ∙ ap (λ (k : SpinedKind). list_any (is_other k) (parts text)) (kind_of_parts text))
+none_mixed = grind (arith, nat_tests, parts_count, is_other, take_all, kind_of_parts)
 
 pub returns-then-has_empty : goal.returns-then-has_empty
 returns-then-has_empty c =

@@ -1,3 +1,4 @@
+use Rattle.std.proofs.lemmas.Bool.Decides.{nat_tests}
 use Rattle.std.proofs.Common.{◌≡◌, ◌∙◌, ℕ, List, length, take, ap₂, rules, arith}
 use Rattle.std.proofs.lemmas.List.{take_all}
 use Rattle.hum_record.proofs.reading.Record.parse.Goals as goal
@@ -7,8 +8,7 @@ whole : (len : ℕ) (held text : List ℕ) → len ≡ length text → held ≡ 
 whole len held text size is = ap₂ take size is ∙ take_all (length text) text (omega arith)
 
 pub parse_into-requires-clause-one_line : goal.parse_into-requires-clause-one_line
-parse_into-requires-clause-one_line c =
-    rw (whole c.len.result c.deref.result.now c.args.text.items (search rules) c.deref.ensures.value) c.requires.one_line
+parse_into-requires-clause-one_line = grind (arith, nat_tests, whole)
 
 pub returns-clause-found : goal.returns-clause-found
 returns-clause-found c =

@@ -1,3 +1,4 @@
+use Rattle.std.proofs.lemmas.Bool.Decides.{nat_tests}
 use Rattle.std.proofs.Common.{◌∙◌, arith}
 use Rattle.hum_record.proofs.Laws.{token_lawful}
 use Rattle.hum_record.proofs.Ends.{piece_lies, width_counts}
@@ -12,10 +13,7 @@ token_at_end-requires c =
     (record { counted = omega (arith, count); order = lies.order; within = lies.within })
 
 pub returns-clause-token : goal.returns-clause-token
-returns-clause-token c =
-    let inside = c.self.inside in
-    let lies = piece_lies inside.body.value.text inside.body.value.ends c.args.self.now c.args.j c.self.invariant c.self.view_is c.requires in
-    rw (c.text.ensures, c.deref.ensures, c.ends.ensures, c.deref-2.ensures) at c.token_at_end.ensures ∙ lies.reads
+returns-clause-token = grind (arith, nat_tests, piece_lies)
 
 pub returns-clause-lawful : goal.returns-clause-lawful
 returns-clause-lawful c =

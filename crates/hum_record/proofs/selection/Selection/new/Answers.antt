@@ -1,4 +1,5 @@
-use Rattle.std.proofs.Common.{◌≡◌}
+use Rattle.std.proofs.lemmas.Bool.Decides.{nat_tests}
+use Rattle.std.proofs.Common.{◌≡◌, arith}
 use Rattle.std.proofs.lemmas.Result.{err_from_is_err_and}
 use Rattle.hum_record.proofs.Picked.{picks, passes, picked}
 use Rattle.hum_record.proofs.selection.Selection.new.Goals.{then-marks-j+in_ok-push, else-marks-j}
@@ -9,8 +10,7 @@ loop-j-preserved c = elim c.if-marks-j.branch [
   | then-marks-j+in_ok-push w ↦
       rw (w.moved-is, w.in_ok-push.ensures.items)
       (picks c.args.marks.now c.loop-j.j c.loop-j.moved.items _ c.loop-j-test.true c.loop-j.invariant w.if-marks-j.true)
-  | else-marks-j w ↦
-      rw w.moved-is (passes c.args.marks.now c.loop-j.j c.loop-j.moved.items _ c.loop-j-test.true c.loop-j.invariant w.if-marks-j.false)
+  | else-marks-j w ↦ grind (arith, nat_tests, passes)
 ]
 
 pub invariant_of-result : goal.invariant_of-result
