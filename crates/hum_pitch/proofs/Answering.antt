@@ -1,6 +1,6 @@
 -- What is answered of the note that is away.
-use Rattle.std.proofs.Common.{ℤ, pos, negsuc, Result, Ok, Err, inl, inr, subst, sym, arith}
-use Rattle.std.proofs.lemmas.Int.{ints}
+use Rattle.std.proofs.lemmas.Bool.Decides.{nat_tests}
+use Rattle.std.proofs.Common.{ℤ, pos, negsuc, Result, Ok, Err, subst, sym, arith}
 use Rattle.std.specs.Prelude.{IfOk, IfErr}
 use Rattle.hum_pitch.specs.Pitch.{Spelled, IsAway, IsWithin, IsOutside, away}
 use Rattle.hum_pitch.specs.Given.{spelled, Answers}
@@ -11,12 +11,10 @@ use Rattle.hum_pitch.proofs.Steps.{away_is, away_only}
 
 pub apart : (n m : ℤ) (p : Spelled) (r : Result Pitch PitchFault) → Answers (away n m p) r
     → IfOk r (λ q. IsAway n m p (spelled q))
-apart n m p (Ok q) e = let P : Spelled → Type 0 = IsAway n m p in subst P (sym e) (away_is n m p)
-apart n m p (Err _) e = tt
+apart = grind (arith, nat_tests, away_is)
 
 outside : (low z high : ℤ) → IsWithin low z high → IsOutside low z high → ⊥
-outside low z high (f, g) (inl h) = omega (arith, ints)
-outside low z high (f, g) (inr h) = omega (arith, ints)
+outside = grind (arith, nat_tests)
 
 -- What is refused has no spelling within the limits.
 pub none : (n m : ℤ) (p : Spelled) (r : Result Pitch PitchFault) → Answers (away n m p) r

@@ -1,4 +1,6 @@
 -- What is written is read as the same pitch.
+use Rattle.std.proofs.lemmas.Grind.{common_steps}
+use Rattle.std.proofs.lemmas.Bool.Decides.{nat_tests}
 use Rattle.std.proofs.Common.{◌≡◌, ◌==◌, ◌+◌, ◌<◌, ℕ, zero, suc, ℤ, pos, negsuc, ◌+ℤ◌, ◌-ℤ◌, true, false, List}
 use Rattle.std.proofs.Common.{◌++◌, Option, Some, length, drop, refl, ap, ◌∙◌, arith, ◌<ℤ◌, eq-eqb}
 use Rattle.std.specs.Prelude.{replicate, slice_index}
@@ -27,8 +29,7 @@ run_over x zero ys e = e
 run_over x (suc k) ys e = rw (eqb_self x) (ap suc (run_over x k ys e))
 
 drop_over : (x k : ℕ) (ys : List ℕ) → drop k (replicate k x ++ ys) ≡ ys
-drop_over x zero ys = refl
-drop_over x (suc k) ys = drop_over x k ys
+drop_over = grind (arith, common_steps)
 
 run_all : (x k : ℕ) → run x (replicate k x) ≡ k
 unfolding run
@@ -47,8 +48,7 @@ pub reads_accidentals : (a : ℤ) → read_accidentals (accidentals a) ≡ Some 
 unfolding read_accidentals
 reads_accidentals (pos k) = rw (as_long 35 k, length-replicate {A = ℕ} k 35) refl
 reads_accidentals (negsuc k) =
-    let by_length : ℕ → Option ℤ = λ n. Some (negsuc n) in
-    rw (flats_only k, as_long 45 (suc k)) (ap by_length (length-replicate {A = ℕ} k 45))
+    grind (arith, nat_tests, flats_only k, as_long 45 (suc k), length-replicate {A = ℕ} k 45)
 
 -- no accidental is a letter
 none_in_accidentals : (x : ℕ) (a : ℤ) → (35 == x) ≡ false → (45 == x) ≡ false → run x (accidentals a) ≡ 0
@@ -97,12 +97,9 @@ capital (suc (suc (suc (suc (suc (suc (suc n))))))) k a h = absurd (omega arith)
 
 read_at : (p : Spelled) (o : ℤ) → p.step < 7 → p.octave ≡ o +ℤ pos 4
     → read_pitch (letters p.step o ++ accidentals p.alteration) ≡ Some p
-read_at p (pos k) h e =
-    let same_octave : pos 3 +ℤ pos (suc k) ≡ p.octave = omega (arith, ints) in
-    small p.step k p.alteration h ∙ ap Some (same_note _ p refl same_octave refl)
+read_at p (pos k) h e = grind (arith, nat_tests, pos, ints, small, same_note)
 read_at p (negsuc k) h e =
-    let same_octave : pos 4 -ℤ pos (suc k) ≡ p.octave = omega (arith, ints) in
-    capital p.step k p.alteration h ∙ ap Some (same_note _ p refl same_octave refl)
+    grind (arith, nat_tests, pos 4 -ℤ pos (suc k), pos (suc k), capital p.step k p.alteration h)
 
 -- Whatever its octave and its alteration.
 pub read_again : (p : Spelled) → p.step < 7 → read_pitch (spelling p) ≡ Some p

@@ -1,27 +1,19 @@
 -- Steps and semitones.
-use Rattle.std.proofs.Common.{◌≡◌, ◌≤◌, ◌<◌, ℕ, ℤ, pos, negsuc, ◌+ℤ◌, ◌-ℤ◌, ◌*ℤ◌, zero, suc, lit≤, arith, ap, refl, FitsSigned, to_z, of_z, w32, ◌∙◌}
+use Rattle.std.proofs.lemmas.Bool.Decides.{nat_tests}
+use Rattle.std.proofs.Common.{◌≡◌, ◌≤◌, ◌<◌, ℕ, ℤ, pos, negsuc, ◌+ℤ◌, ◌-ℤ◌, ◌*ℤ◌, arith, ap, refl, FitsSigned, to_z, of_z, w32}
 use Rattle.std.proofs.lemmas.Int.{ints}
 use Rattle.hum_pitch.specs.Pitch.{Spelled, natural, natural_at, semitones, step_number, away, IsAway, IsWithin}
 
 pub natural_le : (k : ℕ) → natural k ≤ 11
 unfolding natural
-natural_le zero = lit≤ tt
-natural_le (suc zero) = lit≤ tt
-natural_le (suc (suc zero)) = lit≤ tt
-natural_le (suc (suc (suc zero))) = lit≤ tt
-natural_le (suc (suc (suc (suc zero)))) = lit≤ tt
-natural_le (suc (suc (suc (suc (suc zero))))) = lit≤ tt
-natural_le (suc (suc (suc (suc (suc (suc zero)))))) = lit≤ tt
-natural_le (suc (suc (suc (suc (suc (suc (suc k))))))) = lit≤ tt
+natural_le = grind (arith, nat_tests)
 
 -- A step number has one octave and one step.
 pub octave_of : (k : ℕ) (o z : ℤ) → k < 7 → (pos 7 *ℤ o) +ℤ pos k ≡ z → o ≡ (natural_at z).octave
-octave_of k o (pos a) small e = omega (arith, ints)
-octave_of k o (negsuc a) small e = omega (arith, ints)
+octave_of = grind (arith, nat_tests)
 
 pub step_of : (k : ℕ) (o z : ℤ) → k < 7 → (pos 7 *ℤ o) +ℤ pos k ≡ z → k ≡ (natural_at z).step
-step_of k o (pos a) small e = omega (arith, ints)
-step_of k o (negsuc a) small e = omega (arith, ints)
+step_of = grind (arith, nat_tests)
 
 -- The note that is away, from its octave, its step and its semitones.
 pub altered : (n m a s : ℤ) (p : Spelled) (k : ℕ) (o : ℤ) → k < 7 → (pos 7 *ℤ o) +ℤ pos k ≡ step_number p +ℤ n
@@ -46,12 +38,10 @@ difference_is s t n f g h = omega (arith, ints)
 
 -- The note that is away is n steps and m semitones away.
 pub below_seven : (z : ℤ) → (natural_at z).step < 7
-below_seven (pos a) = omega arith
-below_seven (negsuc a) = omega arith
+below_seven = grind (arith, nat_tests)
 
 pub numbered : (z : ℤ) → step_number (natural_at z) ≡ z
-numbered (pos a) = omega (arith, ints)
-numbered (negsuc a) = omega (arith, ints)
+numbered = grind (arith, nat_tests)
 
 pub as_wide : (m : ℤ) (p q : Spelled) → q.alteration ≡ pos 0
     → semitones (record q { alteration = (semitones p +ℤ m) -ℤ semitones q }) ≡ semitones p +ℤ m
@@ -65,11 +55,7 @@ away_is n m p = record {
 }
 
 pub same_note : (p q : Spelled) → p.step ≡ q.step → p.octave ≡ q.octave → p.alteration ≡ q.alteration → p ≡ q
-same_note p q e f g =
-    let by_step : ℕ → Spelled = λ k. record p { step = k } in
-    let by_octave : ℤ → Spelled = λ o. record p { step = q.step; octave = o } in
-    let by_alteration : ℤ → Spelled = λ a. record q { alteration = a } in
-    ap by_step e ∙ ap by_octave f ∙ ap by_alteration g
+same_note = grind (arith, nat_tests)
 
 -- No other note is.
 pub away_only : (n m : ℤ) (p q : Spelled) → IsAway n m p q → q ≡ away n m p

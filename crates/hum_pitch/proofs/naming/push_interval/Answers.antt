@@ -1,3 +1,4 @@
+use Rattle.std.proofs.lemmas.Bool.Decides.{nat_tests}
 use Rattle.std.proofs.Common.{◌≡◌, to_z, of_z, w32, arith}
 use Rattle.std.proofs.lemmas.Int.{ints}
 use Rattle.std.proofs.lemmas.Result.{err_from_is_err_and}
@@ -5,10 +6,7 @@ use Rattle.hum_pitch.proofs.Names.{named_behind}
 use Rattle.hum_pitch.proofs.naming.push_interval.Goals as goal
 
 pub push_repeated-requires : goal.push_repeated-requires
-push_repeated-requires c =
-    let sign = c.sign.ensures.few in
-    let shown = c.shown.ensures.few in
-    omega (arith, sign, shown)
+push_repeated-requires = grind (arith, nat_tests)
 
 pub returns-in_err-push_repeated : goal.returns-in_err-push_repeated
 returns-in_err-push_repeated c =
@@ -18,10 +16,7 @@ pub quality_letters-requires : goal.quality_letters-requires
 quality_letters-requires c = c.quality.ensures.modest
 
 pub push_repeated-requires-2 : goal.push_repeated-requires-2
-push_repeated-requires-2 c =
-    let letters = c.quality_letters.ensures.few in
-    let shown = c.shown-2.ensures.few in
-    omega (arith, letters, shown)
+push_repeated-requires-2 c = grind (arith, nat_tests)
 
 pub returns-in_err-push_repeated-2 : goal.returns-in_err-push_repeated-2
 returns-in_err-push_repeated-2 c =
@@ -29,9 +24,7 @@ returns-in_err-push_repeated-2 c =
     let p = err_from_is_err_and r.result r.ensures.1 in rw p.1 tt
 
 pub overflow_add-unsigned_abs : goal.overflow_add-unsigned_abs
-overflow_add-unsigned_abs c =
-    let bound = c.unsigned_abs.ensures.bound in
-    omega (arith, bound)
+overflow_add-unsigned_abs c = grind (arith, nat_tests)
 
 pub returns : goal.returns
 returns c =
