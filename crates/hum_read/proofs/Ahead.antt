@@ -10,7 +10,7 @@ use Rattle.hum_text.specs.Text.{without_cr, ends_in_cr}
 use Rattle.hum_score.specs.Row.{Row, text_of}
 use Rattle.hum_score.specs.Spelling.{has_byte, reading}
 use Rattle.hum_record.specs.Lines.{IsLine, IsRead}
-use Rattle.hum_record.specs.Plain.{is_stop}
+use Rattle.hum_record.specs.Plain.{is_stop, HasNoStop}
 
 -- no byte of a text is CR that is read as a record
 no-return : (text : List ℕ) (row : Row) → reading text ≡ Ok row → has_byte 13 text ≡ false
@@ -78,6 +78,10 @@ pub stops_in_front : (held behind pending : List ℕ) → pending ≡ held ++ be
     → mask_l (map is_stop (take 64 pending)) ≡ mask_l (map is_stop (take 64 held))
 stops_in_front held behind pending is long =
     ap (λ (bs : List ℕ). mask_l (map is_stop (take 64 bs))) is ∙ ap (λ (bs : List ℕ). mask_l (map is_stop bs)) (take-append-le 64 held behind long)
+
+pub begins_so : (held behind pending : List ℕ) → pending ≡ held ++ behind → HasNoStop held → HasNoStop pending
+begins_so held behind pending is free =
+    (rw is (omega (arith, free.0, length-append held behind)), stops_in_front held behind pending is free.0 ∙ free.1)
 
 -- What is asked where a line is taken, and what it is then.
 pub record Taking (limits : Limits) (given taken : ℕ) (pending : List ℕ) (row : Row) (lf : ℕ) : Type 0 where

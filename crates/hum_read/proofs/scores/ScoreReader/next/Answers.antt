@@ -1,8 +1,11 @@
-use Rattle.std.proofs.Common.{◌≡◌, ◌≤◌, ◌+◌, ◌++◌, ℕ, List, length, subst, None}
+use Rattle.std.proofs.Common.{◌≡◌, ◌∙◌, ◌≤◌, ◌+◌, ◌++◌, ℕ, List, Option, length, refl, sym, subst, None, Some, false}
+use Rattle.std.specs.Option.{is_some}
 use Rattle.hum_record.specs.Lines.{IsReadTo}
 use Rattle.hum_score.specs.Row.{Row}
 use Rattle.hum_read.specs.Reading.{Scores}
 use Rattle.hum_read.specs.Steps.{IsAheadTo, Nexts, given_by}
+use Rattle.hum_record.specs.Plain.{HasNoStop}
+use Rattle.hum_read.proofs.Ahead.{begins_so}
 use Rattle.hum_read.proofs.Nexting.{stopped-nexts}
 use Rattle.hum_read.proofs.scores.ScoreReader.next.Goals as goal
 
@@ -39,4 +42,18 @@ give_short-requires-clause-ahead g c =
 pub give_short-requires-in-Ok-clause-ahead : goal.give_short-requires-in-Ok-clause-ahead
 give_short-requires-in-Ok-clause-ahead g c =
     let ahead = c.ahead-held.ensures in
-    ahead_to _ _ _ _ _ ahead.next ahead.line ahead.records ahead.bytes c.in-Ok.ensures c.self.view_is
+    ahead_to _ _ _ _ _ ahead.next ahead.line ahead.records ahead.bytes c.in-Ok.ensures.line c.self.view_is
+
+none_left : {X : Type 0} (o : Option X) → is_some o ≡ false → o ≡ None
+none_left None none = refl
+none_left (Some x) none = cc
+
+pub next_longer-requires-clause-going : goal.next_longer-requires-clause-going
+next_longer-requires-clause-going g c =
+    subst (λ v. v.stopped ≡ None) c.self.view_is (none_left _ (sym c.is_some.ensures ∙ c.if-is_some.false))
+
+pub next_longer-requires-clause-free : goal.next_longer-requires-clause-free
+next_longer-requires-clause-free g c =
+    let next = c.ahead-held.ensures.next in
+    let free = c.in-Err-Longer.ensures.longer c.in-Err-Longer.field-0-is in
+    subst (λ v. HasNoStop v.lines.pending) c.self.view_is (begins_so c.ahead-held.result.now next.0 _ next.1 free)
