@@ -1,30 +1,17 @@
 -- Bytes are cut into packets.
-use Rattle.std.proofs.Common.{◌≡◌, ℕ, ◌<◌, ◌≤◌, min, List, [], ◌∷◌, ◌++◌, length, take, drop, map, refl, sym, ap, ◌∙◌, arith, ◌⊎◌, inl, inr, append_assoc, append-nil, take-append-drop}
+use Rattle.std.proofs.Common.{◌≡◌, ℕ, ◌<◌, ◌≤◌, min, List, [], ◌∷◌, ◌++◌, length, take, drop, map, sym, ap, ◌∙◌, arith, ◌⊎◌, inl, inr, append_assoc, append-nil, take-append-drop}
 use Rattle.std.specs.List.{concat, All}
 use Rattle.std.proofs.lemmas.List.{take_all, drop_all, map-append, length-take-le}
 use Rattle.std.proofs.lemmas.List.Folds.{concat-append}
-use Rattle.std.proofs.lemmas.List.Elements.{All-nil, All-push}
-use Rattle.hum_packets.specs.Packets.{packet_of, list_of, zeros}
-use Rattle.hum_packets.specs.Lists.{IsDataSize, IsCut}
+use Rattle.std.proofs.lemmas.List.Elements.{All-push}
+use Rattle.hum_packets.specs.Packets.{packet_of}
+use Rattle.hum_packets.specs.Lists.{IsDataSize}
 
 -- these packets were cut off, and the rest is to be cut
 pub record CutSoFar (bytes : List ℕ) (packets : List (List ℕ)) (rest : List ℕ) : Type 0 where
   pub joined : bytes ≡ concat packets ++ rest
   pub sizes : All IsDataSize packets
   pub whole : length bytes ≤ 65516 → ((packets ≡ []) × (rest ≡ bytes)) ⊎ ((packets ≡ bytes ∷ []) × (rest ≡ []))
-
-pub cut-none : (bytes : List ℕ) → CutSoFar bytes [] bytes
-cut-none bytes = record { joined = refl; sizes = All-nil IsDataSize; whole = λ h. inl (refl, refl) }
-
-pub cut-all : (bytes rest : List ℕ) (packets : List (List ℕ)) → CutSoFar bytes packets rest → rest ≡ [] → IsCut bytes packets
-cut-all bytes rest packets x none = record {
-  joined = x.joined ∙ ap (λ (bs : List ℕ). concat packets ++ bs) none ∙ append-nil (concat packets);
-  sizes = x.sizes;
-  whole = λ some few. elim (x.whole few) as (λ _. packets ≡ bytes ∷ []) [
-    | inl p ↦ absurd (omega (arith, some, ap length (sym p.1 ∙ none)))
-    | inr p ↦ p.0
-  ];
-}
 
 pub cut-more : (bytes rest first more : List ℕ) (packets : List (List ℕ)) (n : ℕ) → CutSoFar bytes packets rest → 0 < length rest
     → n ≡ min (length rest) 65516 → first ≡ take n rest → more ≡ drop n rest → CutSoFar bytes (packets ++ first ∷ []) more
@@ -58,8 +45,3 @@ written-more old mid new first packets before is =
     ∙ ap (λ (bs : List ℕ). old ++ (concat (map packet_of packets) ++ bs)) (sym (append-nil (packet_of first)))
     ∙ ap (λ (bs : List ℕ). old ++ bs) (sym (concat-append (map packet_of packets) (packet_of first ∷ [])))
     ∙ ap (λ (ps : List (List ℕ)). old ++ concat ps) (sym (map-append packet_of packets (first ∷ [])))
-
-pub written-all : (old mid new : List ℕ) (packets : List (List ℕ)) → mid ≡ old ++ concat (map packet_of packets)
-    → new ≡ mid ++ zeros → new ≡ old ++ list_of packets
-written-all old mid new packets before is =
-    is ∙ ap (λ (bs : List ℕ). bs ++ zeros) before ∙ append_assoc old (concat (map packet_of packets)) zeros

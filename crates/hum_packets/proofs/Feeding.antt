@@ -1,5 +1,5 @@
 -- What is read ahead.
-use Rattle.std.proofs.Common.{◌≡◌, ℕ, ◌+◌, ◌-◌, ◌≤◌, List, [], ◌++◌, length, take, drop, refl, sym, ap, ◌∙◌, arith, Bool, true, false, ◌||◌, Option, Some, None, append_assoc, append-nil, take-append-drop, slice_range}
+use Rattle.std.proofs.Common.{◌≡◌, ℕ, ◌+◌, ◌-◌, ◌≤◌, List, [], ◌++◌, length, take, drop, refl, sym, ap, ◌∙◌, arith, Bool, true, false, ◌||◌, Option, Some, None, append_assoc, take-append-drop, slice_range}
 use Rattle.std.specs.Io.KnownBytes.{Appends, Consumes, Keeps, prepend_known}
 use Rattle.std.proofs.KnownBytes.{Keeps-refl, Keeps-trans, Appends-nil, Appends-trans, append_known-moved}
 use Rattle.std.specs.List.{copy_within}
@@ -40,9 +40,6 @@ pub serves-trans : {W : Type 0} {sink : Sink W} {a b c : Writing W} {f : Bool} �
     → Serves sink a c f
 serves-trans {sink} {a} {b} {c} {f} x y =
     record { kept = Keeps-trans _ _ _ x.kept y.kept; hands = hands-trans x.hands y.hands }
-
-pub fed-refl : {R : Type 0} {source : Source R} (r : Reading R) → IsFed source r r
-fed-refl r = record { more = []; behind = sym (append-nil r.pending); kept = Keeps-refl _; passed = refl }
 
 pub fed-trans : {R : Type 0} {source : Source R} {a b c : Reading R} → IsFed source a b → IsFed source b c → IsFed source a c
 fed-trans {a} x y = record {
