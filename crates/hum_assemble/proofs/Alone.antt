@@ -1,4 +1,6 @@
 -- Records that change spines: one source alone, the opening record, the closing one.
+use Rattle.std.proofs.lemmas.Grind.{common_steps}
+use Rattle.std.proofs.lemmas.Bool.Decides.{nat_tests}
 use Rattle.std.proofs.Common.{◌≡◌, ◌∙◌, refl, sym, ap, ℕ, zero, suc, ◌+◌, ◌≤◌, ◌⊎◌, inl, inr}
 use Rattle.std.proofs.Common.{Bool, true, false, ◌||◌, List, [], ◌∷◌, ◌++◌, length}
 use Rattle.std.proofs.Common.{arith, length-append, replicate}
@@ -57,19 +59,12 @@ OthersOut going p (s ∷ ss) =
 pub others_out : (going : Bool) (p : Place) (ss : List Source) → NoneIn (paths_of ss)
     → OthersOut going p ss
 others_out going p [] n = tt
-others_out going p (s ∷ ss) n =
-    (elim (is_at going p s) as (λ b. is_at going p s ≡ b → OthersOut going p (s ∷ ss)) [
-      | true ↦ λ e. inl (e, n.1)
-      | false ↦ λ e. inr (e, n.0, others_out going p ss n.1)
-    ]) refl
+others_out going p (s ∷ ss) n = grind (arith, nat_tests, others_out going p ss n.1)
 
 -- a source that begins its added spines is inside
 begins_inside : (going : Bool) (p : Place) (s : Source) → is_over p ≡ false → rank p ≤ 1 → IsSound s
     → is_at going p s ≡ true → is_inside s.path ≡ true
-begins_inside going p s o r i h =
-    let t = taker going p s o i h in
-    let at = t.at in
-    early_inside s.path t.row (omega (arith, at, r))
+begins_inside = grind (arith, nat_tests, taker, early_inside)
 
 none_begins : (going : Bool) (p : Place) (ss : List Source) → is_over p ≡ false → rank p ≤ 1
     → AllSound ss → NoneIn (paths_of ss) → list_any (is_at going p) ss ≡ true → ⊥
@@ -86,10 +81,7 @@ begins_out going p [] o r i n h = tt
 begins_out going p (s ∷ ss) o r i n h =
     (elim (is_at going p s) as (λ b. is_at going p s ≡ b → (b || list_any (is_at going p) ss) ≡ true
     → OthersOut going p (s ∷ ss)) [
-      | true ↦ λ e w. elim n [
-        | inl one ↦ absurd (let v = sym (begins_inside going p s o r i.0 e) ∙ one.0 in cc)
-        | inr none ↦ inl (e, none)
-      ]
+      | true ↦ grind (arith, nat_tests, begins_inside)
       | false ↦ λ e w. elim n [
         | inl one ↦ inr (e, one.0, begins_out going p ss o r i.1 one.1 w)
         | inr none ↦ absurd (none_begins going p ss o r i.1 none w)
@@ -140,17 +132,11 @@ names_are (s ∷ ss) = ap (λ (xs : List (List ℕ)). exclusives s.path ++ xs) (
 
 none_names : (going : Bool) (p : Place) (ss : List Source)
     → names_of (all_moved false going p ss) ≡ names_of ss
-none_names going p ss =
-    names_are (all_moved false going p ss) ∙ (ap names_in (none_moved going p ss) ∙ sym (names_are ss))
+none_names = grind (arith, nat_tests, names_are, none_moved)
 
 any_named : (xs ys : List (List ℕ)) → list_any is_empty xs ≡ false → list_any is_empty ys ≡ false
     → list_any is_empty (xs ++ ys) ≡ false
-any_named [] ys h k = k
-any_named (x ∷ xs) ys h k =
-    (elim (is_empty x) as (λ b. (b || list_any is_empty xs) ≡ false → (b || list_any is_empty (xs ++ ys)) ≡ false) [
-      | true ↦ λ e. cc
-      | false ↦ λ e. any_named xs ys e k
-    ]) h
+any_named = grind (arith, common_steps)
 
 pub named_in : (paths : List Path) → NoneIn paths → list_any is_empty (names_in paths) ≡ false
 named_in [] n = refl

@@ -1,7 +1,9 @@
 -- Records of one source after another, each alone.
+use Rattle.std.proofs.lemmas.Grind.{common_steps}
+use Rattle.std.proofs.lemmas.Bool.Decides.{nat_tests}
 use Rattle.std.proofs.Common.{◌≡◌, ◌∙◌, refl, ap, ℕ, suc, ◌+◌, ◌≤◌, Bool, true}
-use Rattle.std.proofs.lemmas.Bool.{ne_eqb, eq-eqb}
-use Rattle.std.proofs.Common.{false, ◌||◌, List, [], ◌∷◌, ◌++◌, length, arith}
+use Rattle.std.proofs.lemmas.Bool.{eq-eqb}
+use Rattle.std.proofs.Common.{false, List, [], ◌∷◌, ◌++◌, length, arith}
 use Rattle.std.proofs.Common.{map, length-append}
 use Rattle.std.specs.Prelude.{Option, None, Some, ◌==◌, replicate}
 use Rattle.std.specs.List.{list_any}
@@ -12,11 +14,9 @@ use Rattle.hum_stage.specs.declared.faults.End as end
 use Rattle.hum_assemble.specs.declared.places.Place.{Place}
 use Rattle.hum_assemble.specs.Source.{Source, place, is_inside}
 use Rattle.hum_assemble.specs.Places.{rank, is_over, is_shared}
-use Rattle.hum_assemble.specs.Round.{place_at}
 use Rattle.hum_assemble.specs.Merge.{all_moved}
 use Rattle.hum_assemble.specs.Taking.{is_at}
 use Rattle.hum_assemble.specs.Groups.{alone, unit_alone, each_alone, adds}
-use Rattle.hum_assemble.proofs.Taking.{or_not_false}
 use Rattle.hum_assemble.proofs.Written.{Meets, meets_step, parts_at, Sees, AllSee}
 use Rattle.hum_assemble.proofs.Does.{Does, Both, does_nothing, does_then, does_more, does_weaken}
 
@@ -33,28 +33,18 @@ gone path row rows ended = record {
   ended = ended;
 }
 
-later_not : (k n : ℕ) → suc k ≤ n → (k == n) ≡ false
-later_not k n h = ne_eqb k n (λ e. omega (arith, h, e))
-
 self_at : (n : ℕ) → (n == n) ≡ true
 self_at n = eq-eqb n n refl
-
-not_at : (q : Place) (s : Source) → Sees true (suc (rank q)) s → is_at true q s ≡ false
-not_at q s h = later_not (rank q) (rank (place_at true s)) h.later
 
 before_parts : (q : Place) (done ss : List Source) → AllSee true (suc (rank q)) done
     → parts_at true true q (done ++ ss) ≡ replicate (length done) None ++ parts_at true true q ss
 before_parts q [] ss h = refl
-before_parts q (s ∷ done) ss h =
-    rw (not_at q s h.0, or_not_false (is_shared q))
-    (ap (λ (os : List (Option Row)). None ∷ os) (before_parts q done ss h.1))
+before_parts q (s ∷ done) ss h = grind (arith, nat_tests, before_parts q done ss h.1)
 
 before_moved : (q : Place) (done ss : List Source) → AllSee true (suc (rank q)) done
     → all_moved true true q (done ++ ss) ≡ done ++ all_moved true true q ss
 before_moved q [] ss h = refl
-before_moved q (s ∷ done) ss h =
-    rw (not_at q s h.0, or_not_false (is_shared q))
-    (ap (λ (xs : List Source). s ∷ xs) (before_moved q done ss h.1))
+before_moved q (s ∷ done) ss h = grind (arith, nat_tests, before_moved q done ss h.1)
 
 behind_parts : (q : Place) (ss : List Source)
     → parts_at false true q ss ≡ replicate (length ss) None
@@ -67,39 +57,27 @@ behind_moved q (s ∷ ss) = ap (λ (xs : List Source). s ∷ xs) (behind_moved q
 
 pub see_more : (k n : ℕ) (ss : List Source) → k ≤ n → AllSee true n ss → AllSee true k ss
 see_more k n [] l h = tt
-see_more k n (s ∷ ss) l h =
-    let w = h.0.later in
-    (record { known = h.0.known; later = omega (arith, w, l); follow = h.0.follow }, see_more k n ss l h.1)
+see_more k n (s ∷ ss) l h = grind (arith, nat_tests, see_more k n ss l h.1)
 
 pub see_append : (going : Bool) (n : ℕ) (xs ys : List Source) → AllSee going n xs → AllSee going n ys
     → AllSee going n (xs ++ ys)
-see_append going n [] ys h w = w
-see_append going n (s ∷ xs) ys h w = (h.0, see_append going n xs ys h.1 w)
+see_append = grind (arith, common_steps)
 
 any_append : (test : Source → Bool) (xs ys : List Source) → list_any test ys ≡ true
     → list_any test (xs ++ ys) ≡ true
-any_append test [] ys h = h
-any_append test (s ∷ xs) ys h =
-    rw (any_append test xs ys h)
-    (elim (test s) as (λ b. (b || true) ≡ true) [ true ↦ refl | false ↦ refl ])
+any_append = grind (arith, common_steps)
 
 module _ (q : Place) (path : Path) (row : Row) (rows : List Row) (ended : Option end.End)
     (done behind : List Source) where
   alone_parts : place path row ≡ q → is_shared q ≡ false → AllSee true (suc (rank q)) done
       → parts_at true true q (done ++ waiting path row rows ended ∷ behind)
       ≡ alone (length done) (length behind) row
-  alone_parts at sh h =
-      before_parts q done (waiting path row rows ended ∷ behind) h
-      ∙ ap (λ (os : List (Option Row)). replicate (length done) None ++ os)
-      (rw (at, self_at (rank q), sh) (ap (λ (os : List (Option Row)). Some row ∷ os) (behind_parts q behind)))
+  alone_parts = grind (arith, nat_tests, before_parts, self_at, behind_parts)
 
   alone_moved : place path row ≡ q → is_shared q ≡ false → AllSee true (suc (rank q)) done
       → all_moved true true q (done ++ waiting path row rows ended ∷ behind)
       ≡ done ++ gone path row rows ended ∷ behind
-  alone_moved at sh h =
-      before_moved q done (waiting path row rows ended ∷ behind) h
-      ∙ ap (λ (xs : List Source). done ++ xs)
-      (rw (at, self_at (rank q), sh) (ap (λ (xs : List Source). gone path row rows ended ∷ xs) (behind_moved q behind)))
+  alone_moved = grind (arith, nat_tests, before_moved, self_at, behind_moved)
 
   sees_waiting : place path row ≡ q → Follow path (row ∷ rows)
       → Sees true (rank q) (waiting path row rows ended)
@@ -140,31 +118,22 @@ module _ {V : Type 0} (k : ℕ) (f : V → Option (List Row)) (Q : Source → V 
   Give = Both (λ s v. MayGive k Q (f v) s v)
 
   may_see : (o : Option (List Row)) (s : Source) (v : V) → MayGive k Q o s v → Sees true k s
-  may_see None s v h =
-      let c = calm s v h in
-      let w = c.later in
-      record { known = c.known; later = omega (arith, w); follow = c.follow }
-  may_see (Some unit) s v h = h.sees
+  may_see = grind (arith, nat_tests)
 
   give_see : (ss : List Source) (vs : List V) → Give ss vs → AllSee true k ss
-  give_see [] [] h = tt
-  give_see [] (v ∷ vs) h = absurd h
-  give_see (s ∷ ss) [] h = absurd h
   give_see (s ∷ ss) (v ∷ vs) h = (may_see (f v) s v h.0, give_see ss vs h.1)
+  give_see ss vs h = grind (arith, nat_tests)
 
   give_length : (ss : List Source) (vs : List V) → Give ss vs → length ss ≡ length (map f vs)
-  give_length [] [] h = refl
-  give_length [] (v ∷ vs) h = absurd h
-  give_length (s ∷ ss) [] h = absurd h
   give_length (s ∷ ss) (v ∷ vs) h = ap suc (give_length ss vs h.1)
+  give_length ss vs h = grind (arith, nat_tests)
 
   abbrev pub Given : List V → List Source → List Source → Type 0
   Given vs done ss = (rest : List Source) × (ss ≡ done ++ rest) × Both Q rest vs
 
   append_one : (done : List Source) (s : Source) (ss : List Source)
       → (done ++ s ∷ []) ++ ss ≡ done ++ s ∷ ss
-  append_one [] s ss = refl
-  append_one (x ∷ done) s ss = ap (λ (xs : List Source). x ∷ xs) (append_one done s ss)
+  append_one = grind (arith, common_steps)
 
   length_one : (done : List Source) (s : Source) → length (done ++ s ∷ []) ≡ length done + 1
   length_one done s = length-append done (s ∷ [])
@@ -197,13 +166,11 @@ module _ {V : Type 0} (k : ℕ) (f : V → Option (List Row)) (Q : Source → V 
 
   pub each_does : (done ss : List Source) (vs : List V) → AllSee true (suc k) done → Give ss vs
       → Does (each_alone (length done) (map f vs)) (done ++ ss) (Given vs done)
-  each_does done [] [] h g = does_nothing (done ++ []) (Given [] done) ([], refl, tt)
-  each_does done [] (v ∷ vs) h g = absurd g
-  each_does done (s ∷ ss) [] h g = absurd g
   each_does done (s ∷ ss) (v ∷ vs) h g =
       by_option done s ss v vs (f v) g.0 h g.1
       (λ x q. each_does (done ++ x ∷ []) ss vs
       (see_append true (suc k) done (x ∷ []) h (calm x v q, tt)) g.1)
+  each_does done ss vs h k = grind (arith, nat_tests)
 
 -- A unit of one record.
 pub single_unit : {V : Type 0} (Q : Source → V → Type 0) (v : V) (q : Place) (path : Path) (row : Row)

@@ -1,7 +1,9 @@
 -- What is known of the sources once the record that was wanted is put.
+use Rattle.std.proofs.lemmas.Grind.{common_steps}
+use Rattle.std.proofs.lemmas.Bool.Decides.{nat_tests}
 use Rattle.std.proofs.Common.{◌≡◌, ◌∙◌, refl, sym, ap, ℕ, zero, suc, ◌+◌, ◌<◌, Bool, true, false, cond}
 use Rattle.std.proofs.Common.{◌&&◌, ◌||◌, List, [], ◌∷◌, length, take, drop, set}
-use Rattle.std.proofs.Common.{get_or, subst, arith, add-one}
+use Rattle.std.proofs.Common.{get_or, arith, add-one}
 use Rattle.std.specs.Prelude.{Option, Some, option_map}
 use Rattle.std.specs.List.{list_any, position_from}
 use Rattle.std.proofs.lemmas.Option.{none-some, same_Some}
@@ -9,33 +11,22 @@ use Rattle.hum_score.specs.Row.{Row}
 use Rattle.hum_stage.specs.declared.faults.End.{End}
 use Rattle.hum_assemble.specs.declared.places.Next.TheVariants.{Wants, Over as NothingMore}
 use Rattle.hum_assemble.specs.Source.{Source}
-use Rattle.hum_assemble.specs.Merge.{ahead, ahead_at, ahead_open}
+use Rattle.hum_assemble.specs.Merge.{ahead, ahead_open}
 use Rattle.hum_assemble.specs.Round.{is_asked, is_missing, is_lost, any_due, AllKnown}
-use Rattle.hum_assemble.specs.Round.{earliest}
-use Rattle.hum_assemble.specs.Places.{is_over}
 use Rattle.hum_assemble.specs.Head.{AllLawful, AreLawful}
-use Rattle.hum_assemble.proofs.Standings.{at_waits, missing_is}
 
 -- The first that is missing lies behind those that are known.
 pub behind : (going : Bool) (n i : ℕ) (ss : List Source) → AllKnown going (take n ss)
     → position_from (is_missing going) i ss ≡ position_from (is_missing going) (i + n) (drop n ss)
-behind going zero i ss k = ap (λ m. position_from (is_missing going) m ss) (omega arith)
-behind going (suc n) i [] k = refl
-behind going (suc n) i (s ∷ ss) k =
-    rw k.0 (behind going n (i + 1) ss k.1
-    ∙ ap (λ m. position_from (is_missing going) m (drop n ss)) (omega arith))
+behind going (suc n) i (s ∷ ss) k = grind (arith, nat_tests, behind going n (i + 1) ss k.1)
+behind going n i ss h = grind (arith, nat_tests)
 
 -- Places that are counted from further on are greater by as much.
 pub counted_on : (going : Bool) (i k : ℕ) (ss : List Source)
     → position_from (is_missing going) (i + k) ss
     ≡ option_map (λ j. i + j) (position_from (is_missing going) k ss)
 counted_on going i k [] = refl
-counted_on going i k (s ∷ ss) =
-    elim (is_missing going s) as (λ b. cond b (Some (i + k)) (position_from (is_missing going) (i + k + 1) ss)
-    ≡ option_map (λ j. i + j) (cond b (Some k) (position_from (is_missing going) (k + 1) ss))) [
-      | true ↦ refl
-      | false ↦ ap (λ m. position_from (is_missing going) m ss) (omega arith) ∙ counted_on going i (k + 1) ss
-    ]
+counted_on going i k (s ∷ ss) = grind (arith, nat_tests, counted_on going i (k + 1) ss)
 
 pub found_below : (going : Bool) (i j : ℕ) (ss : List Source)
     → position_from (is_missing going) i ss ≡ Some j → j < i + length ss
@@ -52,19 +43,14 @@ pub first_behind : (going : Bool) (n : ℕ) (ss : List Source) (o : Option ℕ) 
     → o ≡ position_from (is_missing going) 0 (drop n ss)
     → position_from (is_missing going) 0 ss ≡ option_map (λ j. n + j) o
 first_behind going n ss o k h =
-    behind going n 0 ss k ∙ (ap (λ m. position_from (is_missing going) m (drop n ss)) (omega arith)
-    ∙ (counted_on going n 0 (drop n ss) ∙ ap (option_map (λ j. n + j)) (sym h)))
+    grind (arith, nat_tests, behind going n 0 ss k, counted_on going n 0 (drop n ss))
 
 and_false : (a : Bool) → (a && false) ≡ false
-and_false true = refl
-and_false false = refl
+and_false = grind (arith, nat_tests)
 
 -- who has a record shows where that stands
 shows : (going : Bool) (s : Source) (row : Row) → is_missing going (record s { coming = row ∷ [] }) ≡ false
 shows going s row = and_false (is_asked going s)
-
-not_lost : (going : Bool) (s : Source) (row : Row) → is_lost going (record s { coming = row ∷ [] }) ≡ false
-not_lost going s row = and_false (is_asked going s)
 
 -- All that is asked is known up to the source that was missing first, once its record is put.
 known_to : (going : Bool) (i j : ℕ) (ss : List Source) (s s' : Source) (row : Row)
@@ -84,10 +70,7 @@ none_lost : (going : Bool) (j : ℕ) (ss : List Source) (s s' : Source) (row : R
     → s' ≡ record s { coming = row ∷ [] } → list_any (is_lost going) ss ≡ false
     → list_any (is_lost going) (set ss j s') ≡ false
 none_lost going j [] s s' row g h = refl
-none_lost going zero (x ∷ ss) s s' row g h =
-    (elim (is_lost going x) as (λ b. (b || list_any (is_lost going) ss) ≡ false
-    → (is_lost going s' || list_any (is_lost going) ss) ≡ false)
-    [ true ↦ λ e. cc | false ↦ λ e. rw (g, not_lost going s row) e ]) h
+none_lost going zero (x ∷ ss) s s' row g h = grind (arith, nat_tests)
 none_lost going (suc j) (x ∷ ss) s s' row g h =
     (elim (is_lost going x) as (λ b. (b || list_any (is_lost going) ss) ≡ false
     → (b || list_any (is_lost going) (set ss j s')) ≡ false)
@@ -96,21 +79,15 @@ none_lost going (suc j) (x ∷ ss) s s' row g h =
 -- Who is due stays so.
 pub same_due : (j : ℕ) (ss : List Source) (s s' : Source) (row : Row) → s ≡ get_or ss j s
     → s' ≡ record s { coming = row ∷ [] } → any_due (set ss j s') ≡ any_due ss
-same_due j [] s s' row e g = refl
-same_due zero (x ∷ ss) s s' row e g = ap (λ b. b || any_due ss) (ap (λ (y : Source). y.due) (g
-    ∙ ap (λ (y : Source). record y { coming = row ∷ [] }) e))
 same_due (suc j) (x ∷ ss) s s' row e g = ap (λ b. x.due || b) (same_due j ss s s' row e g)
+same_due j ss s s' row h k = grind (arith, common_steps)
 
 -- Where a source is wanted none is lost, and it is the first that is missing.
 first_at : (going : Bool) (ss : List Source) (given j : ℕ) (b : Bool) → list_any (is_lost going) ss ≡ b
     → cond b NothingMore (ahead_open going ss given) ≡ Wants j
     → (list_any (is_lost going) ss ≡ false) × (position_from (is_missing going) 0 ss ≡ Some j)
 first_at going ss given j true e h = cc
-first_at going ss given j false e h = (
-  e,
-  missing_is j _ (ahead_at going (earliest going ss) ss given)
-      (at_waits going (earliest going ss) ss given j (is_over (earliest going ss))) h,
-)
+first_at going ss given j false e h = grind (arith, nat_tests)
 
 first_wanted : (ss : List Source) (given j : ℕ) (going : Bool) → going ≡ any_due ss
     → ahead (record { sources = ss; given = given }) ≡ Wants j
@@ -140,13 +117,8 @@ put_ahead ss given j going s s' row d h e g =
 -- The records that wait are lawful then, too.
 pub put_lawful : (ss : List Source) (j : ℕ) (s' : Source) → AllLawful ss → AreLawful s'.path s'.coming
     → AllLawful (set ss j s')
-put_lawful [] j s' h l = tt
-put_lawful (x ∷ ss) zero s' h l = (l, h.1)
-put_lawful (x ∷ ss) (suc j) s' h l = (h.0, put_lawful ss j s' h.1 l)
+put_lawful = grind (arith, common_steps)
 
 pub end_lawful : (ss : List Source) (j : ℕ) (s s' : Source) (end : Option End) → AllLawful ss → s ≡ get_or ss j s
     → s' ≡ record s { ended = end } → AllLawful (set ss j s')
-end_lawful [] j s s' end all at is = tt
-end_lawful (x ∷ ss) zero s s' end all at is =
-    (subst (λ r. AreLawful r.path r.coming) (sym is) (subst (λ r. AreLawful r.path r.coming) (sym at) all.0), all.1)
-end_lawful (x ∷ ss) (suc j) s s' end all at is = (all.0, end_lawful ss j s s' end all.1 at is)
+end_lawful = grind (arith, common_steps)

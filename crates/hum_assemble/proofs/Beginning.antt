@@ -1,7 +1,8 @@
 -- Where a round begins, it is as if all who take part in it were due.
+use Rattle.std.proofs.lemmas.Bool.Decides.{nat_tests}
 use Rattle.std.proofs.Common.{◌≡◌, ◌∙◌, refl, sym, ap, ℕ, ◌+◌, ◌≤◌, Bool, true}
 use Rattle.std.proofs.lemmas.Bool.{eq-eqb}
-use Rattle.std.proofs.Common.{false, ◌&&◌, ◌||◌, cond, List, [], ◌∷◌, arith}
+use Rattle.std.proofs.Common.{false, ◌||◌, List, [], ◌∷◌, arith}
 use Rattle.std.proofs.Common.{map}
 use Rattle.std.specs.Prelude.{Option, None, Some, ◌==◌}
 use Rattle.std.specs.List.{list_any, AllByRecursion}
@@ -12,13 +13,12 @@ use Rattle.hum_stage.specs.declared.faults.Rule.{Rule}
 use Rattle.hum_stage.specs.declared.faults.End as end
 use Rattle.hum_assemble.specs.declared.places.Place.{Place}
 use Rattle.hum_assemble.specs.Source.{Source, place}
-use Rattle.hum_assemble.specs.Head.{first_of}
 use Rattle.hum_assemble.specs.Places.{rank, is_over, step}
 use Rattle.hum_assemble.specs.Round.{any_due, place_at, takes, still_free}
 use Rattle.hum_assemble.specs.Round.{earliest}
 use Rattle.hum_assemble.specs.Merge.{Merge, all_moved, moved, ahead, given_row, given_on}
 use Rattle.hum_assemble.specs.Merge.{ahead_of, unless_broken, made}
-use Rattle.hum_assemble.specs.Meaning.{all_given, refusal, rest}
+use Rattle.hum_assemble.specs.Meaning.{all_given, refusal}
 use Rattle.hum_assemble.specs.Taking.{is_at}
 use Rattle.hum_assemble.specs.Groups.{Steps, then_on, rule_at, row_of}
 use Rattle.hum_assemble.proofs.Taking.{empty_over, same_rank}
@@ -26,7 +26,7 @@ use Rattle.hum_assemble.proofs.Alone.{paths_of}
 use Rattle.hum_assemble.proofs.Steps.{all_going, all_resting, is_giving, earliest_at}
 use Rattle.hum_assemble.proofs.Written.{Meets, parts_at, Sees, AllSee, merge_of, refused}
 use Rattle.hum_assemble.proofs.Written.{earlier_left, earlier_right, least, ahead_is, made_is}
-use Rattle.hum_assemble.proofs.Written.{rank_most, same_place}
+use Rattle.hum_assemble.proofs.Written.{same_place}
 use Rattle.hum_assemble.proofs.Does.{Does}
 
 -- A source between rounds.
@@ -107,38 +107,17 @@ at_fields : (p : Place) (path : Path) (due : Bool) (coming : List Row) (ended : 
     → is_at true p (begun_at (step p) (record { path = path; due = due; coming = coming; ended = ended }))
     ≡ is_at false p (record { path = path; due = due; coming = coming; ended = ended })
 at_fields p path true coming ended o d = cc
-at_fields p path false [] ended o d =
-    ap (λ (q : Place). rank p == rank q)
-    (empty_over true path (takes_part (step p) (record { path = path; due = false; coming = []; ended = ended })) ended
-    ∙ sym (empty_over false path false ended))
+at_fields p path false [] ended o d = grind (arith, nat_tests, empty_over false path false ended)
 at_fields p path false (row ∷ rows) ended o d =
     by_part p path row rows ended (step (place path row) == step p) o refl
-
-moved_fields : (b : Bool) (p : Place) (path : Path) (due : Bool) (coming : List Row)
-    (ended : Option end.End) → is_over p ≡ false → due ≡ false
-    → (b ≡ true → is_at false p (record { path = path; due = due; coming = coming; ended = ended }) ≡ true)
-    → moved b true p (begun_at (step p) (record { path = path; due = due; coming = coming; ended = ended }))
-    ≡ moved b false p (record { path = path; due = due; coming = coming; ended = ended })
-moved_fields b p path true coming ended o d h = cc
-moved_fields false p path false coming ended o d h = refl
-moved_fields true p path false [] ended o d h =
-    let e = ap (λ (q : Place). rank p == rank q) (empty_over false path false ended) in
-    absurd (let f = h refl in cc)
-moved_fields true p path false (row ∷ rows) ended o d h = refl
 
 at_same : (p : Place) (k : ℕ) (s : Source) → is_over p ≡ false → Idle k s
     → is_at true p (begun_at (step p) s) ≡ is_at false p s
 at_same p k s o i = at_fields p s.path s.due s.coming s.ended o i.idle
 
-and_right : (a b : Bool) → (a && b) ≡ true → b ≡ true
-and_right true b h = h
-and_right false b h = cc
-
 moved_same : (free : Bool) (p : Place) (k : ℕ) (s : Source) → is_over p ≡ false → Idle k s
     → moved (takes free false p s) true p (begun_at (step p) s) ≡ moved (takes free false p s) false p s
-moved_same free p k s o i =
-    moved_fields (takes free false p s) p s.path s.due s.coming s.ended o i.idle
-    (λ h. and_right free (is_at false p s) h)
+moved_same = grind (arith, nat_tests)
 
 all_same : (free : Bool) (p : Place) (k : ℕ) (ss : List Source) → is_over p ≡ false → AllIdle k ss
     → all_moved free true p (map (begun_at (step p)) ss) ≡ all_moved free false p ss
@@ -152,9 +131,7 @@ parts_same : (free : Bool) (p : Place) (k : ℕ) (ss : List Source) → is_over 
     → parts_at free true p (map (begun_at (step p)) ss) ≡ parts_at free false p ss
 parts_same free p k [] o i = refl
 parts_same free p k (s ∷ ss) o i =
-    rw (at_same p k s o i.0)
-    (ap (λ (xs : List (Option Row)). cond (takes free false p s) (first_of s.coming) None ∷ xs)
-    (parts_same (still_free free false p s) p k ss o i.1))
+    grind (arith, nat_tests, parts_same (still_free free false p s) p k ss o i.1, at_same p k s o i.0)
 
 any_same : (p : Place) (k : ℕ) (ss : List Source) → is_over p ≡ false → AllIdle k ss
     → list_any (is_at true p) (map (begun_at (step p)) ss) ≡ list_any (is_at false p) ss
@@ -169,37 +146,8 @@ due_same : (st : ℕ) (ss : List Source) → any_due (map (begun_at st) ss) ≡ 
 due_same st [] = refl
 due_same st (s ∷ ss) = ap (λ (b : Bool). takes_part st s || b) (due_same st ss)
 
--- What it shows then.
-by_due : (p : Place) (path : Path) (row : Row) (rows : List Row) (ended : Option end.End) (b : Bool)
-    → rank p ≤ rank (place path row) → Follow path (row ∷ rows)
-    → Sees true (rank p) (record { path = path; due = b; coming = row ∷ rows; ended = ended })
-by_due p path row rows ended true l f = record { known = refl; later = l; follow = f }
-by_due p path row rows ended false l f = record { known = refl; later = rank_most p; follow = f }
-
 over_apart : (p : Place) → is_over p ≡ false → (11 == step p) ≡ false
-over_apart p o = by_rank p o
-  where
-    by_rank : (p : Place) → is_over p ≡ false → (11 == step p) ≡ false
-    by_rank p o =
-        elim p as (λ p. is_over p ≡ false → (11 == step p) ≡ false) [
-          | Place.Aside ↦ λ o. refl
-          | Place.Begins ↦ λ o. refl
-          | Place.Front ↦ λ o. refl
-          | Place.Opening ↦ λ o. refl
-          | Place.Remark ↦ λ o. refl
-          | Place.Local ↦ λ o. refl
-          | Place.Tandem ↦ λ o. refl
-          | Place.Change ↦ λ o. refl
-          | Place.Note ↦ λ o. refl
-          | Place.Closing ↦ λ o. refl
-          | Place.Tail ↦ λ o. refl
-          | Place.Over ↦ λ o. cc
-        ] o
-
-by_none : (p : Place) (path : Path) (ended : Option end.End) (b : Bool) → b ≡ false
-    → Sees true (rank p) (record { path = path; due = b; coming = []; ended = ended })
-by_none p path ended true e = cc
-by_none p path ended false e = record { known = refl; later = rank_most p; follow = tt }
+over_apart = grind (arith, nat_tests)
 
 see_fields : (p : Place) (path : Path) (due : Bool) (coming : List Row) (ended : Option end.End)
     → is_over p ≡ false → due ≡ false
@@ -208,10 +156,8 @@ see_fields : (p : Place) (path : Path) (due : Bool) (coming : List Row) (ended :
     → Sees true (rank p) (begun_at (step p) (record { path = path; due = due; coming = coming; ended = ended }))
 see_fields p path true coming ended o d l f = cc
 see_fields p path false [] ended o d l f =
-    by_none p path ended (takes_part (step p) (record { path = path; due = false; coming = []; ended = ended }))
-    (ap (λ (q : Place). step q == step p) (empty_over false path false ended) ∙ over_apart p o)
-see_fields p path false (row ∷ rows) ended o d l f =
-    by_due p path row rows ended (step (place path row) == step p) l f
+    grind (arith, nat_tests, empty_over false path false ended, over_apart p o)
+see_fields p path false (row ∷ rows) ended o d l f = grind (arith, nat_tests)
 
 begun_see : (p : Place) (k : ℕ) (ss : List Source) → is_over p ≡ false → AllIdle k ss
     → AllSee false (rank p) ss → AllSee true (rank p) (map (begun_at (step p)) ss)
@@ -226,13 +172,7 @@ alike : (m n : Merge) (p : Place) (o : Option Rule)
     → ahead m ≡ unless_broken p o → ahead n ≡ unless_broken p o
     → given_row p m ≡ given_row p n → given_on p m ≡ given_on p n → m.given ≡ n.given
     → (all_given m ≡ all_given n) × (refused m ≡ refused n)
-alike m n p None a b r w g =
-    let x = all_going m p a in
-    let y = all_going n p b in (
-      x.0 ∙ (ap (λ (row : Row). row ∷ all_given (given_on p m)) r
-          ∙ (ap (λ (k : Merge). given_row p n ∷ all_given k) w ∙ sym (y.0))),
-      ap (λ (k : Merge). refusal (k.given + 1) (ahead k)) (x.1 ∙ (ap rest w ∙ sym (y.1))),
-    )
+alike m n p None a b r w g = grind (arith, nat_tests, all_going)
 alike m n p (Some rule) a b r w g =
     let x = all_resting m (ap is_giving a) in
     let y = all_resting n (ap is_giving b) in (

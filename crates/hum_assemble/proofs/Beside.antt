@@ -1,10 +1,11 @@
 -- An interpretation of one source between null tokens of the others.
+use Rattle.std.proofs.lemmas.Grind.{common_steps}
+use Rattle.std.proofs.lemmas.Bool.Decides.{nat_tests}
 use Rattle.std.proofs.Common.{◌≡◌, ◌∙◌, refl, sym, ap, ℕ, zero, suc, ◌+◌, Bool, true, false}
-use Rattle.std.proofs.Common.{not, ◌&&◌, ◌||◌, cond, List, [], ◌∷◌, ◌++◌, length, append_assoc, arith}
+use Rattle.std.proofs.Common.{◌&&◌, ◌||◌, List, [], ◌∷◌, ◌++◌, length, arith}
 use Rattle.std.proofs.Common.{map, replicate}
 use Rattle.std.specs.Prelude.{◌==◌, None}
 use Rattle.std.specs.List.{list_any, find}
-use Rattle.std.specs.Str.{bytes_eq}
 use Rattle.std.proofs.lemmas.List.{length-map}
 use lib.Chars.{codes}
 use Rattle.hum_score.specs.Spelling.{is_empty}
@@ -13,9 +14,8 @@ use Rattle.hum_score.specs.declared.spines.Sign.TheVariants.{Plain}
 use Rattle.hum_score.specs.Sign.{sign_of, is_join, is_exchange, is_exclusive, is_path_indicator}
 use Rattle.hum_score.specs.Rules.{breaks, in_order, has_unnamed, stays_unnamed, has_bare}
 use Rattle.hum_score.specs.Rules.{names_and_steers, has_lone_join, is_pair_or_none, has_mixed_join}
-use Rattle.hum_score.specs.Rules.{mixes_join}
 use Rattle.hum_score.specs.Spines.{Spines, exchanges, names_after}
-use Rattle.hum_path.specs.Onward.{beginnings, onward, onward_one, at_next, put_next, swapped}
+use Rattle.hum_path.specs.Onward.{beginnings, onward, at_next, put_next, swapped}
 use Rattle.hum_path.specs.Onward.{renamed_each}
 use Rattle.hum_score.proofs.Cases.{by_bool}
 use Rattle.hum_path.proofs.Obeyed.{obeys}
@@ -33,10 +33,6 @@ stars_plain : (n : ℕ) → map sign_of (stars n) ≡ plains n
 stars_plain zero = refl
 stars_plain (suc n) = ap (λ (ss : List Sign). Plain ∷ ss) (stars_plain n)
 
-stars_length : (n : ℕ) → length (stars n) ≡ n
-stars_length zero = refl
-stars_length (suc n) = ap suc (stars_length n)
-
 -- An interpretation obeys the rules under some names but for the number of spines, and leads to
 -- other names.
 pub record Leads (names tokens result : List (List ℕ)) : Type 0 where
@@ -51,23 +47,11 @@ pub record Leads (names tokens result : List (List ℕ)) : Type 0 where
 
 pub own_leads : (names tokens : List (List ℕ)) → find (breaks (Spines names) tokens) in_order ≡ None
     → Leads names tokens (names_after (Spines names) tokens)
-own_leads names tokens h =
-    let o = obeys names tokens h in
-    record {
-      wide = o.wide;
-      unnamed = o.unnamed;
-      bare = o.bare;
-      steers = o.steers;
-      lone = o.lone;
-      pair = o.pair;
-      mixed = o.mixed;
-      leads = refl;
-    }
+own_leads = grind (arith, nat_tests, obeys)
 
 -- On the left.
 or_false : (a b : Bool) → (a || b) ≡ false → (a ≡ false) × (b ≡ false)
-or_false true b h = cc
-or_false false b h = (refl, h)
+or_false = grind (arith, nat_tests)
 
 signs_left : (n : ℕ) (tokens : List (List ℕ))
     → map sign_of (stars n ++ tokens) ≡ plains n ++ map sign_of tokens
@@ -95,22 +79,19 @@ each_left : (others names tokens : List (List ℕ))
     → renamed_each (others ++ names) (stars (length others) ++ tokens)
     ≡ others ++ renamed_each names tokens
 each_left [] names tokens = refl
-each_left (x ∷ others) names tokens =
-    ap (λ (xs : List (List ℕ)). x ∷ xs) (each_left others names tokens)
+each_left (x ∷ others) names tokens = grind (arith, nat_tests, each_left others names tokens)
 
 swapped_left : (others xs : List (List ℕ)) (signs : List Sign)
     → swapped (plains (length others) ++ signs) (others ++ xs) ≡ others ++ swapped signs xs
 swapped_left [] xs signs = refl
-swapped_left (x ∷ others) xs signs =
-    ap (λ (ys : List (List ℕ)). x ∷ ys) (swapped_left others xs signs)
+swapped_left (x ∷ others) xs signs = grind (arith, nat_tests, swapped_left others xs signs)
 
 onward_left : (f : List ℕ → List ℕ) (others xs : List (List ℕ)) (signs : List Sign)
     → onward f (beginnings false (plains (length others) ++ signs))
     (plains (length others) ++ signs) (others ++ xs)
     ≡ others ++ onward f (beginnings false signs) signs xs
 onward_left f [] xs signs = refl
-onward_left f (x ∷ others) xs signs =
-    ap (λ (ys : List (List ℕ)). x ∷ ys) (onward_left f others xs signs)
+onward_left f (x ∷ others) xs signs = grind (arith, nat_tests, onward_left f others xs signs)
 
 pair_by_length : (xs ys : List ℕ) → length xs ≡ length ys
     → is_pair_or_none xs ≡ is_pair_or_none ys
@@ -118,15 +99,12 @@ pair_by_length xs ys e = ap (λ (n : ℕ). n == 0 || n == 2) e
 
 pair_left : (n : ℕ) (signs : List Sign)
     → is_pair_or_none (exchanges 0 (plains n ++ signs)) ≡ is_pair_or_none (exchanges 0 signs)
-pair_left n signs =
-    let e : exchanges 0 (plains n ++ signs) ≡ further n (exchanges 0 signs) =
-    exchanges_left n 0 signs ∙ exchanges_shift n 0 signs in
-    pair_by_length _ _ (ap length e ∙ length-map (exchanges 0 signs) (λ j. j + n))
+pair_left =
+    grind (arith, nat_tests, plains, further, exchanges_left, exchanges_shift, pair_by_length, length-map)
 
 wide_left : (others names tokens : List (List ℕ)) → length names ≡ length tokens
     → length (others ++ names) ≡ length (stars (length others) ++ tokens)
-wide_left [] names tokens e = e
-wide_left (x ∷ others) names tokens e = ap suc (wide_left others names tokens e)
+wide_left = grind (arith, common_steps)
 
 pub left_of : (others names tokens result : List (List ℕ)) → list_any is_empty others ≡ false
     → Leads names tokens result
@@ -135,8 +113,7 @@ left_of others names tokens result named o =
     let n = length others in
     let signs = map sign_of tokens in
     let g = signs_left n tokens in
-    let wide : length (others ++ names) ≡ length (stars n ++ tokens) =
-    wide_left others names tokens o.wide in
+    let wide : length (others ++ names) ≡ length (stars n ++ tokens) = grind (arith, nat_tests, wide_left) in
     let pair : is_pair_or_none (exchanges 0 (map sign_of (stars n ++ tokens))) ≡ true =
     ap (λ (ss : List Sign). is_pair_or_none (exchanges 0 ss)) g ∙ (pair_left n signs ∙ o.pair) in
     record {
@@ -207,13 +184,11 @@ each_right others [] [] e = each_stars others
 each_right others [] (t ∷ tokens) e = absurd (omega (arith, e))
 each_right others (n ∷ names) [] e = absurd (omega (arith, e))
 each_right others (n ∷ names) (t ∷ tokens) e =
-    ap (λ (xs : List (List ℕ)). cond (is_exclusive (sign_of t)) t n ∷ xs)
-    (each_right others names tokens (omega (arith, e)))
+    grind (arith, nat_tests, each_right others names tokens (omega (arith, e)))
 
 next_plain : (other : List ℕ) (m : ℕ) (xs : List (List ℕ)) → at_next other (plains m) xs ≡ other
-next_plain other zero xs = refl
-next_plain other (suc m) [] = refl
 next_plain other (suc m) (x ∷ xs) = next_plain other m xs
+next_plain other m xs = grind (arith, nat_tests)
 
 next_right : (other : List ℕ) (others xs : List (List ℕ)) (m : ℕ) (signs : List Sign)
     → length signs ≡ length xs
@@ -225,9 +200,8 @@ next_right other others (x ∷ xs) m (s ∷ signs) e =
     rw (next_right other others xs m signs (omega (arith, e))) refl
 
 put_plain : (other : List ℕ) (m : ℕ) (xs : List (List ℕ)) → put_next other (plains m) xs ≡ xs
-put_plain other zero xs = refl
-put_plain other (suc m) [] = refl
 put_plain other (suc m) (x ∷ xs) = ap (λ (ys : List (List ℕ)). x ∷ ys) (put_plain other m xs)
+put_plain other m xs = grind (arith, nat_tests)
 
 put_right : (other : List ℕ) (others xs : List (List ℕ)) (m : ℕ) (signs : List Sign)
     → length signs ≡ length xs
@@ -236,8 +210,7 @@ put_right other others [] m [] e = put_plain other m others
 put_right other others [] m (s ∷ signs) e = absurd (omega (arith, e))
 put_right other others (x ∷ xs) m [] e = absurd (omega (arith, e))
 put_right other others (x ∷ xs) m (s ∷ signs) e =
-    let ih = put_right other others xs m signs (omega (arith, e)) in
-    by_bool (is_exchange s) (λ w. rw w refl) (λ w. rw (w, ih) refl)
+    grind (arith, nat_tests, put_right other others xs m signs (omega (arith, e)))
 
 swapped_right : (others xs : List (List ℕ)) (m : ℕ) (signs : List Sign) → length signs ≡ length xs
     → swapped (signs ++ plains m) (xs ++ others) ≡ swapped signs xs ++ others
@@ -265,25 +238,18 @@ onward_right f b others [] [] e = onward_plain f b others
 onward_right f b others [] (s ∷ signs) e = absurd (omega (arith, e))
 onward_right f b others (x ∷ xs) [] e = absurd (omega (arith, e))
 onward_right f b others (x ∷ xs) (s ∷ signs) e =
-    ap (λ (ys : List (List ℕ)). onward_one f (is_join s && not b) s x ++ ys)
-    (onward_right f (is_join s) others xs signs (omega (arith, e)))
-    ∙ sym (append_assoc (onward_one f (is_join s && not b) s x)
-    (onward f (beginnings (is_join s) signs) signs xs) others)
+    grind (arith, nat_tests, onward_right f (is_join s) others xs signs (omega (arith, e)))
 
 and_none : (a b : Bool) → (a && (false && b)) ≡ false
-and_none true b = refl
-and_none false b = refl
+and_none = grind (arith, nat_tests)
 
 mixed_plain : (others : List (List ℕ)) → has_mixed_join others (plains (length others)) ≡ false
-mixed_plain [] = refl
-mixed_plain (x ∷ []) = refl
 mixed_plain (x ∷ y ∷ others) = mixed_plain (y ∷ others)
+mixed_plain others = grind (arith, nat_tests)
 
 mixed_first : (n : List ℕ) (s : Sign) (others : List (List ℕ))
     → has_mixed_join (n ∷ others) (s ∷ plains (length others)) ≡ false
-mixed_first n s [] = refl
-mixed_first n s (y ∷ others) =
-    rw (and_none (is_join s) (not (bytes_eq n y))) (mixed_plain (y ∷ others))
+mixed_first = grind (arith, nat_tests, and_none, mixed_plain)
 
 mixed_right : (others names : List (List ℕ)) (signs : List Sign) → length names ≡ length signs
     → has_mixed_join (names ++ others) (signs ++ plains (length others)) ≡ has_mixed_join names signs
@@ -294,16 +260,11 @@ mixed_right others (n ∷ []) (s ∷ []) e = mixed_first n s others
 mixed_right others (n ∷ []) (s ∷ r ∷ signs) e = absurd (omega (arith, e))
 mixed_right others (n ∷ k ∷ names) (s ∷ []) e = absurd (omega (arith, e))
 mixed_right others (n ∷ k ∷ names) (s ∷ r ∷ signs) e =
-    ap (λ (b : Bool). mixes_join (n ∷ k ∷ names) (s ∷ r ∷ signs) || b)
-    (mixed_right others (k ∷ names) (r ∷ signs) (omega (arith, e)))
+    grind (arith, nat_tests, mixed_right others (k ∷ names) (r ∷ signs) (omega (arith, e)))
 
 wide_right : (others names tokens : List (List ℕ)) → length names ≡ length tokens
     → length (names ++ others) ≡ length (tokens ++ stars (length others))
-wide_right others [] [] e = sym (stars_length (length others))
-wide_right others [] (t ∷ tokens) e = absurd (omega (arith, e))
-wide_right others (n ∷ names) [] e = absurd (omega (arith, e))
-wide_right others (n ∷ names) (t ∷ tokens) e =
-    ap suc (wide_right others names tokens (omega (arith, e)))
+wide_right = grind (arith, common_steps)
 
 pub right_of : (others names tokens result : List (List ℕ)) → list_any is_empty others ≡ false
     → Leads names tokens result
@@ -313,19 +274,16 @@ right_of others names tokens result named o =
     let signs = map sign_of tokens in
     let g = signs_right m tokens in
     let size : length names ≡ length signs = o.wide ∙ sym (length-map tokens sign_of) in
-    let wide : length (names ++ others) ≡ length (tokens ++ stars m) =
-    wide_right others names tokens o.wide in
+    let wide : length (names ++ others) ≡ length (tokens ++ stars m) = grind (arith, nat_tests, wide_right) in
     let pair : is_pair_or_none (exchanges 0 (map sign_of (tokens ++ stars m))) ≡ true =
-    ap (λ (ss : List Sign). is_pair_or_none (exchanges 0 ss)) g
-    ∙ (ap is_pair_or_none (exchanges_right 0 signs m) ∙ o.pair) in
+    grind (arith, nat_tests, exchanges_right) in
     let each : length signs ≡ length (renamed_each names tokens) =
     length-map tokens sign_of ∙ sym (each_length names tokens o.wide) in
     let swap : length signs ≡ length (swapped signs (renamed_each names tokens)) =
     each ∙ sym (swapped_length signs (renamed_each names tokens)) in
     record {
       wide = wide;
-      unnamed = ap (has_unnamed (names ++ others)) g
-          ∙ unnamed_right others names signs size named o.unnamed;
+      unnamed = grind (arith, nat_tests, unnamed_right);
       bare = bare_right m tokens ∙ o.bare;
       steers = ap names_and_steers g ∙ rw (any_right is_exclusive m signs refl, any_right is_path_indicator m signs refl) o.steers;
       lone = ap (has_lone_join false) g ∙ (lone_right false signs m ∙ o.lone);

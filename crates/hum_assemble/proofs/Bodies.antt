@@ -1,31 +1,29 @@
 -- A source behind its opening record: what is still to come of it, and its part in a round of units.
+use Rattle.std.proofs.lemmas.Grind.{common_steps}
+use Rattle.std.proofs.lemmas.Bool.Decides.{nat_tests}
 use Rattle.std.proofs.Common.{◌≡◌, ◌∙◌, refl, sym, ap, ℕ, suc, ◌≤◌, ◌<◌, Bool, true}
-use Rattle.std.proofs.Common.{false, not, ◌||◌, cond, List, [], ◌∷◌, ◌++◌, length, arith}
+use Rattle.std.proofs.Common.{false, not, List, [], ◌∷◌, ◌++◌, length, arith}
 use Rattle.std.proofs.Common.{map}
-use Rattle.std.specs.Prelude.{Option, None, Some, ◌==◌}
-use Rattle.std.specs.List.{list_any, list_all}
+use Rattle.std.specs.Prelude.{Option, None, Some}
+use Rattle.std.specs.List.{list_any}
 use Rattle.hum_score.specs.declared.records.SpinedKind.TheVariants.{Local, Interpretation, Values}
 use Rattle.hum_score.specs.Row.{Row, Comment, Spined}
-use Rattle.hum_score.specs.Sign.{sign_of}
 use Rattle.hum_score.specs.Spines.{Path, Unopened, Spines, after}
 use Rattle.hum_score.specs.InOrder.{Follow}
 use Rattle.hum_stage.specs.declared.faults.End as end
-use Rattle.hum_stage.specs.declared.faults.End.TheVariants.{Closed, Broken}
-use Rattle.hum_assemble.specs.declared.places.Place.{Place}
 use Rattle.hum_assemble.specs.declared.places.Place.TheVariants.{Aside, Begins}
-use Rattle.hum_assemble.specs.Source.{Source, place, is_inside, is_end, unit_place, inside_place}
-use Rattle.hum_assemble.specs.Places.{rank, step}
+use Rattle.hum_assemble.specs.Source.{Source, place, is_inside, unit_place, inside_place}
+use Rattle.hum_assemble.specs.Places.{rank}
 use Rattle.hum_assemble.specs.Round.{is_missing, place_at, any_due}
 use Rattle.hum_assemble.specs.Groups.{Body, nothing, with_row, body, sort_of, adds, is_comment}
-use Rattle.hum_assemble.specs.Groups.{Closes, Adds, Single, is_add, is_closed_end}
+use Rattle.hum_assemble.specs.Groups.{is_closed_end}
 use Rattle.hum_assemble.specs.Groups.{has_some, shows_unit, behind_unit, alone}
-use Rattle.hum_assemble.proofs.Taking.{empty_over}
 use Rattle.hum_assemble.proofs.Written.{Sees, AllSee, meets_missing}
 use Rattle.hum_assemble.proofs.Does.{Does, does_more, does_nothing, stop_parts}
 use Rattle.hum_assemble.proofs.Apart.{waiting, gone, Leaves, alone_step}
 use Rattle.hum_assemble.proofs.Apart.{see_more}
 use Rattle.hum_assemble.proofs.Beginning.{takes_part}
-use Rattle.hum_assemble.proofs.Sorting.{stands, Sorted, AsClosing, AsData, AsAdds, AsSingle, sorted}
+use Rattle.hum_assemble.proofs.Sorting.{stands, Sorted, sorted}
 use Rattle.hum_assemble.proofs.Sorting.{begins, in_tail}
 
 -- What is still to come.
@@ -49,27 +47,10 @@ pub record InBody (s : Source) (b : Body) : Type 0 where
 abbrev pub calm : Path → List Row → Option end.End → Source
 calm path rows ended = record { path = path; due = false; coming = rows; ended = ended }
 
-pub still_stands : (path : Path) (whole : Bool) (rows : List Row) → stands path ≡ true
-    → still path whole rows ≡ body whole false rows
-still_stands Unopened whole rows h = cc
-still_stands (Spines []) whole rows h = cc
-still_stands (Spines (n ∷ ns)) whole rows h = refl
-
-pub fits_out : (path : Path) (rows : List Row) → stands path ≡ true → is_inside path ≡ false
-    → Fits path rows
-fits_out path [] h o = tt
-fits_out Unopened (row ∷ rows) h o = cc
-fits_out (Spines names) (row ∷ rows) h o = o
-
 pub body_stands : (path : Path) (rows : List Row) (ended : Option end.End) (b : Body)
     → stands path ≡ true → is_inside path ≡ false → Follow path rows
     → body (is_closed_end ended) false rows ≡ b → InBody (calm path rows ended) b
-body_stands path rows ended b h o f e = record {
-  idle = refl;
-  follow = f;
-  fits = fits_out path rows h o;
-  is = still_stands path (is_closed_end ended) rows h ∙ e;
-}
+body_stands = grind (arith, nat_tests)
 
 -- What a source between units shows.
 pub data View (s : Source) (b : Body) : Type 0 where
@@ -84,9 +65,7 @@ pub data View (s : Source) (b : Body) : Type 0 where
       → body (is_closed_end ended) false (row ∷ rows) ≡ b → View s b
 
 pub still_nothing : (path : Path) (whole : Bool) → still path whole [] ≡ nothing whole
-still_nothing Unopened whole = refl
-still_nothing (Spines []) whole = refl
-still_nothing (Spines (n ∷ ns)) whole = refl
+still_nothing = grind (arith, nat_tests)
 
 view_fields : (path : Path) (due : Bool) (coming : List Row) (ended : Option end.End) (b : Body)
     → due ≡ false → Follow path coming → Fits path coming
@@ -139,58 +118,18 @@ pub record Looks (s : Source) (b : Body) : Type 0 where
   pub part : takes_part 4 s ≡ has_some b.units
   pub low : 4 ≤ rank (place_at false s)
 
-step_four : (p : Place) → 4 ≤ rank p → rank p ≤ 7 → (step p == 4) ≡ true
-step_four p a b =
-    elim p as (λ p. 4 ≤ rank p → rank p ≤ 7 → (step p == 4) ≡ true) [
-      | Place.Aside ↦ λ a b. absurd (omega (arith, a))
-      | Place.Begins ↦ λ a b. absurd (omega (arith, a))
-      | Place.Front ↦ λ a b. absurd (omega (arith, a))
-      | Place.Opening ↦ λ a b. absurd (omega (arith, a))
-      | Place.Remark ↦ λ a b. refl
-      | Place.Local ↦ λ a b. refl
-      | Place.Tandem ↦ λ a b. refl
-      | Place.Change ↦ λ a b. refl
-      | Place.Note ↦ λ a b. absurd (omega (arith, b))
-      | Place.Closing ↦ λ a b. absurd (omega (arith, b))
-      | Place.Tail ↦ λ a b. absurd (omega (arith, b))
-      | Place.Over ↦ λ a b. absurd (omega (arith, b))
-    ] a b
-
-pub missing_end : (path : Path) (ended : Option end.End)
-    → is_missing false (calm path [] ended) ≡ not (is_closed_end ended)
-missing_end path None = refl
-missing_end path (Some Closed) = refl
-missing_end path (Some (Broken f)) = refl
-
 look_nothing : (path : Path) (ended : Option end.End)
     → Looks (calm path [] ended) (nothing (is_closed_end ended))
-look_nothing path ended = record {
-  missing = missing_end path ended;
-  rank_is = ap rank (empty_over false path false ended);
-  part = ap (λ (q : Place). step q == 4) (empty_over false path false ended);
-  low = rw (empty_over false path false ended) (omega arith);
-}
-
-unit_part : (path : Path) (row : Row) → place path row ≡ unit_place row → 4 ≤ rank (unit_place row)
-    → rank (unit_place row) ≤ 7 → (step (place path row) == 4) ≡ true
-unit_part path row u a b = rw u (step_four (unit_place row) a b)
+look_nothing = grind (arith, nat_tests)
 
 look_row : (path : Path) (row : Row) (rows : List Row) (ended : Option end.End) → Sorted path row
     → Looks (calm path (row ∷ rows) ended)
     (with_row (sort_of row) row rows (body (is_closed_end ended) (adds row) rows))
-look_row path row rows ended (AsClosing k p a) =
-    rw k (record { missing = refl; rank_is = ap rank p; part = rw p refl; low = rw p (omega arith) })
-look_row path row rows ended (AsData k ad p a) =
-    rw k (record { missing = refl; rank_is = ap rank p; part = rw p refl; low = rw p (omega arith) })
-look_row path row rows ended (AsAdds k ad u p st i) =
-    rw k (record { missing = refl; rank_is = ap rank u; part = rw p refl; low = rw p (omega arith) })
-look_row path row rows ended (AsSingle k ad u x y st i) =
-    rw k (record { missing = refl; rank_is = ap rank u; part = unit_part path row u x y; low = rw u x })
+look_row = grind (arith, nat_tests)
 
 pub looks : (s : Source) (b : Body) → View s b → Looks s b
 looks s b (Nothing path ended e w) = rw (e, ← w) (look_nothing path ended)
-looks s b (InTail text rows ended e f w) =
-    rw (e, ← w) (record { missing = refl; rank_is = refl; part = refl; low = omega arith })
+looks s b (InTail text rows ended e f w) = grind (arith, nat_tests)
 looks s b (AtRow n ns row rows ended e o f w) =
     rw (e, ← w) (look_row (Spines (n ∷ ns)) row rows ended (sorted n ns o row f.0))
 
@@ -211,28 +150,10 @@ pub data InRound (k : ℕ) (s : Source) (b : Body) : Type 0 where
   Gone : InBody s (behind_unit b) → GoneBefore k b.units → InRound k s b
 
 pub gone_later : (k : ℕ) (units : List (List Row)) → GoneBefore k units → GoneBefore (suc k) units
-gone_later k [] g = tt
-gone_later k ([] ∷ units) g = absurd g
-gone_later k ((row ∷ rows) ∷ units) g = let l = g.2 in (g.0, g.1, omega (arith, l))
-
--- who isn't due isn't asked
-pub idle_sees : (n : ℕ) (s : Source) → n ≤ 11 → s.due ≡ false → Follow s.path s.coming
-    → Sees true n s
-idle_sees n s l d f = by_due s.path s.due s.coming s.ended d f
-  where
-    by_due : (path : Path) (due : Bool) (coming : List Row) (ended : Option end.End) → due ≡ false
-        → Follow path coming
-        → Sees true n (record { path = path; due = due; coming = coming; ended = ended })
-    by_due path true coming ended d f = cc
-    by_due path false coming ended d f = record { known = refl; later = l; follow = f }
-
-pub calm_sees : (n : ℕ) (s : Source) (b : Body) → n ≤ 11 → InBody s b → Sees true n s
-calm_sees n s b l h = idle_sees n s l h.idle h.follow
+gone_later = grind (arith, nat_tests)
 
 pub round_sees : (k : ℕ) (s : Source) (b : Body) → k ≤ 11 → InRound k s b → Sees true k s
-round_sees k s b l (Waits n ns row rows ended e o f w x y) =
-    rw e (record { known = refl; later = x; follow = f })
-round_sees k s b l (Gone h g) = calm_sees k s (behind_unit b) l h
+round_sees = grind (arith, nat_tests)
 
 -- A unit that begins spines.
 no_pending : (whole : Bool) (rows : List Row) → (body whole false rows).pending ≡ []
@@ -240,24 +161,14 @@ no_pending whole [] = refl
 no_pending whole (Comment text ∷ rows) = no_pending whole rows
 no_pending whole (Spined Local tokens ∷ rows) = no_pending whole rows
 no_pending whole (Spined Values tokens ∷ rows) = no_pending whole rows
-no_pending whole (Spined Interpretation tokens ∷ rows) =
-    by_sort (list_all is_end (map sign_of tokens)) (list_any is_add (map sign_of tokens))
-    (no_pending whole rows)
-  where
-    by_sort : (e a : Bool) → (body whole false rows).pending ≡ []
-        → (with_row (cond e Closes (cond a Adds Single)) (Spined Interpretation tokens) rows (body whole a rows)).pending ≡ []
-    by_sort true a h = refl
-    by_sort false true h = refl
-    by_sort false false h = h
+no_pending whole (Spined Interpretation tokens ∷ rows) = grind (arith, nat_tests, no_pending whole rows)
 
 unpending : (b : Body) → b.pending ≡ [] → record b { pending = [] } ≡ b
 unpending b h = ap (λ (rows : List Row). record b { pending = rows }) (sym h)
 
 inside_at : (path : Path) (row : Row) → stands path ≡ true → is_inside path ≡ true
     → place path row ≡ inside_place row
-inside_at Unopened row h i = cc
-inside_at (Spines []) row h i = cc
-inside_at (Spines (n ∷ ns)) row h i = rw i refl
+inside_at = grind (arith, nat_tests)
 
 abbrev pub inside_of : Path → List Row → Option end.End → Source
 inside_of path rows ended = record { path = path; due = true; coming = rows; ended = ended }
@@ -265,19 +176,7 @@ inside_of path rows ended = record { path = path; due = true; coming = rows; end
 missing_among : (path : Path) (ended : Option end.End) (done behind : List Source)
     → list_any (is_missing (any_due (done ++ inside_of path [] ended ∷ behind)))
     (done ++ inside_of path [] ended ∷ behind) ≡ true
-missing_among path ended done behind =
-    rw (due_among done) (any_among done)
-  where
-    due_among : (done : List Source) → any_due (done ++ inside_of path [] ended ∷ behind) ≡ true
-    due_among [] = refl
-    due_among (s ∷ done) =
-        rw (due_among done) (elim s.due as (λ b. (b || true) ≡ true) [ true ↦ refl | false ↦ refl ])
-
-    any_among : (done : List Source)
-        → list_any (is_missing true) (done ++ inside_of path [] ended ∷ behind) ≡ true
-    any_among [] = refl
-    any_among (s ∷ done) =
-        rw (any_among done) (elim (is_missing true s) as (λ b. (b || true) ≡ true) [ true ↦ refl | false ↦ refl ])
+missing_among = grind (arith, common_steps)
 
 abbrev pub Bare : Source → Body → Type 0
 Bare s b = InBody s (record b { pending = [] })
@@ -291,8 +190,7 @@ pub inside_does : (whole : Bool) (rows : List Row) (path : Path) (ended : Option
       goes = list_any (λ r. not (is_comment r)) (body whole true rows).pending;
     }) (done ++ inside_of path rows ended ∷ behind) (Leaves Bare (body whole true rows) done behind)
 inside_does whole [] path ended done behind wh st i f d w =
-    stop_parts (done ++ inside_of path [] ended ∷ behind) (Leaves Bare (nothing whole) done behind)
-    (meets_missing (done ++ inside_of path [] ended ∷ behind) (missing_among path ended done behind))
+    grind (arith, nat_tests, stop_parts, meets_missing, missing_among)
 inside_does whole (Comment text ∷ rows) path ended done behind wh st i f d w =
     let same : gone path (Comment text) rows ended ≡ inside_of path rows ended =
     ap (λ (b : Bool). record { path = path; due = b; coming = rows; ended = ended }) i in

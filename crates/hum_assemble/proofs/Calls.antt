@@ -1,12 +1,13 @@
 -- What the calls of an assembler need of what it stands for.
+use Rattle.std.proofs.lemmas.Grind.{common_steps}
+use Rattle.std.proofs.lemmas.Bool.Decides.{nat_tests}
 use Rattle.std.proofs.Common.{◌≡◌, ◌∙◌, refl, sym, ap, subst, ℕ, zero, suc, ◌+◌, ◌<◌, ◌⊎◌}
-use Rattle.std.proofs.lemmas.Bool.{leb-false}
-use Rattle.std.proofs.Common.{inl, inr, Bool, true, false, cond, List, [], ◌∷◌, ◌++◌, length}
+use Rattle.std.proofs.Common.{inl, inr, Bool, true, false, List, [], ◌∷◌, ◌++◌, length}
 use Rattle.std.proofs.Common.{arith, map, get_or, set, take, replicate}
 use Rattle.std.specs.Prelude.{IfSome, Option}
-use Rattle.std.specs.Prelude.{None, Some, nat_lt, nat_le}
+use Rattle.std.specs.Prelude.{None, Some}
 use Rattle.std.specs.Prelude.{slice_get}
-use Rattle.hum_score.specs.Row.{Row, text_of}
+use Rattle.hum_score.specs.Row.{Row}
 use Rattle.hum_score.specs.Spines.{Path, Unopened, after as path_of}
 use Rattle.hum_score.specs.Rules.{fault_of}
 use Rattle.hum_stage.specs.declared.faults.End as end
@@ -25,46 +26,37 @@ use Rattle.hum_assemble.proofs.Standings.{state_stands, held_stands, waiting_sta
 use Rattle.hum_assemble.proofs.Reaching.{output_grows}
 use Rattle.hum_assemble.specs.Change.{Change, More, Ends, changed_at, IsOpenAt, Input}
 use Rattle.hum_assemble.specs.Merge.{Merge, ahead, ahead_at, given_row, given_on, moved}
-use Rattle.hum_assemble.specs.Merge.{all_moved, advanced, rule_broken, unless_broken, spines, made}
+use Rattle.hum_assemble.specs.Merge.{all_moved, spines}
 use Rattle.hum_assemble.specs.Round.{any_due, takes, still_free, earliest}
-use Rattle.hum_assemble.specs.Places.{is_over}
 use Rattle.hum_assemble.specs.Meaning.{opening, begun, ends, Moment, after, after_take, all_of}
 use Rattle.hum_assemble.specs.Meaning.{wants_of, put_of, MayPut, MayEnd, empty_moment, is_stopped}
 use Rattle.hum_score.specs.InOrder.{Follow, through}
 use Rattle.hum_assemble.specs.Standing.{Reaches, Standing, wants_by}
 use Rattle.hum_assemble.proofs.Steps.{is_giving, lost_given}
 use Rattle.hum_assemble.proofs.Growing.{changed_in}
-use Rattle.hum_stage.specs.declared.faults.Rule.TheVariants.{A1, L1, L2}
 use Rattle.hum_assemble.proofs.Standings.{WaitsAt, waits_at, wants_stands, put_dropped, put_kept}
 use Rattle.hum_assemble.proofs.Standings.{end_stands, take_gives, take_none, wanted_is}
 use Rattle.hum_assemble.proofs.Standings.{stopped_rests, OpenIn, same_ends, open_wanted, open_at}
 
 pub waits_within : (k : ℕ) (ss : List Source) → WaitsAt k ss → k < length ss
-waits_within k [] w = absurd w
-waits_within zero (s ∷ ss) w = omega arith
 waits_within (suc k) (s ∷ ss) w = let i = waits_within k ss w in omega (arith, i)
+waits_within k ss h = grind (arith, common_steps)
 
 pub waits_empty : (k : ℕ) (ss : List Source) (s : Source) → WaitsAt k ss → s ≡ get_or ss k s
     → s.coming ≡ []
-waits_empty k [] s w e = absurd w
-waits_empty zero (x ∷ ss) s w e = ap (λ (y : Source). y.coming) e ∙ w.0
 waits_empty (suc k) (x ∷ ss) s w e = waits_empty k ss s w e
+waits_empty k ss s h w = grind (arith, common_steps)
 
 pub set_more : (k : ℕ) (ss : List Source) (s s' : Source) (row : Row) → WaitsAt k ss
     → s ≡ get_or ss k s → s' ≡ record s { coming = row ∷ [] }
     → set ss k s' ≡ changed_at k (More row) ss
-set_more k [] s s' row w e f = absurd w
-set_more zero (x ∷ ss) s s' row w e f =
-    let c = w.0 in
-    ap (λ (y : Source). y ∷ ss) (f ∙ (ap (λ (y : Source). record y { coming = row ∷ [] }) e
-    ∙ ap (λ (rows : List Row). record x { coming = rows ++ row ∷ [] }) (sym c)))
 set_more (suc k) (x ∷ ss) s s' row w e f = ap (λ (ys : List Source). x ∷ ys) (set_more k ss s s' row w e f)
+set_more k ss s s' row h w e = grind (arith, common_steps)
 
 pub set_end : (k : ℕ) (ss : List Source) (s s' : Source) (e : end.End) → s ≡ get_or ss k s
     → s' ≡ record s { ended = Some e } → set ss k s' ≡ changed_at k (Ends e) ss
-set_end k [] s s' x e f = refl
-set_end zero (y ∷ ss) s s' x e f = ap (λ (z : Source). z ∷ ss) (f ∙ ap (λ (z : Source). record z { ended = Some x }) e)
 set_end (suc k) (y ∷ ss) s s' x e f = ap (λ (zs : List Source). y ∷ zs) (set_end k ss s s' x e f)
+set_end k ss s s' e h w = grind (arith, common_steps)
 
 -- The spines after all that was put into each source.
 abbrev pub AllPaths : List Input → List Source → Type 0
@@ -75,16 +67,12 @@ AllPaths (x ∷ xs) (s ∷ ss) = (through s.path s.coming ≡ through Unopened x
 
 moved_path : (b going : Bool) (p : Place) (s : Source)
     → through (moved b going p s).path (moved b going p s).coming ≡ through s.path s.coming
-moved_path false going p s = refl
-moved_path true going p s = elim s.coming as (λ c. through (advanced s.path s.due c s.ended).path
-    (advanced s.path s.due c s.ended).coming ≡ through s.path c) [ [] ↦ refl | x ∷ xs ↦ refl ]
+moved_path = grind (arith, nat_tests)
 
 moved_paths : (free going : Bool) (p : Place) (xs : List Input) (ss : List Source) → AllPaths xs ss
     → AllPaths xs (all_moved free going p ss)
-moved_paths free going p [] [] a = tt
-moved_paths free going p [] (s ∷ ss) a = absurd a
-moved_paths free going p (x ∷ xs) [] a = absurd a
 moved_paths free going p (x ∷ xs) (s ∷ ss) a = (moved_path (takes free going p s) going p s ∙ a.0, moved_paths (still_free free going p s) going p xs ss a.1)
+moved_paths free going p xs ss h = grind (arith, nat_tests)
 
 opening_paths : (xs : List Input) → AllPaths xs (map begun xs)
 opening_paths [] = tt
@@ -109,10 +97,7 @@ sound_last path [] row h = h.0
 sound_last path (x ∷ xs) row h = sound_last (path_of path x) xs row h.1
 
 waits_not : (a : next.Next) (k : ℕ) → is_stopped a ≡ true → a ≡ Wants k → ⊥
-waits_not (Gives p) k h e = cc
-waits_not (Wants j) k h e = cc
-waits_not (Refused rule) k h e = cc
-waits_not NothingMore k h e = cc
+waits_not = grind (arith, nat_tests)
 
 -- A record that is wanted breaks no rule.
 pub sound_put : (stage : ℕ) (kept : Merge) (j : ℕ) (row : Row) (s : Source) → ahead kept ≡ Wants j
@@ -122,9 +107,7 @@ sound_put stage kept j row s e g may =
     let h = may.stand in
     let live : kept ≡ h.at = elim h.keeps [
       | inl x ↦ x
-      | inr d ↦ absurd
-          (let r = stopped_rests (ahead h.at) d.stopped in
-          let v = sym (d.same) ∙ e in waits_not (ahead h.at) j d.stopped v)
+      | inr d ↦ grind (arith, nat_tests, stopped_rests, waits_not)
     ] in
     let a : AllPaths may.at.inputs kept.sources = rw live
     (reached_paths may.at.given may.at.inputs (opening may.at.inputs) h.at (opening_paths may.at.inputs)
@@ -147,25 +130,18 @@ pub put_other : (stage : ℕ) (kept : Merge) (t : Moment) (j : ℕ) (row : Row)
 put_other stage kept t j row h w n = put_cases stage kept t j row (ahead kept) refl h w n
 
 pub not_giving : (a : next.Next) → ((p : Place) → a ≡ Gives p → ⊥) → is_giving a ≡ false
-not_giving (Gives p) n = absurd (n p refl)
-not_giving (Refused rule) n = refl
-not_giving (Wants k) n = refl
-not_giving NothingMore n = refl
+not_giving = grind (arith, nat_tests)
 
 pub open_within : (j : ℕ) (ss : List Source) → IsOpenAt j ss → j < length ss
-open_within j [] i = absurd i
-open_within zero (s ∷ ss) i = omega arith
 open_within (suc j) (s ∷ ss) i = let w = open_within j ss i in omega (arith, w)
+open_within j ss h = grind (arith, common_steps)
 
 pub end_within : (stage : ℕ) (kept : Merge) (spent : Bool) (j : ℕ) (e : end.End)
     → MayEnd (λ t. Standing stage kept spent t) j e → j < length kept.sources
 end_within stage kept spent j e may = open_within j kept.sources (open_at j kept.sources (open_wanted stage kept spent may.at may.stand j may.wants))
 
 pub take_front : (n : ℕ) (xs ys : List Source) → n ≡ length xs → take n (xs ++ ys) ≡ xs
-take_front zero [] ys e = refl
-take_front zero (x ∷ xs) ys e = absurd (omega (arith, e))
-take_front (suc n) [] ys e = absurd (omega (arith, e))
-take_front (suc n) (x ∷ xs) ys e = ap (λ (zs : List Source). x ∷ zs) (take_front n xs ys (omega (arith, e)))
+take_front = grind (arith, common_steps)
 
 -- A new assembler.
 begun_all : (n : ℕ)
@@ -176,19 +152,12 @@ begun_all (suc n) = ap (λ (ss : List Source). record { path = Unopened; due = f
 pub new_stands : (stage n : ℕ) (ss : List Source)
     → ss ≡ replicate n (record { path = Unopened; due = false; coming = []; ended = None })
     → Standing stage (record { sources = ss; given = 0 }) false (empty_moment stage n)
-new_stands stage n ss e = record {
-  stage_is = refl;
-  alive = refl;
-  at = record { sources = ss; given = 0 };
-  reached = ap (λ (x : List Source). record { sources = x; given = 0 }) (begun_all n ∙ sym e);
-  keeps = inl refl;
-}
+new_stands stage n ss e = grind (arith, nat_tests, begun_all n)
 
 pub not_spent : (stage : ℕ) (kept : Merge) (spent : Bool) (j : ℕ) (row : Row) → spent ≡ false
     → ((spent ≡ true) ⊎ MayPut (λ t. Standing stage kept spent t) j row)
     → MayPut (λ t. Standing stage kept false t) j row
-not_spent stage kept spent j row e (inl t) = cc
-not_spent stage kept spent j row e (inr m) = rw e at m
+not_spent = grind (arith, nat_tests)
 
 pub alive : (stage : ℕ) (kept : Merge) (spent : Bool) (t : Moment) → spent ≡ false
     → Standing stage kept spent t → Standing stage kept false t
@@ -270,36 +239,9 @@ pub take_nothing : (stage : ℕ) (kept : Merge) (spent : Bool) (t : Moment)
     → None ≡ slice_get (all_of t) t.given
 take_nothing stage kept spent t h n = sym (take_none stage kept spent t h (not_giving (ahead kept) n))
 
--- a record is given only below the limit
-broken_room : (p q : Place) (spines bytes given : ℕ)
-    → unless_broken q (rule_broken spines bytes given) ≡ Gives p → given < 4294967295
-broken_room p q spines bytes given h =
-    (elim (nat_lt 4096 spines) as (λ a. unless_broken q
-    (cond a (Some A1) (cond (nat_lt 1048576 bytes) (Some L1)
-    (cond (nat_le 4294967295 given) (Some L2) None))) ≡ Gives p → given < 4294967295) [
-      | true ↦ λ e. cc
-      | false ↦ λ e. (elim (nat_lt 1048576 bytes) as
-          (λ a. unless_broken q (cond a (Some L1) (cond (nat_le 4294967295 given) (Some L2) None)) ≡ Gives p →
-          given < 4294967295) [
-            | true ↦ λ f. cc
-            | false ↦ λ f. (elim (nat_le 4294967295 given) as
-                (λ a. nat_le 4294967295 given ≡ a → unless_broken q (cond a (Some L2) None) ≡ Gives p →
-                given < 4294967295) [
-                  | true ↦ λ g i. cc
-                  | false ↦ λ g i. leb-false 4294967295 given g
-                ]) refl f
-          ]) e
-    ]) h
-
 at_room : (going : Bool) (q p : Place) (ss : List Source) (given : ℕ)
     → ahead_at going q ss given ≡ Gives p → given < 4294967295
-at_room going q p ss given h =
-    (elim (is_over q) as (λ b. cond b NothingMore
-    (unless_broken q (rule_broken (spines (all_moved true going q ss)) (length (text_of (made going q ss)))
-    given)) ≡ Gives p → given < 4294967295) [
-      | true ↦ λ w. cc
-      | false ↦ λ w. broken_room p q (spines (all_moved true going q ss)) (length (text_of (made going q ss))) given w
-    ]) h
+at_room = grind (arith, nat_tests)
 
 pub has_room : (ss : List Source) (given : ℕ) (p : Place)
     → ahead (record { sources = ss; given = given }) ≡ Gives p → given < 4294967295
@@ -308,8 +250,7 @@ has_room ss given p h = at_room (any_due ss) (earliest (any_due ss) ss) p ss giv
 pub not_spent_end : (stage : ℕ) (kept : Merge) (spent : Bool) (j : ℕ) (e : end.End) → spent ≡ false
     → ((spent ≡ true) ⊎ MayEnd (λ t. Standing stage kept spent t) j e)
     → MayEnd (λ t. Standing stage kept spent t) j e
-not_spent_end stage kept spent j e f (inl t) = cc
-not_spent_end stage kept spent j e f (inr m) = m
+not_spent_end = grind (arith, nat_tests)
 
 -- What a new assembler keeps is lawful.
 pub lawful_new : (n : ℕ) → AllLawful (replicate n (untouched None []))
@@ -378,10 +319,8 @@ pub told_taken : (ss news more : List Source) (given n : ℕ) (p : Place) (going
     → going ≡ any_due (take n (news ++ more))
     → told ≡ ahead (record { sources = take n (news ++ more); given = given + 1 })
     → n ≡ length news → IsTold (take n (news ++ more)) (given + 1) going told false
-told_taken ss news more given n p going told e l d t k = record {
-  at_most = let r = has_room ss given p e in omega (arith, r);
-  alive = λ f. record { due = d; next = t; lawful = rw (take_front n news more k) l };
-}
+told_taken ss news more given n p going told e l d t k =
+    grind (arith, nat_tests, has_room ss given p e, take_front n news more k)
 
 -- Who is wanted hasn't ended.
 pub wanted_open : (stage : ℕ) (kept : Merge) (spent : Bool) (t : Moment) (o : Option ℕ)

@@ -1,7 +1,9 @@
 -- Steps that a merge does, one after another.
-use Rattle.std.proofs.Common.{◌≡◌, ◌∙◌, refl, ap, Bool, true}
-use Rattle.std.proofs.Common.{false, ◌||◌, cond, List, [], ◌∷◌, ◌++◌}
-use Rattle.std.proofs.Common.{map, append-nil}
+use Rattle.std.proofs.lemmas.Grind.{common_steps}
+use Rattle.std.proofs.lemmas.Bool.Decides.{nat_tests}
+use Rattle.std.proofs.Common.{◌≡◌, ◌∙◌, refl, Bool, true, arith}
+use Rattle.std.proofs.Common.{false, ◌||◌, cond, List, [], ◌∷◌}
+use Rattle.std.proofs.Common.{map}
 use Rattle.std.specs.Prelude.{Option, None, is_some}
 use Rattle.std.specs.List.{list_any}
 use Rattle.hum_score.specs.Row.{Row}
@@ -32,19 +34,7 @@ pub stop_parts : (ss : List Source) (P : List Source → Type 0) → Meets ss []
 stop_parts ss P m = λ k h. m
 
 then_assoc : (a b c : Steps) → (then_on (then_on a b) c).parts ≡ (then_on a (then_on b c)).parts
-then_assoc a b c = by_goes a.parts a.goes b.parts b.goes c.parts
-  where
-    append_more : (xs ys zs : List (List (Option Row))) → (xs ++ ys) ++ zs ≡ xs ++ (ys ++ zs)
-    append_more [] ys zs = refl
-    append_more (x ∷ xs) ys zs = ap (λ (l : List (List (Option Row))). x ∷ l) (append_more xs ys zs)
-
-    by_goes : (xs : List (List (Option Row))) (g : Bool) (ys : List (List (Option Row))) (h : Bool)
-        (zs : List (List (Option Row)))
-        → (then_on (then_on (record { parts = xs; goes = g }) (record { parts = ys; goes = h })) (record { parts = zs; goes = c.goes })).parts
-        ≡ (then_on (record { parts = xs; goes = g }) (then_on (record { parts = ys; goes = h }) (record { parts = zs; goes = c.goes }))).parts
-    by_goes xs true ys true zs = append_more xs ys zs
-    by_goes xs true ys false zs = refl
-    by_goes xs false ys h zs = refl
+then_assoc = grind (arith, common_steps)
 
 pub does_then : (s t : Steps) (ss : List Source) (P Q : List Source → Type 0) → Does s ss P
     → ((b : List Source) → P b → Does t b Q) → Does (then_on s t) ss Q
@@ -53,26 +43,22 @@ does_then s t ss P Q d e =
 
 pub does_known : (known : Bool) (s : Steps) (ss : List Source) (P : List Source → Type 0)
     → (known ≡ false → Meets ss []) → (known ≡ true → Does s ss P) → Does (where_known known s) ss P
-does_known true s ss P m d = d refl
-does_known false s ss P m d = stop_parts ss P (m refl)
+does_known = grind (arith, nat_tests)
 
 pub does_any : (some : Bool) (s : Steps) (ss : List Source) (P : List Source → Type 0)
     → (some ≡ false → P ss) → (some ≡ true → Does s ss P) → Does (where_any some s) ss P
-does_any true s ss P p d = d refl
-does_any false s ss P p d = does_nothing ss P (p refl)
+does_any = grind (arith, nat_tests)
 
 pub does_more : (os : List (Option Row)) (ps : List (List (Option Row))) (goes : Bool)
     (a b : List Source) (P : List Source → Type 0)
     → ((qs : List (List (Option Row))) → Meets b qs → Meets a (os ∷ qs))
     → Does (record { parts = ps; goes = goes }) b P
     → Does (record { parts = os ∷ ps; goes = goes }) a P
-does_more os ps true a b P m d = λ k h. m _ (d k h)
-does_more os ps false a b P m d = λ k h. m _ (d k h)
+does_more = grind (arith, nat_tests)
 
 finish_parts : (ps : List (List (Option Row))) (goes : Bool)
     → (then_on (record { parts = ps; goes = goes }) (steps [])).parts ≡ ps
-finish_parts ps true = append-nil ps
-finish_parts ps false = refl
+finish_parts = grind (arith, common_steps)
 
 pub does_finish : (s : Steps) (ss : List Source) → Does s ss (λ b. Meets b []) → Meets ss s.parts
 does_finish s ss d = rw (← finish_parts s.parts s.goes) (d (steps []) (λ b m. m))
@@ -102,56 +88,43 @@ pub record Shares {V : Type 0} (going : Bool) (p : Place) (f : V → Option Row)
 shared_moved : (going : Bool) (p : Place) (ss : List Source) → is_shared p ≡ true
     → all_moved true going p ss ≡ map (moved_at going p) ss
 shared_moved going p [] h = refl
-shared_moved going p (s ∷ ss) h =
-    rw h (ap (λ (xs : List Source). moved_at going p s ∷ xs) (shared_moved going p ss h))
+shared_moved going p (s ∷ ss) h = grind (arith, nat_tests, shared_moved going p ss h)
 
 shared_parts : (going : Bool) (p : Place) (ss : List Source) → is_shared p ≡ true
     → parts_at true going p ss ≡ map (part_at going p) ss
 shared_parts going p [] h = refl
-shared_parts going p (s ∷ ss) h =
-    rw h (ap (λ (xs : List (Option Row)). part_at going p s ∷ xs) (shared_parts going p ss h))
+shared_parts going p (s ∷ ss) h = grind (arith, nat_tests, shared_parts going p ss h)
 
 module _ {V : Type 0} (going : Bool) (p : Place) (f : V → Option Row) (Q : Source → V → Type 0) where
   abbrev pub Share : List Source → List V → Type 0
   Share = Both (Shares going p f Q)
 
   share_see : (ss : List Source) (vs : List V) → Share ss vs → AllSee going (rank p) ss
-  share_see [] [] h = tt
-  share_see [] (v ∷ vs) h = absurd h
-  share_see (s ∷ ss) [] h = absurd h
   share_see (s ∷ ss) (v ∷ vs) h = (h.0.sees, share_see ss vs h.1)
+  share_see ss vs h = grind (arith, nat_tests)
 
   share_parts : (ss : List Source) (vs : List V) → Share ss vs → map (part_at going p) ss ≡ map f vs
-  share_parts [] [] h = refl
-  share_parts [] (v ∷ vs) h = absurd h
-  share_parts (s ∷ ss) [] h = absurd h
   share_parts (s ∷ ss) (v ∷ vs) h = rw (h.0.part, share_parts ss vs h.1) refl
+  share_parts ss vs h = grind (arith, nat_tests)
 
   share_any : (ss : List Source) (vs : List V) → Share ss vs
       → list_any (is_at going p) ss ≡ list_any is_some (map f vs)
-  share_any [] [] h = refl
-  share_any [] (v ∷ vs) h = absurd h
-  share_any (s ∷ ss) [] h = absurd h
   share_any (s ∷ ss) (v ∷ vs) h = rw (h.0.at, share_any ss vs h.1) refl
+  share_any ss vs h = grind (arith, nat_tests)
 
   share_on : (ss : List Source) (vs : List V) → Share ss vs → Both Q (map (moved_at going p) ss) vs
-  share_on [] [] h = tt
-  share_on [] (v ∷ vs) h = absurd h
-  share_on (s ∷ ss) [] h = absurd h
   share_on (s ∷ ss) (v ∷ vs) h = (h.0.on, share_on ss vs h.1)
+  share_on ss vs h = grind (arith, nat_tests)
 
   or_false : (a b : Bool) → (a || b) ≡ false → (a ≡ false) × (b ≡ false)
-  or_false true b h = cc
-  or_false false b h = (refl, h)
+  or_false = grind (arith, nat_tests)
 
   share_stays : (ss : List Source) (vs : List V) → Share ss vs
       → list_any is_some (map f vs) ≡ false → Both Q ss vs
-  share_stays [] [] h n = tt
-  share_stays [] (v ∷ vs) h n = absurd h
-  share_stays (s ∷ ss) [] h n = absurd h
   share_stays (s ∷ ss) (v ∷ vs) h n =
       let b = or_false (is_some (f v)) (list_any is_some (map f vs)) n in
       (h.0.stays (h.0.at ∙ b.0), share_stays ss vs h.1 b.1)
+  share_stays ss vs h k = grind (arith, nat_tests)
 
   pub does_together : (ss : List Source) (vs : List V) → is_shared p ≡ true → is_over p ≡ false
       → (list_any (is_at going p) ss ≡ true → any_due ss ≡ going) → Share ss vs

@@ -1,11 +1,12 @@
 -- How many records can still be taken before the next is put, and how many are given in all.
-use Rattle.std.proofs.Common.{◌≡◌, refl, ap, ℕ, zero, suc, ◌+◌, ◌≤◌, Bool, List, length, arith}
+use Rattle.std.proofs.lemmas.Bool.Decides.{nat_tests}
+use Rattle.std.proofs.Common.{◌≡◌, ap, ℕ, zero, suc, ◌+◌, ◌≤◌, Bool, List, length, arith}
 use Rattle.hum_assemble.specs.declared.places.Next as next
 use Rattle.hum_assemble.specs.declared.places.Next.TheVariants.{Gives, Refused, Wants}
 use Rattle.hum_assemble.specs.declared.places.Next.TheVariants.{Over as NothingMore}
 use Rattle.hum_assemble.specs.Merge.{Merge, ahead, given_on}
 use Rattle.hum_assemble.specs.Change.{Input}
-use Rattle.hum_assemble.specs.Meaning.{gives, total, all_given, opening, Moment, all_of, output}
+use Rattle.hum_assemble.specs.Meaning.{gives, total, all_given, Moment, all_of, output}
 use Rattle.hum_assemble.specs.Meaning.{held_in, held_at}
 use Rattle.hum_assemble.specs.Standing.{Reaches, Standing}
 use Rattle.hum_assemble.proofs.Steps.{is_giving, doing, Going, Resting, gives_going, gives_resting}
@@ -28,20 +29,14 @@ by_next m NothingMore e = rw (e, (all_resting m (ap is_giving e)).0) (omega arit
 
 reached_length : (n : ℕ) (m s : Merge) → Reaches n m s
     → length (all_given m) ≡ n + length (all_given s)
-reached_length zero m s r =
-    let e = ap (λ (x : Merge). length (all_given x)) r in omega (arith, e)
+reached_length zero m s r = grind (arith, nat_tests)
 reached_length (suc n) m s r =
-    let ih = reached_length n (given_on r.0 m) s r.2 in
-    rw (all_going m r.0 r.1).0 (omega (arith, ih))
+    grind (arith, nat_tests, reached_length n (given_on r.0 m) s r.2, all_going m r.0 r.1)
 
 -- At most as many as are held.
 pub few_more : (stage : ℕ) (kept : Merge) (spent : Bool) (t : Moment) → Standing stage kept spent t
     → length (all_of t) ≤ t.given + held_at t
-few_more stage kept spent t h =
-    let g = reached_on t.given (opening t.inputs) h.at h.reached in
-    let l = reached_length t.given (opening t.inputs) h.at h.reached in
-    let f = by_next h.at (ahead h.at) refl in
-    rw g (omega (arith, l, f))
+few_more = grind (arith, nat_tests, reached_on, reached_length, by_next)
 
 -- No more is given than a score may have.
 within : (n : ℕ) (m : Merge) → m.given ≤ 4294967295 → m.given + length (gives n m) ≤ 4294967295
@@ -55,5 +50,4 @@ within (suc n) m h = elim (doing m) [
 ]
 
 pub few_in_all : (xs : List Input) → length (output xs) ≤ 4294967295
-few_in_all xs =
-    let k = within (total (opening xs).sources) (opening xs) (omega arith) in omega (arith, k)
+few_in_all = grind (arith, nat_tests, within)

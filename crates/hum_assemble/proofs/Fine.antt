@@ -1,4 +1,5 @@
 -- What is given is a score, as far as it goes.
+use Rattle.std.proofs.lemmas.Bool.Decides.{nat_tests}
 use Rattle.std.proofs.Common.{◌≡◌, ◌∙◌, refl, sym, ap, ℕ, ◌≤◌, ◌<◌, ◌⊎◌, inl, inr}
 use Rattle.std.proofs.Common.{Bool, true, false, ◌||◌, List, [], ◌∷◌, length}
 use Rattle.std.proofs.Common.{arith}
@@ -6,7 +7,7 @@ use Rattle.std.specs.Prelude.{None, Some}
 use Rattle.std.specs.List.{list_any, find}
 use Rattle.hum_score.specs.declared.records.SpinedKind.{SpinedKind}
 use Rattle.hum_score.specs.declared.records.SpinedKind.TheVariants.{Local, Interpretation, Values}
-use Rattle.hum_score.specs.Row.{Row, Comment, Spined}
+use Rattle.hum_score.specs.Row.{Row, Spined}
 use Rattle.hum_score.specs.Rules.{fault_of, breaks_as_text, in_order}
 use Rattle.hum_score.specs.Spines.{Path, Unopened, Spines, after}
 use Rattle.hum_path.proofs.Plain.{plain_stays}
@@ -16,7 +17,6 @@ use Rattle.hum_assemble.specs.declared.places.Place.TheVariants.{Remark, Local a
 use Rattle.hum_assemble.specs.declared.places.Place.TheVariants.{Tandem, Change, Note, Closing}
 use Rattle.hum_assemble.specs.declared.places.Place.TheVariants.{Tail, Over}
 use Rattle.hum_assemble.specs.Source.{Source, place}
-use Rattle.hum_assemble.specs.Head.{is_opened}
 use Rattle.hum_assemble.specs.Places.{rank, kind_at, is_shared, is_over}
 use Rattle.hum_assemble.specs.Round.{takes, still_free}
 use Rattle.hum_assemble.specs.Merge.{moved, all_moved, tokens_given}
@@ -52,13 +52,7 @@ pub record IsFine (path : Path) (ss : List Source) : Type 0 where
 -- Comments.
 still_path : (free going : Bool) (p : Place) (s : Source) → is_over p ≡ false → kind_at p ≡ None
     → IsSound s → (moved (takes free going p s) going p s).path ≡ s.path
-still_path free going p s o k i =
-    (elim (takes free going p s) as (λ b. takes free going p s ≡ b → (moved b going p s).path ≡ s.path) [
-      | true ↦ λ h.
-          let t = taken_by free going p s o i h in
-          taken_path going p s t ∙ comment_stays s.path t.row (sym k ∙ t.kind)
-      | false ↦ λ h. refl
-    ]) refl
+still_path = grind (arith, nat_tests, taken_by, taken_path, comment_stays)
 
 still_paths : (free going : Bool) (p : Place) (ss : List Source) → is_over p ≡ false
     → kind_at p ≡ None → AllSound ss → paths_of (all_moved free going p ss) ≡ paths_of ss
@@ -69,28 +63,12 @@ still_paths free going p (s ∷ ss) o k i =
 still_unopened : (free going : Bool) (p : Place) (ss : List Source) → is_over p ≡ false
     → kind_at p ≡ None → AllSound ss → AllUnopened ss → AllUnopened (all_moved free going p ss)
 still_unopened free going p [] o k i u = tt
-still_unopened free going p (s ∷ ss) o k i u = (
-  still_path free going p s o k i.0 ∙ u.0,
-  still_unopened (still_free free going p s) going p ss o k i.1 u.1,
-)
-
--- Sources that have spines go on having them.
-opened_after : (path : Path) (row : Row) → is_opened path ≡ true → is_opened (after path row) ≡ true
-opened_after Unopened row h = cc
-opened_after (Spines names) (Comment text) h = refl
-opened_after (Spines names) (Spined Local tokens) h = refl
-opened_after (Spines names) (Spined Values tokens) h = refl
-opened_after (Spines names) (Spined Interpretation tokens) h = refl
+still_unopened free going p (s ∷ ss) o k i u =
+    grind (arith, nat_tests, still_unopened (still_free free going p s) going p ss o k i.1 u.1, still_path)
 
 settled_one : (free going : Bool) (p : Place) (s : Source) → is_over p ≡ false → IsSound s
     → IsSettled s → IsSettled (moved (takes free going p s) going p s)
-settled_one free going p s o i e =
-    (elim (takes free going p s) as (λ b. takes free going p s ≡ b → IsSettled (moved b going p s)) [
-      | true ↦ λ h.
-          let t = taken_by free going p s o i h in
-          inl (ap is_opened (taken_path going p s t) ∙ opened_after s.path t.row (opened_taker p s e t))
-      | false ↦ λ h. e
-    ]) refl
+settled_one = grind (arith, nat_tests)
 
 pub settled_moved : (free going : Bool) (p : Place) (ss : List Source) → is_over p ≡ false
     → AllSound ss → AllSettled ss → AllSettled (all_moved free going p ss)
@@ -101,11 +79,7 @@ settled_moved free going p (s ∷ ss) o i e =
 quiet_path : (free going : Bool) (p : Place) (s : Source) → is_over p ≡ false → IsQuiet p
     → IsSound s
     → IsSettled s → (moved (takes free going p s) going p s).path ≡ s.path
-quiet_path free going p s o q i e =
-    (elim (takes free going p s) as (λ b. takes free going p s ≡ b → (moved b going p s).path ≡ s.path) [
-      | true ↦ λ h. let t = taken_by free going p s o i h in taken_path going p s t ∙ q s t e
-      | false ↦ λ h. refl
-    ]) refl
+quiet_path = grind (arith, nat_tests, taken_by, taken_path)
 
 quiet_paths : (free going : Bool) (p : Place) (ss : List Source) → is_over p ≡ false → IsQuiet p
     → AllSound ss → AllSettled ss → paths_of (all_moved free going p ss) ≡ paths_of ss
@@ -118,8 +92,7 @@ same_names ss ts h = names_are ss ∙ (ap names_in h ∙ sym (names_are ts))
 
 -- no source without spines has a record elsewhere
 unopened_rank : (row : Row) → (2 ≤ rank (place Unopened row)) × (rank (place Unopened row) ≤ 3)
-unopened_rank (Comment text) = (omega arith, omega arith)
-unopened_rank (Spined kind tokens) = (omega arith, omega arith)
+unopened_rank = grind (arith, nat_tests)
 
 unopened_at : (going : Bool) (p : Place) (ss : List Source) → is_over p ≡ false → AllSound ss
     → AllUnopened ss → list_any (is_at going p) ss ≡ true → (2 ≤ rank p) × (rank p ≤ 3)
@@ -127,12 +100,7 @@ unopened_at going p [] o i u h = cc
 unopened_at going p (s ∷ ss) o i u h =
     (elim (is_at going p s) as (λ b. is_at going p s ≡ b → (b || list_any (is_at going p) ss) ≡ true
     → (2 ≤ rank p) × (rank p ≤ 3)) [
-      | true ↦ λ at w.
-          let t = taker going p s o i.0 at in
-          let r = unopened_rank t.row in
-          let q : rank p ≡ rank (place Unopened t.row) =
-          t.at ∙ ap (λ (path : Path). rank (place path t.row)) u.0 in
-          (omega (arith, q, r.0), omega (arith, q, r.1))
+      | true ↦ grind (arith, nat_tests, taker, unopened_rank)
       | false ↦ λ at w. unopened_at going p ss o i.1 u.1 w
     ]) refl h
 
@@ -142,10 +110,7 @@ no_opening : (going : Bool) (ss : List Source) → AllSound ss → AllSettled ss
 no_opening going [] i e h = let v = h in cc
 no_opening going (s ∷ ss) i e h =
     (elim (is_at going Opening s) as (λ b. is_at going Opening s ≡ b → (b || list_any (is_at going Opening) ss) ≡ true → ⊥) [
-      | true ↦ λ at w.
-          let t = taker going Opening s refl i.0 at in
-          let u = opening_path s.path t.row t.at in
-          let v = sym (ap is_opened u) ∙ opened_taker Opening s e.0 t in cc
+      | true ↦ grind (arith, nat_tests, taker, opening_path, opened_taker)
       | false ↦ λ at w. no_opening going ss i.1 e.1 w
     ]) refl h
 
@@ -174,34 +139,23 @@ comment_fine path going p ss k f h =
     record {
       sound = sound_on path going p ss f h;
       one = rw paths f.one;
-      side = elim f.side [
-        | inl before ↦ inl (before.0, still_unopened true going p ss h.some k f.sound before.1)
-        | inr behind ↦ inr (
-          behind.0 ∙ ap Spines (same_names _ _ (sym paths)),
-          settled_moved true going p ss h.some f.sound behind.1,
-        )
-      ];
+      side = grind (arith, nat_tests, still_unopened, same_names, settled_moved);
     }
 
 few_names : (going : Bool) (p : Place) (ss : List Source) → Here going p ss
     → length (names_of (all_moved true going p ss)) ≤ 4096
-few_names going p ss h =
-    let e = names_spines (all_moved true going p ss) in let f = h.few in omega (arith, e, f)
+few_names = grind (arith, nat_tests, names_spines)
 
 -- local comments and data
 text_after : (path : Path) (kind : SpinedKind) (tokens : List (List ℕ))
     → (kind ≡ Interpretation → ⊥)
     → after path (Spined kind tokens) ≡ path
-text_after path Local tokens n = refl
-text_after path Values tokens n = refl
-text_after path Interpretation tokens n = absurd (n refl)
+text_after = grind (arith, nat_tests)
 
 text_fault : (path : Path) (kind : SpinedKind) (tokens : List (List ℕ))
     → (kind ≡ Interpretation → ⊥)
     → find (breaks_as_text path tokens) in_order ≡ None → fault_of path (Spined kind tokens) ≡ None
-text_fault path Local tokens n h = h
-text_fault path Values tokens n h = h
-text_fault path Interpretation tokens n h = absurd (n refl)
+text_fault = grind (arith, nat_tests)
 
 abbrev SpinedGoes : Path → Bool → Place → SpinedKind → List Source → Type 0
 SpinedGoes path going p kind ss =
@@ -225,10 +179,7 @@ quiet_goes path going p kind ss k n late f h =
             rw (text_after path kind (tokens_given true going p ss) n) (record {
               sound = sound_on path going p ss f h;
               one = rw paths f.one;
-              side = inr (
-                behind.0 ∙ ap Spines (same_names _ _ (sym paths)),
-                settled_moved true going p ss h.some f.sound behind.1,
-              );
+              side = grind (arith, nat_tests, same_names, settled_moved);
             }),
           )
     ]
@@ -245,8 +196,7 @@ tandem_goes path going ss f h =
           let wide = all_wide true going Tandem ss Interpretation h.some refl f.sound behind.1 in
           let paths = quiet_paths true going Tandem ss h.some quiet_tandem f.sound behind.1 in
           let names = same_names _ _ paths in
-          let few : length (names_of ss) ≤ 4096 =
-          let n = few_names going Tandem ss h in let e = ap length names in omega (arith, n, e) in
+          let few : length (names_of ss) ≤ 4096 = grind (arith, nat_tests, few_names) in
           let plain = tandem_tokens true going ss f.sound in
           let stays = plain_stays (names_of ss) tokens plain (sym wide) in (
             rw behind.0 (plain_sound (names_of ss) tokens wide (named_of ss out)
@@ -277,10 +227,7 @@ alone_goes path going p ss k sh n out f h =
             record {
               sound = sound_on path going p ss f h;
               one = alone_one going p ss sh out;
-              side = inr (
-                ap Spines (ap (λ (x : Path). names_after x tokens) behind.0 ∙ o.leads),
-                settled_moved true going p ss h.some f.sound behind.1,
-              );
+              side = grind (arith, nat_tests, settled_moved);
             },
           )
     ]
@@ -298,8 +245,7 @@ opening_goes path false ss e f h =
             rw before.0 (opening_sound tokens o.exclusive o.bare few),
             record {
               sound = sound_on path false Opening ss f h;
-              one = none_one _ (named_none _ (ap (list_any is_empty) (sym (names_are (all_moved true false Opening ss)) ∙ o.names)
-                  ∙ exclusive_named tokens o.exclusive));
+              one = grind (arith, nat_tests, none_one, named_none, names_are, exclusive_named);
               side = inr (ap Spines (ap (λ (x : Path). names_after x tokens) before.0 ∙ sym o.names), o.settled);
             },
           )
@@ -323,10 +269,7 @@ closing_goes path false ss e f h =
             record {
               sound = sound_on path false Closing ss f h;
               one = none_one _ (named_none _ (ap (list_any is_empty) (sym (names_are (all_moved true false Closing ss)) ∙ c.none)));
-              side = inr (
-                ap Spines (ap (λ (x : Path). names_after x tokens) behind.0 ∙ (o.leads ∙ sym c.none)),
-                settled_moved true false Closing ss h.some f.sound behind.1,
-              );
+              side = grind (arith, nat_tests, settled_moved);
             },
           )
     ]

@@ -1,26 +1,23 @@
 -- A record's kind is that of its place.
-use Rattle.std.proofs.Common.{◌≡◌, ◌∙◌, refl, sym, ap, ℕ, true, false}
-use Rattle.std.proofs.Common.{cond, List, [], ◌∷◌, length, map}
+use Rattle.std.proofs.lemmas.Bool.Decides.{nat_tests}
+use Rattle.std.proofs.Common.{◌≡◌, ◌∙◌, refl, sym, ap, ℕ, true, false, arith}
+use Rattle.std.proofs.Common.{cond, List, [], ◌∷◌, map}
 use Rattle.std.specs.Prelude.{◌==◌, Option, None, Some}
-use Rattle.std.specs.List.{list_any, list_all, find, AllByRecursion}
+use Rattle.std.specs.List.{AllByRecursion}
 use Rattle.hum_score.specs.declared.records.SpinedKind.{SpinedKind}
 use Rattle.hum_score.specs.declared.records.SpinedKind.TheVariants.{Local, Interpretation, Values}
 use Rattle.hum_score.specs.declared.records.Kind.TheVariants.{Interpretation as AnyInterpretation}
 use Rattle.hum_score.specs.Row.{Row, Comment, Spined, kind_of, tokens_of, text_of}
-use Rattle.hum_score.specs.Spelling.{IsTextOf, IsToken, is_empty}
-use Rattle.hum_score.specs.declared.spines.Sign.{Sign}
-use Rattle.hum_score.specs.declared.spines.PathFault.TheVariants.{P1, P2, P3, P4, P5, P6, P7, P9, P10, P11}
-use Rattle.hum_score.specs.Sign.{sign_of, is_plain}
-use Rattle.hum_score.specs.Rules.{fault_of, breaks_as_text, in_order}
+use Rattle.hum_score.specs.Spelling.{IsTextOf, IsToken}
+use Rattle.hum_score.specs.Sign.{sign_of}
+use Rattle.hum_score.specs.Rules.{fault_of}
 use Rattle.hum_score.specs.Spines.{Path, Unopened, Spines, width, after}
-use Rattle.hum_path.proofs.Plain.{find_head, sound_width}
 use Rattle.hum_assemble.specs.declared.places.Place.{Place}
 use Rattle.hum_assemble.specs.declared.places.Place.TheVariants.{Aside, Begins, Front, Opening}
 use Rattle.hum_assemble.specs.declared.places.Place.TheVariants.{Remark, Local as LocalPlace}
 use Rattle.hum_assemble.specs.declared.places.Place.TheVariants.{Tandem, Change, Note, Closing}
 use Rattle.hum_assemble.specs.declared.places.Place.TheVariants.{Tail, Over}
-use Rattle.hum_assemble.specs.Source.{place, is_inside, is_end, unit_place, inside_place}
-use Rattle.hum_assemble.specs.Source.{interpretation_place}
+use Rattle.hum_assemble.specs.Source.{place, is_inside, unit_place, inside_place}
 use Rattle.hum_assemble.specs.Places.{rank, kind_at}
 use Rattle.hum_assemble.specs.Head.{is_opened}
 use Rattle.hum_assemble.specs.Sizes.{width_under}
@@ -31,39 +28,12 @@ abbrev pub spined_of : Row → Option SpinedKind
 spined_of (Comment text) = None
 spined_of (Spined kind tokens) = Some kind
 
-interpretation_kind : (signs : List Sign)
-    → kind_at (interpretation_place signs) ≡ Some Interpretation
-interpretation_kind signs = elim (list_all is_end signs) as (λ a.
-    kind_at (cond a Closing (cond (list_all is_plain signs) Tandem Change)) ≡ Some Interpretation) [
-      | true ↦ refl
-      | false ↦ elim (list_all is_plain signs) as (λ b.
-          kind_at (cond b Tandem Change) ≡ Some Interpretation) [ true ↦ refl | false ↦ refl ]
-    ]
-
 unit_kind : (row : Row) → kind_at (unit_place row) ≡ spined_of row
-unit_kind (Comment text) = refl
-unit_kind (Spined Local tokens) = refl
-unit_kind (Spined Values tokens) = refl
-unit_kind (Spined Interpretation tokens) = interpretation_kind (map sign_of tokens)
-
--- only an interpretation begins added spines
-no_text_inside : (names tokens : List (List ℕ))
-    → find (breaks_as_text (Spines names) tokens) in_order ≡ None
-    → list_any is_empty names ≡ false
-no_text_inside names tokens h =
-    let rules = breaks_as_text (Spines names) tokens in
-    let a = find_head rules P7 (P1 ∷ P2 ∷ P6 ∷ P10 ∷ P11 ∷ P3 ∷ P4 ∷ P5 ∷ P9 ∷ []) h in
-    let b = find_head rules P1 (P2 ∷ P6 ∷ P10 ∷ P11 ∷ P3 ∷ P4 ∷ P5 ∷ P9 ∷ []) a.1 in
-    let c = find_head rules P2 (P6 ∷ P10 ∷ P11 ∷ P3 ∷ P4 ∷ P5 ∷ P9 ∷ []) b.1 in
-    let d = find_head rules P6 (P10 ∷ P11 ∷ P3 ∷ P4 ∷ P5 ∷ P9 ∷ []) c.1 in
-    d.0
+unit_kind = grind (arith, nat_tests)
 
 inside_kind : (names : List (List ℕ)) (row : Row) → fault_of (Spines names) row ≡ None
     → is_inside (Spines names) ≡ true → kind_at (inside_place row) ≡ spined_of row
-inside_kind names (Comment text) h i = refl
-inside_kind names (Spined Interpretation tokens) h i = refl
-inside_kind names (Spined Local tokens) h i = let n = no_text_inside names tokens h in cc
-inside_kind names (Spined Values tokens) h i = let n = no_text_inside names tokens h in cc
+inside_kind = grind (arith, nat_tests)
 
 pub kind_fits : (path : Path) (row : Row) → fault_of path row ≡ None
     → kind_at (place path row) ≡ spined_of row
@@ -115,18 +85,7 @@ kind_there path row p r h = same_kind p (place path row) r ∙ kind_fits path ro
 
 pub tokens_lawful : (row : Row) (kind : SpinedKind) → Some kind ≡ spined_of row
     → IsTextOf row (text_of row) → AllByRecursion (IsToken kind) (tokens_of row)
-tokens_lawful (Comment text) kind e t = cc
-tokens_lawful (Spined k tokens) kind e t = let same : kind ≡ k = cc in rw same t.2
-
--- How many spines stand behind an interpretation that finds spines open.
-pub wide_as_before : (path : Path) (row : Row) → is_opened path ≡ true
-    → kind_of row ≡ AnyInterpretation
-    → fault_of path row ≡ None → length (tokens_of row) ≡ width path
-wide_as_before Unopened row o k h = cc
-wide_as_before (Spines names) (Comment text) o k h = cc
-wide_as_before (Spines names) (Spined Local tokens) o k h = cc
-wide_as_before (Spines names) (Spined Values tokens) o k h = cc
-wide_as_before (Spines names) (Spined Interpretation tokens) o k h = sound_width names tokens h
+tokens_lawful = grind (arith, nat_tests)
 
 pub width_under_after : (path : Path) (row : Row) → is_opened path ≡ true
     → kind_of row ≡ AnyInterpretation

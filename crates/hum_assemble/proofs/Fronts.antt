@@ -1,19 +1,18 @@
 -- The front, the opening records, the tail, and all together.
-use Rattle.std.proofs.Common.{◌≡◌, ◌∙◌, refl, sym, ap, ℕ, ◌+◌, ◌≤◌, Bool, true}
+use Rattle.std.proofs.lemmas.Bool.Decides.{nat_tests}
+use Rattle.std.proofs.Common.{◌≡◌, ◌∙◌, refl, ap, ℕ, ◌+◌, ◌≤◌, Bool, true}
 use Rattle.std.proofs.Common.{false, not, cond, List, [], ◌∷◌, length, arith}
 use Rattle.std.proofs.Common.{map}
-use Rattle.std.specs.Prelude.{Option, None, Some, is_some, ◌==◌, nat_lt, slice_get}
+use Rattle.std.specs.Prelude.{Option, None, is_some, ◌==◌, nat_lt, slice_get}
 use Rattle.std.specs.List.{list_all}
 use Rattle.hum_score.specs.Row.{Row, Comment, Spined}
 use Rattle.hum_score.specs.Spines.{Path, Unopened, Spines}
 use Rattle.hum_score.specs.InOrder.{Follow}
-use Rattle.hum_stage.specs.Meaning.{fault_at, resting_state}
+use Rattle.hum_stage.specs.Meaning.{resting_state}
 use Rattle.hum_stage.specs.declared.faults.Fault.{Fault}
 use Rattle.hum_stage.specs.declared.faults.State.TheVariants.{Gives}
 use Rattle.hum_assemble.specs.Meaning.{inputs_end, ends}
 use Rattle.hum_assemble.specs.Groups.{fault_by_groups}
-use Rattle.hum_stage.specs.declared.faults.Rule.{Rule}
-use Rattle.hum_words.specs.declared.commands.Command.TheVariants.{Assemble}
 use Rattle.hum_stage.specs.declared.faults.End as end
 use Rattle.hum_assemble.specs.declared.places.Place.{Place}
 use Rattle.hum_assemble.specs.declared.places.Place.TheVariants.{Front, Opening, Tail}
@@ -23,103 +22,45 @@ use Rattle.hum_assemble.specs.Places.{rank, step, is_over}
 use Rattle.hum_assemble.specs.Round.{is_missing, place_at}
 use Rattle.hum_assemble.specs.Meaning.{begun, AreScores, output, own_fault, Moment, all_of}
 use Rattle.hum_assemble.specs.Groups.{Body, nothing, body, is_closed_end}
-use Rattle.hum_assemble.specs.Groups.{Closes, IsData, Adds, Single, opened}
+use Rattle.hum_assemble.specs.Groups.{opened}
 use Rattle.hum_assemble.specs.Groups.{has_some, behind_first, most, then_on}
 use Rattle.hum_assemble.specs.Groups.{shows_comment, next_comment}
 use Rattle.hum_assemble.specs.Groups.{all_comments, tail_of, groups, closings}
 use Rattle.hum_assemble.specs.Groups.{Cut, cut, cut_of, front_of, shows_opening, openings, merged}
-use Rattle.hum_assemble.specs.Groups.{behind_openings, unopened, written, stops_at, all_parts}
+use Rattle.hum_assemble.specs.Groups.{behind_openings, unopened}
 use Rattle.hum_assemble.specs.Groups.{GivesByGroups, together, by_groups}
-use Rattle.hum_assemble.proofs.Taking.{empty_over}
 use Rattle.hum_assemble.proofs.Alone.{paths_of}
 use Rattle.hum_assemble.proofs.Written.{Meets, Sees, meets_over}
 use Rattle.hum_assemble.proofs.Does.{Does, does_weaken, does_then, does_known, does_finish}
 use Rattle.hum_assemble.proofs.Does.{Both, Shares, does_together}
 use Rattle.hum_assemble.proofs.Apart.{gone, MayGive, single_unit}
 use Rattle.hum_assemble.proofs.Beginning.{Spans, takes_part, begun_at}
-use Rattle.hum_assemble.proofs.Sorting.{Sorted, AsClosing, AsData, AsAdds, AsSingle, sorted}
+use Rattle.hum_assemble.proofs.Sorting.{Sorted, sorted}
 use Rattle.hum_assemble.proofs.Sorting.{opened_row}
 use Rattle.hum_assemble.proofs.Bodies.{InBody, View, Nothing, InTail, AtRow, view, looks, calm}
-use Rattle.hum_assemble.proofs.Bodies.{missing_end, still, Fits}
 use Rattle.hum_assemble.proofs.Units.{both_map}
 use Rattle.hum_assemble.proofs.Grouping.{both_all, both_known, both_due, both_stuck}
-use Rattle.hum_assemble.proofs.Grouping.{both_over, clash, built, Ended, Spent, tail_body}
-use Rattle.hum_assemble.proofs.Grouping.{body_missing, begun_calm, nothing_body, quiet_shares}
+use Rattle.hum_assemble.proofs.Grouping.{both_over, Ended, Spent, tail_body}
+use Rattle.hum_assemble.proofs.Grouping.{body_missing}
 use Rattle.hum_assemble.proofs.Grouping.{most_short, further_size, groups_does}
 use Rattle.hum_assemble.proofs.Grouping.{closings_does}
 use Rattle.hum_assemble.proofs.Remarks.{Remarks, all_comments_does}
 
 -- Front and tail are steps of their own.
 two_low : (r : Place) → (step r == 2) ≡ true → rank r ≤ 2
-two_low r h =
-    elim r as (λ r. (step r == 2) ≡ true → rank r ≤ 2) [
-      | Place.Aside ↦ λ h. cc
-      | Place.Begins ↦ λ h. cc
-      | Place.Front ↦ λ h. omega arith
-      | Place.Opening ↦ λ h. cc
-      | Place.Remark ↦ λ h. cc
-      | Place.Local ↦ λ h. cc
-      | Place.Tandem ↦ λ h. cc
-      | Place.Change ↦ λ h. cc
-      | Place.Note ↦ λ h. cc
-      | Place.Closing ↦ λ h. cc
-      | Place.Tail ↦ λ h. cc
-      | Place.Over ↦ λ h. cc
-    ] h
+two_low = grind (arith, nat_tests)
 
 two_is : (q : Place) → 2 ≤ rank q → rank q ≤ 2 → (step q ≡ 2) × (is_over q ≡ false)
-two_is q a b =
-    elim q as (λ q. 2 ≤ rank q → rank q ≤ 2 → (step q ≡ 2) × (is_over q ≡ false)) [
-      | Place.Aside ↦ λ a b. absurd (omega (arith, a))
-      | Place.Begins ↦ λ a b. absurd (omega (arith, a))
-      | Place.Front ↦ λ a b. (refl, refl)
-      | Place.Opening ↦ λ a b. absurd (omega (arith, b))
-      | Place.Remark ↦ λ a b. absurd (omega (arith, b))
-      | Place.Local ↦ λ a b. absurd (omega (arith, b))
-      | Place.Tandem ↦ λ a b. absurd (omega (arith, b))
-      | Place.Change ↦ λ a b. absurd (omega (arith, b))
-      | Place.Note ↦ λ a b. absurd (omega (arith, b))
-      | Place.Closing ↦ λ a b. absurd (omega (arith, b))
-      | Place.Tail ↦ λ a b. absurd (omega (arith, b))
-      | Place.Over ↦ λ a b. absurd (omega (arith, b))
-    ] a b
+two_is = grind (arith, nat_tests)
 
 two_spans : Spans 2 2
 two_spans = λ q r a l h. let b = two_low r h in two_is q a (omega (arith, l, b))
 
 ten_low : (r : Place) → (step r == 10) ≡ true → rank r ≤ 10
-ten_low r h =
-    elim r as (λ r. (step r == 10) ≡ true → rank r ≤ 10) [
-      | Place.Aside ↦ λ h. cc
-      | Place.Begins ↦ λ h. cc
-      | Place.Front ↦ λ h. cc
-      | Place.Opening ↦ λ h. cc
-      | Place.Remark ↦ λ h. cc
-      | Place.Local ↦ λ h. cc
-      | Place.Tandem ↦ λ h. cc
-      | Place.Change ↦ λ h. cc
-      | Place.Note ↦ λ h. cc
-      | Place.Closing ↦ λ h. cc
-      | Place.Tail ↦ λ h. omega arith
-      | Place.Over ↦ λ h. cc
-    ] h
+ten_low = grind (arith, nat_tests)
 
 ten_is : (q : Place) → 10 ≤ rank q → rank q ≤ 10 → (step q ≡ 10) × (is_over q ≡ false)
-ten_is q a b =
-    elim q as (λ q. 10 ≤ rank q → rank q ≤ 10 → (step q ≡ 10) × (is_over q ≡ false)) [
-      | Place.Aside ↦ λ a b. absurd (omega (arith, a))
-      | Place.Begins ↦ λ a b. absurd (omega (arith, a))
-      | Place.Front ↦ λ a b. absurd (omega (arith, a))
-      | Place.Opening ↦ λ a b. absurd (omega (arith, a))
-      | Place.Remark ↦ λ a b. absurd (omega (arith, a))
-      | Place.Local ↦ λ a b. absurd (omega (arith, a))
-      | Place.Tandem ↦ λ a b. absurd (omega (arith, a))
-      | Place.Change ↦ λ a b. absurd (omega (arith, a))
-      | Place.Note ↦ λ a b. absurd (omega (arith, a))
-      | Place.Closing ↦ λ a b. absurd (omega (arith, a))
-      | Place.Tail ↦ λ a b. (refl, refl)
-      | Place.Over ↦ λ a b. absurd (omega (arith, b))
-    ] a b
+ten_is = grind (arith, nat_tests)
 
 ten_spans : Spans 10 10
 ten_spans = λ q r a l h. let b = ten_low r h in ten_is q a (omega (arith, l, b))
@@ -146,9 +87,7 @@ front_follow s c h = rw h.is h.follow
 
 missing_rows : (rows : List Row) (ended : Option end.End)
     → is_missing false (calm Unopened rows ended) ≡ not (shows_comment (front_of (cut (is_closed_end ended) rows)))
-missing_rows [] ended = missing_end Unopened ended
-missing_rows (Comment text ∷ rows) ended = refl
-missing_rows (Spined kind tokens ∷ rows) ended = refl
+missing_rows = grind (arith, nat_tests)
 
 front_missing : (s : Source) (c : Cut) → InFront s c
     → is_missing false s ≡ not (shows_comment (front_of c))
@@ -156,9 +95,7 @@ front_missing s c h = rw (h.is, ← h.cut_is) (missing_rows h.rows h.ended)
 
 later_rows : (rows : List Row) (ended : Option end.End)
     → 2 ≤ rank (place_at false (calm Unopened rows ended))
-later_rows [] ended = rw (empty_over false Unopened false ended) (omega arith)
-later_rows (Comment text ∷ rows) ended = omega arith
-later_rows (Spined kind tokens ∷ rows) ended = omega arith
+later_rows = grind (arith, nat_tests)
 
 front_later : (s : Source) (c : Cut) → InFront s c → 2 ≤ rank (place_at false s)
 front_later s c h = rw h.is (later_rows h.rows h.ended)
@@ -166,9 +103,7 @@ front_later s c h = rw h.is (later_rows h.rows h.ended)
 part_rows : (rows : List Row) (ended : Option end.End)
     → takes_part 2 (calm Unopened rows ended)
     ≡ is_some (next_comment (front_of (cut (is_closed_end ended) rows)))
-part_rows [] ended = ap (λ (q : Place). step q == 2) (empty_over false Unopened false ended)
-part_rows (Comment text ∷ rows) ended = refl
-part_rows (Spined kind tokens ∷ rows) ended = refl
+part_rows = grind (arith, nat_tests)
 
 front_part : (s : Source) (c : Cut) → InFront s c
     → takes_part 2 s ≡ is_some (next_comment (front_of c))
@@ -180,33 +115,20 @@ FrontOn s c = InFront s (next_front c)
 may_rows : (rows : List Row) (ended : Option end.End) → Follow Unopened rows
     → MayGive 2 FrontOn (next_comment (front_of (cut (is_closed_end ended) rows)))
     (begun_at 2 (calm Unopened rows ended)) (cut (is_closed_end ended) rows)
-may_rows [] ended f =
-    rw (begun_calm 2 (calm Unopened [] ended) refl (part_rows [] ended))
-    (record { rows = []; ended = ended; is = refl; follow = tt; cut_is = refl })
+may_rows [] ended f = grind (arith, nat_tests)
 may_rows (Comment text ∷ rows) ended f =
     single_unit FrontOn (cut (is_closed_end ended) (Comment text ∷ rows)) Front Unopened (Comment text)
     rows ended refl refl refl f refl
     (record { rows = rows; ended = ended; is = refl; follow = f.1; cut_is = refl })
-may_rows (Spined kind tokens ∷ rows) ended f =
-    record { rows = Spined kind tokens ∷ rows; ended = ended; is = refl; follow = f; cut_is = refl }
+may_rows (Spined kind tokens ∷ rows) ended f = grind (arith, nat_tests)
 
 front_may : (s : Source) (c : Cut) → InFront s c
     → MayGive 2 FrontOn (next_comment (front_of c)) (begun_at 2 s) c
 front_may s c h = rw (h.is, ← h.cut_is) (may_rows h.rows h.ended h.follow)
 
-ends_rows : (rows : List Row) (ended : Option end.End) → Follow Unopened rows
-    → is_some (next_comment (front_of (cut (is_closed_end ended) rows))) ≡ false
-    → Opens (calm Unopened rows ended) (cut (is_closed_end ended) rows)
-ends_rows [] ended f n =
-    record { rows = []; ended = ended; is = refl; follow = f; cut_is = refl }
-ends_rows (Comment text ∷ rows) ended f n = cc
-ends_rows (Spined kind tokens ∷ rows) ended f n =
-    record { rows = Spined kind tokens ∷ rows; ended = ended; is = refl; follow = f; cut_is = refl }
-
 front_ends : (s : Source) (c : Cut) → InFront s c → is_some (next_comment (front_of c)) ≡ false
     → Opens s c
-front_ends s c h n =
-    rw (h.is, ← h.cut_is) (ends_rows h.rows h.ended h.follow (rw (← h.cut_is) at n))
+front_ends = grind (arith, nat_tests)
 
 front_remarks : Remarks 2 front_of next_front InFront Opens
 front_remarks = record {
@@ -233,33 +155,10 @@ OpenedAt s c = InBody s c.body
 opened_body : (tokens : List (List ℕ)) (rows : List Row) (ended : Option end.End)
     → is_inside (Spines tokens) ≡ false → Follow (Spines tokens) rows
     → InBody (calm (Spines tokens) rows ended) (opened tokens (is_closed_end ended) rows)
-opened_body tokens rows ended o f = record {
-  idle = refl;
-  follow = f;
-  fits = fits rows;
-  is = by_tokens tokens;
-}
-  where
-    fits : (rows : List Row) → Fits (Spines tokens) rows
-    fits [] = tt
-    fits (row ∷ rows) = o
-
-    by_tokens : (tokens : List (List ℕ))
-        → still (Spines tokens) (is_closed_end ended) rows ≡ opened tokens (is_closed_end ended) rows
-    by_tokens [] = refl
-    by_tokens (t ∷ tokens) = refl
-
-opening_missing_rows : (rows : List Row) (ended : Option end.End) (d : Cut)
-    → cut (is_closed_end ended) rows ≡ d → has_some d.front ≡ false
-    → is_missing false (calm Unopened rows ended) ≡ not (shows_opening d)
-opening_missing_rows [] ended d e n = rw (← e) (missing_end Unopened ended)
-opening_missing_rows (Comment text ∷ rows) ended d e n =
-    absurd (clash (has_some d.front) (ap (λ (c : Cut). has_some c.front) (sym e)) n)
-opening_missing_rows (Spined kind tokens ∷ rows) ended d e n = rw (← e) refl
+opened_body = grind (arith, nat_tests)
 
 opening_missing : (s : Source) (c : Cut) → Opens s c → is_missing false s ≡ not (shows_opening c)
-opening_missing s c h =
-    rw h.is (opening_missing_rows h.rows h.ended (record c { front = [] }) h.cut_is refl)
+opening_missing = grind (arith, nat_tests)
 
 opening_due : (s : Source) (c : Cut) → Opens s c → s.due ≡ false
 opening_due s c h = ap (λ (x : Source). x.due) h.is
@@ -268,14 +167,8 @@ opening_rows : (rows : List Row) (ended : Option end.End) (d : Cut)
     → cut (is_closed_end ended) rows ≡ d → has_some d.front ≡ false → Follow Unopened rows
     → is_missing false (calm Unopened rows ended) ≡ false
     → Shares false Opening opening_row OpenedAt (calm Unopened rows ended) d
-opening_rows [] ended d e n f k =
-    let o = empty_over false Unopened false ended in
-    rw (← e)
-    (quiet_shares Opening opening_row OpenedAt (calm Unopened [] ended) (cut (is_closed_end ended) [])
-    (record { known = k; later = rw o (omega arith); follow = tt }) refl
-    (ap (λ (q : Place). 3 == rank q) o) (ap (λ (q : Place). step q == 3) o) refl (nothing_body Unopened ended))
-opening_rows (Comment text ∷ rows) ended d e n f k =
-    absurd (clash (has_some d.front) (ap (λ (c : Cut). has_some c.front) (sym e)) n)
+opening_rows [] ended d e n f k = grind (arith, nat_tests)
+opening_rows (Comment text ∷ rows) ended d e n f k = grind (arith, nat_tests)
 opening_rows (Spined kind tokens ∷ rows) ended d e n f k =
     let o = opened_row (Spined kind tokens) refl f.0 in
     let same : gone Unopened (Spined kind tokens) rows ended ≡ calm (Spines tokens) rows ended =
@@ -293,8 +186,7 @@ opening_shares : (s : Source) (c : Cut) → Opens s c × (shows_opening c ≡ tr
 opening_shares s c h =
     let k = opening_missing s c h.0 ∙ ap not h.1 in
     let d : Shares false Opening opening_row OpenedAt s (record c { front = [] }) =
-    rw h.0.is (opening_rows h.0.rows h.0.ended (record c { front = [] }) h.0.cut_is refl h.0.follow
-    (rw h.0.is at k)) in
+    grind (arith, nat_tests, opening_rows) in
     record { sees = d.sees; part = d.part; at = d.at; on = d.on; stays = d.stays }
 
 openings_does : (ss : List Source) (cs : List Cut) → Both Opens ss cs
@@ -337,29 +229,11 @@ none_row : (n : List ℕ) (ns : List (List ℕ)) (row : Row) (rows : List Row)
     (whole : Bool) (c : Body) → body whole false (row ∷ rows) ≡ c
     → has_some c.units ≡ false → has_some c.further ≡ false → is_some c.closing ≡ false
     → Sorted (Spines (n ∷ ns)) row → ⊥
-none_row n ns row rows whole c w u d o (AsClosing s p a) =
-    let v : is_some c.closing ≡ true = ap (λ (x : Body). is_some x.closing) (built row rows whole c Closes w s) in
-    clash (is_some c.closing) v o
-none_row n ns row rows whole c w u d o (AsData s ad p a) =
-    let v : has_some c.further ≡ true = ap (λ (x : Body). has_some x.further) (built row rows whole c IsData w s) in
-    clash (has_some c.further) v d
-none_row n ns row rows whole c w u d o (AsAdds s ad p at st i) =
-    let v : has_some c.units ≡ true = ap (λ (x : Body). has_some x.units) (built row rows whole c Adds w s) in
-    clash (has_some c.units) v u
-none_row n ns row rows whole c w u d o (AsSingle s ad p x y st i) =
-    let v : has_some c.units ≡ true = ap (λ (x : Body). has_some x.units) (built row rows whole c Single w s) in
-    clash (has_some c.units) v u
+none_row = grind (arith, nat_tests)
 
 in_tails : (s : Source) (c : Body) → has_some c.units ≡ false → has_some c.further ≡ false
     → is_some c.closing ≡ false → View s c → InTails s c
-in_tails s c u d o (Nothing path ended e w) =
-    let over = empty_over false path false ended in
-    let p : takes_part 10 (calm path [] ended) ≡ false = ap (λ (q : Place). step q == 10) over in
-    rw (e, ← w) (record {
-      later = rw over (omega arith);
-      part = p;
-      may = rw (begun_calm 10 (calm path [] ended) refl p) (nothing_body path ended);
-    })
+in_tails s c u d o (Nothing path ended e w) = grind (arith, nat_tests)
 in_tails s c u d o (InTail text rows ended e f w) =
     rw (e, ← w) (record {
       later = omega arith;
@@ -368,8 +242,7 @@ in_tails s c u d o (InTail text rows ended e f w) =
           (record (nothing (is_closed_end ended)) { tail = Comment text ∷ rows }) Tail (Spines []) (Comment text)
           rows ended refl refl refl (refl, f) refl (tail_body rows ended f);
     })
-in_tails s c u d o (AtRow n ns row rows ended e out f w) =
-    absurd (none_row n ns row rows (is_closed_end ended) c w u d o (sorted n ns out row f.0))
+in_tails s c u d o (AtRow n ns row rows ended e out f w) = grind (arith, nat_tests, none_row, sorted)
 
 tails_of : (s : Source) (b : Body) → Ended s b → InTails s (bare b)
 tails_of s b h = in_tails s (bare b) refl refl refl (view s (bare b) h)
@@ -377,17 +250,11 @@ tails_of s b h = in_tails s (bare b) refl refl refl (view s (bare b) h)
 tail_may : (s : Source) (b : Body) (o : Option (List Row))
     → MayGive 10 (λ s c. InBody s (next_tail c)) o (begun_at 10 s) (bare b)
     → MayGive 10 (λ s b. Ended s (next_tail b)) o (begun_at 10 s) b
-tail_may s b None h = h
-tail_may s b (Some unit) h = record { sees = h.sees; gives = h.gives }
+tail_may = grind (arith, nat_tests)
 
 tail_ends : (s : Source) (b : Body) → Ended s b → is_some (next_comment (tail_of b)) ≡ false
     → Over s b
-tail_ends s b h n =
-    (elim b.tail as (λ rows. is_some (next_comment (tail_of (record b { tail = rows }))) ≡ false
-    → Ended s (record b { tail = rows }) → Over s b) [
-      | [] ↦ λ e i. i
-      | row ∷ rows ↦ λ e i. cc
-    ]) n h
+tail_ends = grind (arith, nat_tests)
 
 tail_remarks : Remarks 10 tail_of next_tail Ended Over
 tail_remarks = record {
@@ -461,10 +328,7 @@ merged_does ss cs h =
 
 begun_front : (xs : List Input) → AreScores xs → Both InFront (map begun xs) (map cut_of xs)
 begun_front [] h = tt
-begun_front (x ∷ xs) h = (
-  record { rows = x.put; ended = x.ended; is = refl; follow = h.0.0; cut_is = refl },
-  begun_front xs h.1,
-)
+begun_front (x ∷ xs) h = grind (arith, nat_tests, begun_front xs h.1)
 
 begun_paths : (xs : List Input) → paths_of (map begun xs) ≡ unopened xs
 begun_paths [] = refl
@@ -475,11 +339,8 @@ pub gives_by_groups : GivesByGroups
 gives_by_groups stage xs h =
     let m = does_finish (merged (map cut_of xs)) (map begun xs)
     (merged_does (map begun xs) (map cut_of xs) (begun_front xs h)) in
-    let rows : output xs ≡ by_groups xs =
-    m.rows 0 ∙ ap (λ (paths : List Path). written 0 paths (all_parts xs)) (begun_paths xs) in
-    let fault : own_fault stage xs ≡ fault_by_groups stage xs =
-    ap (λ (o : Option (ℕ × Rule)). fault_at stage Assemble o)
-    (m.stop 0 ∙ ap (λ (paths : List Path). stops_at 0 paths (all_parts xs)) (begun_paths xs)) in
+    let rows : output xs ≡ by_groups xs = grind (arith, nat_tests, begun_paths) in
+    let fault : own_fault stage xs ≡ fault_by_groups stage xs = grind (arith, nat_tests, begun_paths) in
     record {
       rows = rows;
       fault = fault;
@@ -493,5 +354,4 @@ gives_by_groups stage xs h =
 -- The next of what is given is the next of what the groups give.
 pub next_by_groups : (t : Moment) (taken : Option Row) → taken ≡ slice_get (all_of t) t.given
     → AreScores t.inputs → taken ≡ slice_get (by_groups t.inputs) t.given
-next_by_groups t taken e h =
-    e ∙ ap (λ (rows : List Row). slice_get rows t.given) (gives_by_groups t.stage t.inputs h).rows
+next_by_groups t taken e h = grind (arith, nat_tests, gives_by_groups t.stage t.inputs h)

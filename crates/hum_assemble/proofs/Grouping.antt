@@ -1,11 +1,12 @@
 -- Group after group, the closing records.
+use Rattle.std.proofs.lemmas.Bool.Decides.{nat_tests}
 use Rattle.std.proofs.lemmas.Bool.{leb-true, leb-false}
 use Rattle.std.proofs.Common.{◌≡◌, ◌∙◌, refl, sym, ap, ℕ, zero, suc, ◌+◌, ◌≤◌, ◌<◌, Bool, true}
 use Rattle.std.proofs.Common.{false, not, ◌&&◌, ◌||◌, cond, List, [], ◌∷◌, length, arith}
 use Rattle.std.proofs.Common.{map}
 use Rattle.std.specs.Prelude.{Option, None, Some, is_some, ◌==◌, nat_le}
 use Rattle.std.specs.List.{list_any, list_all, AllByRecursion}
-use Rattle.hum_score.specs.Row.{Row, Comment}
+use Rattle.hum_score.specs.Row.{Row}
 use Rattle.hum_score.specs.Spines.{Path, Spines}
 use Rattle.hum_score.specs.InOrder.{Follow}
 use Rattle.hum_stage.specs.declared.faults.End as end
@@ -16,91 +17,69 @@ use Rattle.hum_assemble.specs.Places.{rank, step, is_over}
 use Rattle.hum_assemble.specs.Round.{is_missing, any_due, in_round}
 use Rattle.hum_assemble.specs.Taking.{is_at}
 use Rattle.hum_assemble.specs.Groups.{Body, nothing, with_row, body, sort_of, adds}
-use Rattle.hum_assemble.specs.Groups.{Sort, Closes, IsData, Adds, Single, is_closed_end}
+use Rattle.hum_assemble.specs.Groups.{Sort, Closes, IsData, is_closed_end}
 use Rattle.hum_assemble.specs.Groups.{has_some, behind_unit, behind_first, most, then_on}
 use Rattle.hum_assemble.specs.Groups.{where_known, where_any, together, unit_round, rounds, groups}
 use Rattle.hum_assemble.specs.Groups.{next_data, next_group, shows_unit, shows_data, shows_closing}
 use Rattle.hum_assemble.specs.Groups.{closings}
-use Rattle.hum_assemble.proofs.Taking.{empty_over}
 use Rattle.hum_assemble.proofs.Written.{Meets, Sees, meets_missing}
 use Rattle.hum_assemble.proofs.Does.{Does, does_weaken, does_then, does_known, does_any, does_nothing}
-use Rattle.hum_assemble.proofs.Does.{Both, Shares, moved_at, does_together}
+use Rattle.hum_assemble.proofs.Does.{Both, Shares, does_together}
 use Rattle.hum_assemble.proofs.Apart.{waiting, gone}
 use Rattle.hum_assemble.proofs.Beginning.{Idle, Spans, takes_part, begun_at, does_begin}
 use Rattle.hum_assemble.proofs.Sorting.{Sorted, AsClosing, AsData, AsAdds, AsSingle, sorted}
-use Rattle.hum_assemble.proofs.Bodies.{InBody, InRound, Waits, Gone, View, Nothing, InTail, AtRow, view}
+use Rattle.hum_assemble.proofs.Bodies.{InBody, InRound, Waits, View, Nothing, InTail, AtRow, view}
 use Rattle.hum_assemble.proofs.Bodies.{Fits}
 use Rattle.hum_assemble.specs.Groups.{is_comment}
-use Rattle.hum_assemble.proofs.Bodies.{looks, calm, body_stands, still_nothing}
+use Rattle.hum_assemble.proofs.Bodies.{looks, calm, body_stands}
 use Rattle.hum_assemble.proofs.Units.{round_does, both_map}
 
 -- Sources and what is to come of them, in step.
 or_false : (a b : Bool) → (a || b) ≡ false → (a ≡ false) × (b ≡ false)
-or_false true b h = cc
-or_false false b h = (refl, h)
+or_false = grind (arith, nat_tests)
 
 and_true : (a b : Bool) → (a && b) ≡ true → (a ≡ true) × (b ≡ true)
-and_true true b h = (refl, h)
-and_true false b h = cc
-
-not_both : (a b x y : Bool) → a ≡ not x → b ≡ not y → (a || b) ≡ not (x && y)
-not_both a b true y h k = rw (h, k) refl
-not_both a b false y h k = rw h refl
+and_true = grind (arith, nat_tests)
 
 module _ {V : Type 0} (R : Source → V → Type 0) where
   pub both_any : (f : Source → Bool) (g : V → Bool) → ((s : Source) (v : V) → R s v → f s ≡ g v)
       → (ss : List Source) (vs : List V) → Both R ss vs → list_any f ss ≡ list_any g vs
-  both_any f g e [] [] h = refl
-  both_any f g e [] (v ∷ vs) h = absurd h
-  both_any f g e (s ∷ ss) [] h = absurd h
   both_any f g e (s ∷ ss) (v ∷ vs) h = rw (e s v h.0, both_any f g e ss vs h.1) refl
+  both_any f g h ss vs k = grind (arith, nat_tests)
 
   pub both_missing : (f : Source → Bool) (g : V → Bool)
       → ((s : Source) (v : V) → R s v → f s ≡ not (g v))
       → (ss : List Source) (vs : List V) → Both R ss vs → list_any f ss ≡ not (list_all g vs)
-  both_missing f g e [] [] h = refl
-  both_missing f g e [] (v ∷ vs) h = absurd h
-  both_missing f g e (s ∷ ss) [] h = absurd h
-  both_missing f g e (s ∷ ss) (v ∷ vs) h =
-      not_both (f s) (list_any f ss) (g v) (list_all g vs) (e s v h.0) (both_missing f g e ss vs h.1)
+  both_missing f g e (s ∷ ss) (v ∷ vs) h = grind (arith, nat_tests, both_missing f g e ss vs h.1)
+  both_missing f g h ss vs k = grind (arith, nat_tests)
 
   pub both_all : (P : Source → Type 0) → ((s : Source) (v : V) → R s v → P s)
       → (ss : List Source) (vs : List V) → Both R ss vs → AllByRecursion P ss
-  both_all P e [] [] h = tt
-  both_all P e [] (v ∷ vs) h = absurd h
-  both_all P e (s ∷ ss) [] h = absurd h
   both_all P e (s ∷ ss) (v ∷ vs) h = (e s v h.0, both_all P e ss vs h.1)
+  both_all P h ss vs k = grind (arith, nat_tests)
 
   pub both_known : (test : V → Bool) (ss : List Source) (vs : List V) → Both R ss vs
       → list_all test vs ≡ true → Both (λ s v. R s v × (test v ≡ true)) ss vs
-  both_known test [] [] h k = tt
-  both_known test [] (v ∷ vs) h k = absurd h
-  both_known test (s ∷ ss) [] h k = absurd h
   both_known test (s ∷ ss) (v ∷ vs) h k =
       let p = and_true (test v) (list_all test vs) k in ((h.0, p.0), both_known test ss vs h.1 p.1)
+  both_known test ss vs h k = grind (arith, nat_tests)
 
   pub both_none : (test : V → Bool) (ss : List Source) (vs : List V) → Both R ss vs
       → list_any test vs ≡ false → Both (λ s v. R s v × (test v ≡ false)) ss vs
-  both_none test [] [] h k = tt
-  both_none test [] (v ∷ vs) h k = absurd h
-  both_none test (s ∷ ss) [] h k = absurd h
   both_none test (s ∷ ss) (v ∷ vs) h k =
       let p = or_false (test v) (list_any test vs) k in ((h.0, p.0), both_none test ss vs h.1 p.1)
+  both_none test ss vs h k = grind (arith, nat_tests)
 
   pub both_moved : (f : Source → Source) (Q : Source → V → Type 0)
       → ((s : Source) (v : V) → R s v → Q (f s) v)
       → (ss : List Source) (vs : List V) → Both R ss vs → Both Q (map f ss) vs
-  both_moved f Q e [] [] h = tt
-  both_moved f Q e [] (v ∷ vs) h = absurd h
-  both_moved f Q e (s ∷ ss) [] h = absurd h
   both_moved f Q e (s ∷ ss) (v ∷ vs) h = (e s v h.0, both_moved f Q e ss vs h.1)
+  both_moved f Q h ss vs k = grind (arith, nat_tests)
 
   pub both_due : ((s : Source) (v : V) → R s v → s.due ≡ false)
       → (ss : List Source) (vs : List V) → Both R ss vs → any_due ss ≡ false
-  both_due e [] [] h = refl
-  both_due e [] (v ∷ vs) h = absurd h
-  both_due e (s ∷ ss) [] h = absurd h
   both_due e (s ∷ ss) (v ∷ vs) h = rw (e s v h.0, both_due e ss vs h.1) refl
+  both_due h ss vs k = grind (arith, nat_tests)
 
   -- where it isn't known of one what it has
   pub both_stuck : (test : V → Bool) → ((s : Source) (v : V) → R s v → s.due ≡ false)
@@ -111,17 +90,13 @@ module _ {V : Type 0} (R : Source → V → Type 0) where
 
 pub both_under : {V W : Type 0} (R : Source → W → Type 0) (f : V → W) (ss : List Source) (vs : List V)
     → Both R ss (map f vs) → Both (λ s v. R s (f v)) ss vs
-both_under R f [] [] h = tt
-both_under R f [] (v ∷ vs) h = absurd h
-both_under R f (s ∷ ss) [] h = absurd h
 both_under R f (s ∷ ss) (v ∷ vs) h = (h.0, both_under R f ss vs h.1)
+both_under R f ss vs h = grind (arith, nat_tests)
 
 pub both_over : {V W : Type 0} (R : Source → W → Type 0) (f : V → W) (ss : List Source) (vs : List V)
     → Both (λ s v. R s (f v)) ss vs → Both R ss (map f vs)
-both_over R f [] [] h = tt
-both_over R f [] (v ∷ vs) h = absurd h
-both_over R f (s ∷ ss) [] h = absurd h
 both_over R f (s ∷ ss) (v ∷ vs) h = (h.0, both_over R f ss vs h.1)
+both_over R f ss vs h = grind (arith, nat_tests)
 
 -- Each list is shorter than so much.
 abbrev pub AllShort : {V : Type 0} → (V → ℕ) → ℕ → List V → Type 0
@@ -150,8 +125,7 @@ none_short size R Q (s ∷ ss) (v ∷ vs) l h = let a = l.0 in absurd (omega (ar
 
 pub shorter : {X : Type 0} (n : ℕ) (xs : List X) → 1 ≤ n → length xs < suc n
     → length (behind_first xs) < n
-shorter n [] o l = o
-shorter n (x ∷ xs) o l = omega (arith, l)
+shorter = grind (arith, nat_tests)
 
 pub some_one : {V : Type 0} (size : V → ℕ) (test : V → Bool) (n : ℕ) (vs : List V)
     → ((v : V) → test v ≡ true → 1 ≤ size v) → AllShort size (suc n) vs → list_any test vs ≡ true
@@ -171,38 +145,10 @@ all_shorter size next n (v ∷ vs) e l = (e v l.0, all_shorter size next n vs e 
 
 -- The units are one step.
 four_low : (r : Place) → (step r == 4) ≡ true → rank r ≤ 7
-four_low r h =
-    elim r as (λ r. (step r == 4) ≡ true → rank r ≤ 7) [
-      | Place.Aside ↦ λ h. cc
-      | Place.Begins ↦ λ h. cc
-      | Place.Front ↦ λ h. cc
-      | Place.Opening ↦ λ h. cc
-      | Place.Remark ↦ λ h. omega arith
-      | Place.Local ↦ λ h. omega arith
-      | Place.Tandem ↦ λ h. omega arith
-      | Place.Change ↦ λ h. omega arith
-      | Place.Note ↦ λ h. cc
-      | Place.Closing ↦ λ h. cc
-      | Place.Tail ↦ λ h. cc
-      | Place.Over ↦ λ h. cc
-    ] h
+four_low = grind (arith, nat_tests)
 
 four_is : (q : Place) → 4 ≤ rank q → rank q ≤ 7 → (step q ≡ 4) × (is_over q ≡ false)
-four_is q a b =
-    elim q as (λ q. 4 ≤ rank q → rank q ≤ 7 → (step q ≡ 4) × (is_over q ≡ false)) [
-      | Place.Aside ↦ λ a b. absurd (omega (arith, a))
-      | Place.Begins ↦ λ a b. absurd (omega (arith, a))
-      | Place.Front ↦ λ a b. absurd (omega (arith, a))
-      | Place.Opening ↦ λ a b. absurd (omega (arith, a))
-      | Place.Remark ↦ λ a b. (refl, refl)
-      | Place.Local ↦ λ a b. (refl, refl)
-      | Place.Tandem ↦ λ a b. (refl, refl)
-      | Place.Change ↦ λ a b. (refl, refl)
-      | Place.Note ↦ λ a b. absurd (omega (arith, b))
-      | Place.Closing ↦ λ a b. absurd (omega (arith, b))
-      | Place.Tail ↦ λ a b. absurd (omega (arith, b))
-      | Place.Over ↦ λ a b. absurd (omega (arith, b))
-    ] a b
+four_is = grind (arith, nat_tests)
 
 four_spans : Spans 4 4
 four_spans = λ q r a l h. let b = four_low r h in four_is q a (omega (arith, l, b))
@@ -215,17 +161,10 @@ pub body_missing : (s : Source) (b : Body) → InBody s b → is_missing false s
 body_missing s b h = (looks s b (view s b h)).missing
 
 pub body_idle : (s : Source) (b : Body) → InBody s b × (shows_unit b ≡ true) → Idle 4 s
-body_idle s b h =
-    let l = looks s b (view s b h.0) in
-    record {
-      idle = h.0.idle;
-      sees = record { known = l.missing ∙ ap not h.1; later = l.low; follow = h.0.follow };
-    }
+body_idle s b h = grind (arith, nat_tests, looks s b (view s b h.0), view s b h.0)
 
 unit_none : (b : Body) → b.units ≡ [] → behind_unit b ≡ b
-unit_none b e =
-    ap (λ (us : List (List Row)). record b { units = behind_first us }) e
-    ∙ sym (ap (λ (us : List (List Row)). record b { units = us }) e)
+unit_none = grind (arith, nat_tests)
 
 pub begun_calm : (st : ℕ) (s : Source) → s.due ≡ false → takes_part st s ≡ false → begun_at st s ≡ s
 begun_calm st s d t = ap (λ (b : Bool). record s { due = b }) (t ∙ sym d)
@@ -233,18 +172,15 @@ begun_calm st s d t = ap (λ (b : Bool). record s { due = b }) (t ∙ sym d)
 begin_row : (path : Path) (row : Row) (rows : List Row) (ended : Option end.End)
     → takes_part 4 (calm path (row ∷ rows) ended) ≡ true
     → begun_at 4 (calm path (row ∷ rows) ended) ≡ waiting path row rows ended
-begin_row path row rows ended t =
-    ap (λ (b : Bool). record { path = path; due = b; coming = row ∷ rows; ended = ended }) t
+begin_row = grind (arith, nat_tests)
 
 pub clash : (b : Bool) → b ≡ true → b ≡ false → ⊥
-clash true h k = cc
-clash false h k = cc
+clash = grind (arith, nat_tests)
 
 pub built : (row : Row) (rows : List Row) (whole : Bool) (b : Body) (sort : Sort)
     → body whole false (row ∷ rows) ≡ b → sort_of row ≡ sort
     → b ≡ with_row sort row rows (body whole (adds row) rows)
-built row rows whole b sort w s =
-    sym w ∙ ap (λ (x : Sort). with_row x row rows (body whole (adds row) rows)) s
+built = grind (arith, nat_tests)
 
 begin_sorted : (n : List ℕ) (ns : List (List ℕ)) (row : Row) (rows : List Row)
     (ended : Option end.End) (b : Body) → is_inside (Spines (n ∷ ns)) ≡ false
@@ -252,14 +188,8 @@ begin_sorted : (n : List ℕ) (ns : List (List ℕ)) (row : Row) (rows : List Ro
     → has_some b.units ≡ true → takes_part 4 (calm (Spines (n ∷ ns)) (row ∷ rows) ended) ≡ true
     → Sorted (Spines (n ∷ ns)) row
     → InRound 4 (begun_at 4 (calm (Spines (n ∷ ns)) (row ∷ rows) ended)) b
-begin_sorted n ns row rows ended b o f w u t (AsClosing s p a) =
-    let v : has_some b.units ≡ false =
-    ap (λ (x : Body). has_some x.units) (built row rows (is_closed_end ended) b Closes w s) in
-    absurd (clash (has_some b.units) u v)
-begin_sorted n ns row rows ended b o f w u t (AsData s ad p a) =
-    let v : has_some b.units ≡ false =
-    ap (λ (x : Body). has_some x.units) (built row rows (is_closed_end ended) b IsData w s) in
-    absurd (clash (has_some b.units) u v)
+begin_sorted n ns row rows ended b o f w u t (AsClosing s p a) = grind (arith, nat_tests)
+begin_sorted n ns row rows ended b o f w u t (AsData s ad p a) = grind (arith, nat_tests)
 begin_sorted n ns row rows ended b o f w u t (AsAdds s ad p at st i) =
     rw (begin_row (Spines (n ∷ ns)) row rows ended t)
     (Waits n ns row rows ended refl o f w (rw at (omega arith)) (rw at (omega arith)))
@@ -269,26 +199,20 @@ begin_sorted n ns row rows ended b o f w u t (AsSingle s ad p x y st i) =
 
 begin_some : (s : Source) (b : Body) → View s b → has_some b.units ≡ true → takes_part 4 s ≡ true
     → InRound 4 (begun_at 4 s) b
-begin_some s b (Nothing path ended e w) u t =
-    absurd (clash (has_some b.units) u (ap (λ (x : Body). has_some x.units) (sym w)))
-begin_some s b (InTail text rows ended e f w) u t =
-    absurd (clash (has_some b.units) u (ap (λ (x : Body). has_some x.units) (sym w)))
+begin_some s b (Nothing path ended e w) u t = grind (arith, nat_tests)
+begin_some s b (InTail text rows ended e f w) u t = grind (arith, nat_tests)
 begin_some s b (AtRow n ns row rows ended e o f w) u t =
     rw e (begin_sorted n ns row rows ended b o f w u (rw e at t) (sorted n ns o row f.0))
 
 no_units : (us : List (List Row)) → has_some us ≡ false → us ≡ []
-no_units [] h = refl
-no_units (u ∷ us) h = cc
+no_units = grind (arith, nat_tests)
 
 begin_unit : (s : Source) (b : Body) → InBody s b → InRound 4 (begun_at 4 s) b
 begin_unit s b h =
     let l = looks s b (view s b h) in
     (elim (has_some b.units) as (λ u. has_some b.units ≡ u → InRound 4 (begun_at 4 s) b) [
       | true ↦ λ u. begin_some s b (view s b h) u (l.part ∙ u)
-      | false ↦ λ u.
-          let none = no_units b.units u in
-          rw (begun_calm 4 s h.idle (l.part ∙ u))
-          (Gone (rw (unit_none b none) h) (rw none tt))
+      | false ↦ grind (arith, nat_tests, no_units, begun_calm, unit_none)
     ]) refl
 
 -- The rounds of a group.
@@ -296,24 +220,17 @@ abbrev pub Ready : Source → Body → Type 0
 Ready s b = InBody s (record b { units = [] })
 
 ready_none : (s : Source) (b : Body) → InBody s b × (has_some b.units ≡ false) → Ready s b
-ready_none s b h =
-    let e = no_units b.units h.1 in
-    rw (sym (ap (λ (us : List (List Row)). record b { units = us }) e)) h.0
+ready_none = grind (arith, nat_tests)
 
 one_unit : (b : Body) → has_some b.units ≡ true → 1 ≤ length b.units
-one_unit b h = by_units b.units h
-  where
-    by_units : (us : List (List Row)) → has_some us ≡ true → 1 ≤ length us
-    by_units [] h = cc
-    by_units (u ∷ us) h = omega arith
+one_unit = grind (arith, nat_tests)
 
 abbrev pub units_size : Body → ℕ
 units_size b = length b.units
 
 pub rounds_does : (n : ℕ) (ss : List Source) (bs : List Body) → AllShort units_size n bs
     → Both InBody ss bs → Does (rounds n bs) ss (λ x. Both Ready x bs)
-rounds_does zero ss bs l h =
-    does_nothing ss (λ x. Both Ready x bs) (none_short units_size InBody Ready ss bs l h)
+rounds_does zero ss bs l h = grind (arith, nat_tests, does_nothing, none_short)
 rounds_does (suc n) ss bs l h =
     does_known (list_all shows_unit bs) _ ss (λ x. Both Ready x bs)
     (both_stuck InBody shows_unit body_due body_missing ss bs h)
@@ -345,27 +262,10 @@ rounds_does (suc n) ss bs l h =
 pub quiet_shares : {V : Type 0} (p : Place) (f : V → Option Row) (Q : Source → V → Type 0)
     (s : Source) (v : V) → Sees false (rank p) s → s.due ≡ false → is_at false p s ≡ false
     → in_round false p s ≡ false → f v ≡ None → Q s v → Shares false p f Q s v
-quiet_shares p f Q s v e d a r n q =
-    let same : moved_at false p s ≡ s = rw a (ap (λ (b : Bool). record s { due = b }) (r ∙ sym d)) in
-    record {
-      sees = e;
-      part = rw (a, n) refl;
-      at = rw (a, n) refl;
-      on = rw same q;
-      stays = λ z. q;
-    }
+quiet_shares = grind (arith, nat_tests)
 
 abbrev pub GroupOn : Source → Body → Type 0
 GroupOn s c = InBody s (next_group c)
-
-pub nothing_body : (path : Path) (ended : Option end.End)
-    → InBody (calm path [] ended) (nothing (is_closed_end ended))
-nothing_body path ended = record {
-  idle = refl;
-  follow = tt;
-  fits = tt;
-  is = still_nothing path (is_closed_end ended);
-}
 
 data_sorted : (n : List ℕ) (ns : List (List ℕ)) (row : Row) (rows : List Row)
     (ended : Option end.End) (c : Body) → is_inside (Spines (n ∷ ns)) ≡ false
@@ -391,29 +291,13 @@ data_sorted n ns row rows ended c o f w u (AsData s ad p a) =
       on = rw (at, same) (body_stands (Spines (n ∷ ns)) rows ended (body (is_closed_end ended) false rows) refl o (rw a at f.1) refl);
       stays = λ z. absurd (let v = sym at ∙ z in cc);
     })
-data_sorted n ns row rows ended c o f w u (AsAdds s ad p at st i) =
-    let v : has_some c.units ≡ true =
-    ap (λ (x : Body). has_some x.units) (built row rows (is_closed_end ended) c Adds w s) in
-    absurd (clash (has_some c.units) v u)
-data_sorted n ns row rows ended c o f w u (AsSingle s ad p x y st i) =
-    let v : has_some c.units ≡ true =
-    ap (λ (x : Body). has_some x.units) (built row rows (is_closed_end ended) c Single w s) in
-    absurd (clash (has_some c.units) v u)
+data_sorted n ns row rows ended c o f w u (AsAdds s ad p at st i) = grind (arith, nat_tests)
+data_sorted n ns row rows ended c o f w u (AsSingle s ad p x y st i) = grind (arith, nat_tests)
 
 data_shares : (s : Source) (c : Body) → is_missing false s ≡ false → has_some c.units ≡ false
     → View s c → Shares false Note next_data GroupOn s c
-data_shares s c k u (Nothing path ended e w) =
-    let o = empty_over false path false ended in
-    rw (e, ← w)
-    (quiet_shares Note next_data GroupOn (calm path [] ended) (nothing (is_closed_end ended))
-    (record { known = rw e at k; later = rw o (omega arith); follow = tt }) refl
-    (ap (λ (q : Place). 8 == rank q) o) (ap (λ (q : Place). step q == 8) o) refl (nothing_body path ended))
-data_shares s c k u (InTail text rows ended e f w) =
-    rw (e, ← w)
-    (quiet_shares Note next_data GroupOn (calm (Spines []) (Comment text ∷ rows) ended)
-    (record (nothing (is_closed_end ended)) { tail = Comment text ∷ rows })
-    (record { known = refl; later = omega arith; follow = (refl, f) }) refl refl refl refl
-    (record { idle = refl; follow = (refl, f); fits = refl; is = refl }))
+data_shares s c k u (Nothing path ended e w) = grind (arith, nat_tests)
+data_shares s c k u (InTail text rows ended e f w) = grind (arith, nat_tests)
 data_shares s c k u (AtRow n ns row rows ended e o f w) =
     rw e (data_sorted n ns row rows ended c o f w u (sorted n ns o row f.0))
 
@@ -430,19 +314,10 @@ any_map f g [] = refl
 any_map f g (x ∷ xs) = ap (λ (b : Bool). f (g x) || b) (any_map f g xs)
 
 one_further : (b : Body) → is_some (next_data b) ≡ true → 1 ≤ length b.further
-one_further b h =
-    (elim b.further as (λ fs. is_some (next_data (record b { further = fs })) ≡ true → 1 ≤ length fs) [
-      | [] ↦ λ e. cc
-      | f ∷ fs ↦ λ e. omega arith
-    ]) h
+one_further = grind (arith, nat_tests)
 
 ready_spent : (s : Source) (b : Body) → Ready s b × (is_some (next_data b) ≡ false) → Spent s b
-ready_spent s b h =
-    (elim b.further as (λ fs. is_some (next_data (record b { further = fs })) ≡ false
-    → InBody s (record b { units = []; further = fs }) → Spent s b) [
-      | [] ↦ λ e i. i
-      | f ∷ fs ↦ λ e i. cc
-    ]) h.1 h.0
+ready_spent = grind (arith, nat_tests)
 
 ready_due : (s : Source) (b : Body) → Ready s b → s.due ≡ false
 ready_due s b h = h.idle
@@ -462,8 +337,7 @@ ready_shares s b h =
 
 pub groups_does : (n : ℕ) (ss : List Source) (bs : List Body) → AllShort further_size n bs
     → Both InBody ss bs → Does (groups n bs) ss (λ x. Both Spent x bs)
-groups_does zero ss bs l h =
-    does_nothing ss (λ x. Both Spent x bs) (none_short further_size InBody Spent ss bs l h)
+groups_does zero ss bs l h = grind (arith, nat_tests, does_nothing, none_short)
 groups_does (suc n) ss bs l h =
     does_then (rounds (most (map units_size bs) + 1) bs)
     (where_known (list_all shows_data bs)
@@ -500,23 +374,13 @@ groups_does (suc n) ss bs l h =
     (both_over InBody next_group y bs q))
     (λ z w. both_under Spent next_group z bs w)))))
 
--- The closing records.
-with_whole : (sort : Sort) (row : Row) (rows : List Row) (b : Body)
-    → (with_row sort row rows b).whole ≡ b.whole
-with_whole Closes row rows b = refl
-with_whole IsData row rows b = refl
-with_whole Adds row rows b = refl
-with_whole Single row rows b = refl
-
 body_whole : (whole inside : Bool) (rows : List Row) → (body whole inside rows).whole ≡ whole
 body_whole whole inside [] = refl
 body_whole whole true (row ∷ rows) = body_whole whole (is_comment row) rows
-body_whole whole false (row ∷ rows) =
-    with_whole (sort_of row) row rows (body whole (adds row) rows) ∙ body_whole whole (adds row) rows
+body_whole whole false (row ∷ rows) = grind (arith, nat_tests, body_whole whole (adds row) rows)
 
 tail_fits : (rows : List Row) → Fits (Spines []) rows
-tail_fits [] = tt
-tail_fits (row ∷ rows) = refl
+tail_fits = grind (arith, nat_tests)
 
 pub tail_body : (rows : List Row) (ended : Option end.End) → Follow (Spines []) rows
     → InBody (calm (Spines []) rows ended) (record (nothing (is_closed_end ended)) { tail = rows })
@@ -535,9 +399,7 @@ closing_sorted : (n : List ℕ) (ns : List (List ℕ)) (row : Row) (rows : List 
     → Shares false Closing closing_of Behind (calm (Spines (n ∷ ns)) (row ∷ rows) ended) c
 closing_sorted n ns row rows ended c o f w u d (AsClosing s p a) =
     let e : c ≡ record (nothing (is_closed_end ended)) { closing = Some row; tail = rows } =
-    built row rows (is_closed_end ended) c Closes w s
-    ∙ ap (λ (b : Bool). record (nothing b) { closing = Some row; tail = rows })
-    (body_whole (is_closed_end ended) (adds row) rows) in
+    grind (arith, nat_tests, built, body_whole) in
     let at : is_at false Closing (calm (Spines (n ∷ ns)) (row ∷ rows) ended) ≡ true = rw p refl in
     let same : gone (Spines (n ∷ ns)) row rows ended ≡ calm (Spines []) rows ended = rw a refl in
     rw e (record {
@@ -547,33 +409,14 @@ closing_sorted n ns row rows ended c o f w u d (AsClosing s p a) =
       on = rw (at, same) (tail_body rows ended (rw a at f.1));
       stays = λ z. absurd (clash (is_at false Closing (calm (Spines (n ∷ ns)) (row ∷ rows) ended)) at z);
     })
-closing_sorted n ns row rows ended c o f w u d (AsData s ad p a) =
-    let v : has_some c.further ≡ true =
-    ap (λ (x : Body). has_some x.further) (built row rows (is_closed_end ended) c IsData w s) in
-    absurd (clash (has_some c.further) v d)
-closing_sorted n ns row rows ended c o f w u d (AsAdds s ad p at st i) =
-    let v : has_some c.units ≡ true =
-    ap (λ (x : Body). has_some x.units) (built row rows (is_closed_end ended) c Adds w s) in
-    absurd (clash (has_some c.units) v u)
-closing_sorted n ns row rows ended c o f w u d (AsSingle s ad p x y st i) =
-    let v : has_some c.units ≡ true =
-    ap (λ (x : Body). has_some x.units) (built row rows (is_closed_end ended) c Single w s) in
-    absurd (clash (has_some c.units) v u)
+closing_sorted n ns row rows ended c o f w u d (AsData s ad p a) = grind (arith, nat_tests)
+closing_sorted n ns row rows ended c o f w u d (AsAdds s ad p at st i) = grind (arith, nat_tests)
+closing_sorted n ns row rows ended c o f w u d (AsSingle s ad p x y st i) = grind (arith, nat_tests)
 
 closing_shares : (s : Source) (c : Body) → is_missing false s ≡ false → has_some c.units ≡ false
     → has_some c.further ≡ false → View s c → Shares false Closing closing_of Behind s c
-closing_shares s c k u d (Nothing path ended e w) =
-    let o = empty_over false path false ended in
-    rw (e, ← w)
-    (quiet_shares Closing closing_of Behind (calm path [] ended) (nothing (is_closed_end ended))
-    (record { known = rw e at k; later = rw o (omega arith); follow = tt }) refl
-    (ap (λ (q : Place). 9 == rank q) o) (ap (λ (q : Place). step q == 9) o) refl (nothing_body path ended))
-closing_shares s c k u d (InTail text rows ended e f w) =
-    rw (e, ← w)
-    (quiet_shares Closing closing_of Behind (calm (Spines []) (Comment text ∷ rows) ended)
-    (record (nothing (is_closed_end ended)) { tail = Comment text ∷ rows })
-    (record { known = refl; later = omega arith; follow = (refl, f) }) refl refl refl refl
-    (tail_body (Comment text ∷ rows) ended (refl, f)))
+closing_shares s c k u d (Nothing path ended e w) = grind (arith, nat_tests)
+closing_shares s c k u d (InTail text rows ended e f w) = grind (arith, nat_tests)
 closing_shares s c k u d (AtRow n ns row rows ended e o f w) =
     rw e (closing_sorted n ns row rows ended c o f w u d (sorted n ns o row f.0))
 

@@ -1,5 +1,6 @@
 -- With one record more, or an end, of one source nothing that was decided changes.
-use Rattle.std.proofs.Common.{◌≡◌, ◌∙◌, refl, sym, ap, ℕ, ◌+◌, Bool, true}
+use Rattle.std.proofs.lemmas.Bool.Decides.{nat_tests}
+use Rattle.std.proofs.Common.{◌≡◌, ◌∙◌, refl, ap, ℕ, ◌+◌, Bool, true, arith}
 use Rattle.std.proofs.Common.{false, cond, List, [], ◌∷◌, length}
 use Rattle.std.specs.Prelude.{None, Some}
 use Rattle.std.specs.List.{list_any, position_from}
@@ -10,11 +11,11 @@ use Rattle.hum_assemble.specs.declared.places.Next.TheVariants.{Gives, Refused, 
 use Rattle.hum_assemble.specs.declared.places.Next.TheVariants.{Over as NothingMore}
 use Rattle.hum_assemble.specs.Source.{Source}
 use Rattle.hum_assemble.specs.Change.{Change, changed_at, IsOpenAt}
-use Rattle.hum_assemble.specs.Merge.{Merge, all_moved, tokens_given, comment_given, spines}
-use Rattle.hum_assemble.specs.Merge.{made, row_of_kind, rule_broken, unless_broken, unless_missing}
+use Rattle.hum_assemble.specs.Merge.{Merge, all_moved, spines}
+use Rattle.hum_assemble.specs.Merge.{made, rule_broken, unless_broken}
 use Rattle.hum_assemble.specs.Merge.{ahead, ahead_at, ahead_of}
-use Rattle.hum_assemble.specs.Places.{is_over, kind_at}
-use Rattle.hum_assemble.specs.Round.{is_missing, is_lost, earliest, any_due, AllKnown}
+use Rattle.hum_assemble.specs.Places.{is_over}
+use Rattle.hum_assemble.specs.Round.{is_missing, is_lost, any_due, AllKnown}
 use Rattle.hum_assemble.proofs.Moving.{all_moves, comment_same, earliest_same}
 use Rattle.hum_assemble.proofs.Moving.{known_same, spines_same, due_same, lost_same, known_not_lost}
 
@@ -48,8 +49,7 @@ pub made_same : (going : Bool) (p : Place) (j : ℕ) (change : Change) (ss : Lis
     → is_over p ≡ false → IsOpenAt j ss → AllKnown going ss
     → made going p (changed_at j change ss) ≡ made going p ss
 made_same going p j change ss o i k =
-    ap (λ (x : List ℕ). row_of_kind (kind_at p) x (tokens_given true going p (changed_at j change ss))) (comment_same going p j change ss o i k)
-    ∙ ap (λ (x : List (List ℕ)). row_of_kind (kind_at p) (comment_given going p ss) x) (all_moves true going p j change ss o i k).tokens
+    grind (arith, nat_tests, comment_same going p j change ss o i k, all_moves true going p j change ss o i k)
 
 at_same : (going : Bool) (p : Place) (j : ℕ) (change : Change) (ss : List Source) (given : ℕ)
     → IsOpenAt j ss → AllKnown going ss
@@ -77,17 +77,7 @@ at_same going p j change ss given i k =
 known_ahead : (going : Bool) (j : ℕ) (change : Change) (ss : List Source) (given : ℕ)
     → IsOpenAt j ss → AllKnown going ss
     → ahead_of going (changed_at j change ss) given ≡ ahead_of going ss given
-known_ahead going j change ss given i k =
-    let k' = known_same going j change ss i k in
-    rw (
-      known_not_lost going (changed_at j change ss) k',
-      known_not_lost going ss k,
-      missing_none going 0
-          (changed_at j change ss) k',
-      missing_none going 0 ss k,
-      earliest_same going j change ss i k,
-    )
-    (at_same going (earliest going ss) j change ss given i k)
+known_ahead = grind (arith, nat_tests, known_same, known_not_lost, missing_none, earliest_same, at_same)
 
 -- what a merge that doesn't wait knows
 pub data Ahead (going : Bool) (ss : List Source) (given : ℕ) : Type 0 where
@@ -96,18 +86,7 @@ pub data Ahead (going : Bool) (ss : List Source) (given : ℕ) : Type 0 where
 
 pub seen : (going : Bool) (ss : List Source) (given : ℕ)
     → is_waiting (ahead_of going ss given) ≡ false → Ahead going ss given
-seen going ss given h =
-    (elim (list_any (is_lost going) ss) as (λ b. list_any (is_lost going) ss ≡ b →
-    is_waiting (cond b NothingMore (unless_missing (position_from (is_missing going) 0 ss)
-    (ahead_at going (earliest going ss) ss given))) ≡ false → Ahead going ss given) [
-      | true ↦ λ e w. Lost e
-      | false ↦ λ e w. (elim (position_from (is_missing going) 0 ss) as
-          (λ o. position_from (is_missing going) 0 ss ≡ o → is_waiting
-          (unless_missing o (ahead_at going (earliest going ss) ss given)) ≡ false → Ahead going ss given) [
-            | None ↦ λ f v. Known (none_missing going 0 ss f)
-            | Some k ↦ λ f v. cc
-          ]) refl w
-    ]) refl h
+seen = grind (arith, nat_tests, none_missing)
 
 lost_ahead : (going : Bool) (ss : List Source) (given : ℕ) → list_any (is_lost going) ss ≡ true
     → ahead_of going ss given ≡ NothingMore
@@ -115,9 +94,7 @@ lost_ahead going ss given h = rw h refl
 
 same_ahead : (going : Bool) (j : ℕ) (change : Change) (ss : List Source) (given : ℕ) → IsOpenAt j ss
     → Ahead going ss given → ahead_of going (changed_at j change ss) given ≡ ahead_of going ss given
-same_ahead going j change ss given i (Lost h) = lost_ahead going (changed_at j change ss) given
-    (lost_same going j change ss i h) ∙ sym (lost_ahead going ss given h)
-same_ahead going j change ss given i (Known k) = known_ahead going j change ss given i k
+same_ahead = grind (arith, nat_tests, lost_ahead, lost_same, known_ahead)
 
 -- What can be done next stays, unless a record is waited for.
 pub ahead_kept : (j : ℕ) (change : Change) (m : Merge) → IsOpenAt j m.sources

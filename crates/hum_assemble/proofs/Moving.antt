@@ -1,6 +1,7 @@
 -- A record given of sources of which one has more to come.
-use Rattle.std.proofs.Common.{◌≡◌, refl, ap, ℕ, zero, suc, ◌+◌, Bool, true}
-use Rattle.std.proofs.Common.{false, ◌&&◌, ◌||◌, cond, List, [], ◌∷◌}
+use Rattle.std.proofs.lemmas.Bool.Decides.{nat_tests}
+use Rattle.std.proofs.Common.{◌≡◌, refl, ap, ℕ, zero, suc, ◌+◌, Bool, true, arith}
+use Rattle.std.proofs.Common.{false, ◌&&◌, ◌||◌, List, [], ◌∷◌}
 use Rattle.std.specs.Prelude.{Option, None, is_none, is_some, ◌==◌, if◌then◌else◌}
 use Rattle.std.specs.List.{list_any}
 use Rattle.hum_score.specs.Row.{Row}
@@ -8,12 +9,12 @@ use Rattle.hum_score.specs.Spines.{Path, width}
 use Rattle.hum_stage.specs.declared.faults.End as end
 use Rattle.hum_assemble.specs.declared.places.Place.{Place}
 use Rattle.hum_assemble.specs.Source.{Source}
-use Rattle.hum_assemble.specs.Change.{Change, More, Ends, changed, changed_at, IsOpenAt}
+use Rattle.hum_assemble.specs.Change.{Change, changed, changed_at, IsOpenAt}
 use Rattle.hum_assemble.specs.Merge.{moved, all_moved, nulls, tokens_of_first, text_of_first}
 use Rattle.hum_assemble.specs.Merge.{tokens_given, comment_given, spines}
 use Rattle.hum_assemble.specs.Places.{rank, is_over, earlier}
 use Rattle.hum_assemble.specs.Round.{shown, is_asked, is_missing, is_lost, place_at, takes}
-use Rattle.hum_assemble.specs.Round.{still_free, in_round, earliest, any_due, AllKnown}
+use Rattle.hum_assemble.specs.Round.{still_free, earliest, any_due, AllKnown}
 use Rattle.hum_assemble.proofs.Kept.{kept}
 
 pub record Moves (free going : Bool) (p : Place) (change : Change) (s : Source) : Type 0 where
@@ -28,31 +29,19 @@ pub record Moves (free going : Bool) (p : Place) (change : Change) (s : Source) 
 taken_none : (free going : Bool) (p : Place) (path : Path) (due : Bool) → is_over p ≡ false
     → is_missing going (record { path = path; due = due; coming = []; ended = None }) ≡ false
     → takes free going p (record { path = path; due = due; coming = []; ended = None }) ≡ true → ⊥
-taken_none true true p path false o h t = cc
-taken_none false true p path false o h t = cc
-taken_none free going p path true o h t = cc
-taken_none free false p path false o h t = cc
-
-same_round : (going : Bool) (p : Place) (change : Change) (s : Source)
-    → place_at going (changed change s) ≡ place_at going s
-    → in_round going p (changed change s) ≡ in_round going p s
-same_round true p (More row) s e = refl
-same_round true p (Ends x) s e = refl
-same_round false p change s e = rw e refl
+taken_none = grind (arith, nat_tests)
 
 not_taken : (going : Bool) (p : Place) (change : Change) (s : Source) (b : Bool) → b ≡ false
     → place_at going (changed change s) ≡ place_at going s
     → moved b going p (changed change s) ≡ changed change (moved b going p s)
-not_taken going p (More row) s b f e = rw (f, same_round going p (More row) s e) refl
-not_taken going p (Ends x) s b f e = rw (f, same_round going p (Ends x) s e) refl
+not_taken = grind (arith, nat_tests)
 
 moved_taken : (going : Bool) (p : Place) (change : Change) (path : Path) (due : Bool) (x : Row)
     (xs : List Row) (b : Bool)
     → b ≡ true
     → moved b going p (changed change (record { path = path; due = due; coming = x ∷ xs; ended = None })) ≡
     changed change (moved b going p (record { path = path; due = due; coming = x ∷ xs; ended = None }))
-moved_taken going p (More row) path due x xs b t = rw t refl
-moved_taken going p (Ends e) path due x xs b t = rw t refl
+moved_taken = grind (arith, nat_tests)
 
 same_tokens : (p : Place) (change : Change) (path : Path) (due : Bool) (x : Row) (xs : List Row)
     (b : Bool)
@@ -60,19 +49,14 @@ same_tokens : (p : Place) (change : Change) (path : Path) (due : Bool) (x : Row)
     (record { path = path; due = due; coming = x ∷ xs; ended = None })).coming else nulls p
     (changed change (record { path = path; due = due; coming = x ∷ xs; ended = None })))
     ≡ (if b then tokens_of_first (x ∷ xs) else nulls p (record { path = path; due = due; coming = x ∷ xs; ended = None }))
-same_tokens p (More row) path due x xs true = refl
-same_tokens p (More row) path due x xs false = refl
-same_tokens p (Ends e) path due x xs true = refl
-same_tokens p (Ends e) path due x xs false = refl
+same_tokens = grind (arith, nat_tests)
 
 same_nulls : (p : Place) (change : Change) (s : Source) → nulls p (changed change s) ≡ nulls p s
-same_nulls p (More row) s = refl
-same_nulls p (Ends e) s = refl
+same_nulls = grind (arith, nat_tests)
 
 same_text : (change : Change) (path : Path) (due : Bool) (x : Row) (xs : List Row)
     → text_of_first (changed change (record { path = path; due = due; coming = x ∷ xs; ended = None })).coming ≡ text_of_first (x ∷ xs)
-same_text (More row) path due x xs = refl
-same_text (Ends e) path due x xs = refl
+same_text = grind (arith, nat_tests)
 
 same_takes : (free going : Bool) (p : Place) (change : Change) (s : Source)
     → place_at going (changed change s) ≡ place_at going s
@@ -80,8 +64,7 @@ same_takes : (free going : Bool) (p : Place) (change : Change) (s : Source)
 same_takes free going p change s e = ap (λ (q : Place). free && (rank p == rank q)) e
 
 bool_cases : (b : Bool) → (b ≡ true → ⊥) → b ≡ false
-bool_cases true h = absurd (h refl)
-bool_cases false h = refl
+bool_cases = grind (arith, nat_tests)
 
 moves_fields : (free going : Bool) (p : Place) (change : Change) (path : Path) (due : Bool)
     (coming : List Row)
@@ -93,12 +76,7 @@ moves_fields free going p change path due (x ∷ xs) o h =
     let k = kept going change s refl h in
     record {
       taken = same_takes free going p change s k.place;
-      moved_is = elim (takes free going p s) as (λ b. moved b going p (changed change s) ≡ changed change
-          (moved b going p s)) [
-            | true ↦ moved_taken going p change path due x xs true refl
-            | false ↦
-                not_taken going p change s false refl k.place
-          ];
+      moved_is = grind (arith, nat_tests, moved_taken, not_taken);
       tokens = same_tokens p change path due x xs (takes free going p s);
       text = λ t. same_text change path due x xs;
     }
@@ -128,29 +106,15 @@ pub record AllMoves (free going : Bool) (p : Place) (j : ℕ) (change : Change) 
 pub all_moves : (free going : Bool) (p : Place) (j : ℕ) (change : Change) (ss : List Source)
     → is_over p ≡ false → IsOpenAt j ss → AllKnown going ss → AllMoves free going p j change ss
 all_moves free going p j change [] o i k = absurd i
-all_moves free going p zero change (s ∷ ss) o i k =
-    let m = moves free going p change s o i k.0 in
-    record {
-      moved_are = rw (m.taken, m.moved_is) refl;
-      tokens = rw (m.taken, m.tokens) refl;
-    }
+all_moves free going p zero change (s ∷ ss) o i k = grind (arith, nat_tests, moves)
 all_moves free going p (suc j) change (s ∷ ss) o i k =
-    let m = all_moves (still_free free going p s) going p j change ss o i k.1 in
-    record {
-      moved_are = rw m.moved_are refl;
-      tokens = rw m.tokens refl;
-    }
+    grind (arith, nat_tests, all_moves (still_free free going p s) going p j change ss o i k.1)
 
 pub comment_same : (going : Bool) (p : Place) (j : ℕ) (change : Change) (ss : List Source)
     → is_over p ≡ false → IsOpenAt j ss → AllKnown going ss
     → comment_given going p (changed_at j change ss) ≡ comment_given going p ss
 comment_same going p j change [] o i k = absurd i
-comment_same going p zero change (s ∷ ss) o i k =
-    let m = moves true going p change s o i k.0 in
-    rw m.taken (elim (takes true going p s) as
-    (λ b. (b ≡ true → text_of_first (changed change s).coming ≡ text_of_first s.coming) →
-    cond b (text_of_first (changed change s).coming) (comment_given going p ss) ≡ cond b
-    (text_of_first s.coming) (comment_given going p ss)) [ true ↦ λ e. e refl | false ↦ λ e. refl ] m.text)
+comment_same going p zero change (s ∷ ss) o i k = grind (arith, nat_tests, moves)
 comment_same going p (suc j) change (s ∷ ss) o i k = rw (comment_same going p j change ss o i k.1) refl
 
 pub earliest_same : (going : Bool) (j : ℕ) (change : Change) (ss : List Source) → IsOpenAt j ss
@@ -166,8 +130,7 @@ known_same going zero change (s ∷ ss) i k = ((kept going change s i k.0).known
 known_same going (suc j) change (s ∷ ss) i k = (k.0, known_same going j change ss i k.1)
 
 spines_changed : (change : Change) (s : Source) → width (changed change s).path ≡ width s.path
-spines_changed (More row) s = refl
-spines_changed (Ends e) s = refl
+spines_changed = grind (arith, nat_tests)
 
 pub spines_same : (j : ℕ) (change : Change) (ss : List Source)
     → spines (changed_at j change ss) ≡ spines ss
@@ -176,8 +139,7 @@ spines_same zero change (s ∷ ss) = ap (λ (n : ℕ). n + spines ss) (spines_ch
 spines_same (suc j) change (s ∷ ss) = ap (λ (n : ℕ). width s.path + n) (spines_same j change ss)
 
 due_changed : (change : Change) (s : Source) → (changed change s).due ≡ s.due
-due_changed (More row) s = refl
-due_changed (Ends e) s = refl
+due_changed = grind (arith, nat_tests)
 
 pub due_same : (j : ℕ) (change : Change) (ss : List Source)
     → any_due (changed_at j change ss) ≡ any_due ss
@@ -185,35 +147,17 @@ due_same j change [] = refl
 due_same zero change (s ∷ ss) = rw due_changed refl
 due_same (suc j) change (s ∷ ss) = rw (due_same j change ss) refl
 
--- what is lost stays lost
-and_none : (a n : Bool) (o : Option end.End) → o ≡ None → (a && (n && is_some o)) ≡ false
-and_none true true o e = rw e refl
-and_none true false o e = refl
-and_none false n o e = refl
-
-open_not_lost : (going : Bool) (s : Source) → s.ended ≡ None → is_lost going s ≡ false
-open_not_lost going s e = and_none (is_asked going s) (is_none (shown s)) s.ended e
-
-or_true : (a : Bool) → (a || true) ≡ true
-or_true true = refl
-or_true false = refl
-
 pub lost_same : (going : Bool) (j : ℕ) (change : Change) (ss : List Source) → IsOpenAt j ss
     → list_any (is_lost going) ss ≡ true → list_any (is_lost going) (changed_at j change ss) ≡ true
 lost_same going j change [] i h = absurd i
-lost_same going zero change (s ∷ ss) i h =
-    let e = open_not_lost going s i in
-    let t : list_any (is_lost going) ss ≡ true = rw e at h in
-    rw t (or_true (is_lost going (changed change s)))
+lost_same going zero change (s ∷ ss) i h = grind (arith, nat_tests)
 lost_same going (suc j) change (s ∷ ss) i h =
     elim (is_lost going s) as (λ b. (b || list_any (is_lost going) ss) ≡ true →
     (b || list_any (is_lost going) (changed_at j change ss)) ≡ true)
     [ true ↦ λ e. refl | false ↦ λ e. lost_same going j change ss i e ] h
 
 and_false : (a b c : Bool) → (a && b) ≡ false → (a && (b && c)) ≡ false
-and_false true true c h = cc
-and_false true false c h = refl
-and_false false b c h = refl
+and_false = grind (arith, nat_tests)
 
 pub known_not_lost : (going : Bool) (ss : List Source) → AllKnown going ss
     → list_any (is_lost going) ss ≡ false

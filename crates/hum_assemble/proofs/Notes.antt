@@ -1,13 +1,14 @@
 -- What can be done next where each source's next record is one of data, and behind these.
+use Rattle.std.proofs.lemmas.Bool.Decides.{nat_tests}
 use Rattle.std.proofs.Common.{◌≡◌, ◌∙◌, refl, sym, ap, ℕ, ◌<◌, Bool, true, false}
-use Rattle.std.proofs.Common.{List, [], ◌∷◌, length, subst, arith}
+use Rattle.std.proofs.Common.{List, [], ◌∷◌, length, arith}
 use Rattle.std.specs.Prelude.{◌==◌, Option}
 use Rattle.std.specs.List.{list_all, list_any, AllByRecursion}
 use Rattle.std.proofs.lemmas.Bool.{le-ltb, lt-leb}
-use Rattle.hum_score.specs.declared.records.SpinedKind.TheVariants.{Local, Interpretation, Values}
+use Rattle.hum_score.specs.declared.records.SpinedKind.TheVariants.{Values}
 use Rattle.hum_score.specs.declared.records.Kind.TheVariants.{Global}
-use Rattle.hum_score.specs.Row.{Row, Comment, Spined, kind_of}
-use Rattle.hum_score.specs.Spines.{Path, Unopened, Spines, after}
+use Rattle.hum_score.specs.Row.{Row, kind_of}
+use Rattle.hum_score.specs.Spines.{Path, after}
 use Rattle.hum_stage.specs.declared.faults.End as end
 use Rattle.hum_assemble.specs.declared.places.Place.{Place}
 use Rattle.hum_assemble.specs.declared.places.Place.TheVariants.{Note}
@@ -36,21 +37,16 @@ pub notes_ahead : (ss : List Source) (given : ℕ) (going : Bool) → going ≡ 
     → given < 4294967295 → AreNotes 4096 1048577 ss → Gives Note ≡ ahead_at going (earliest going ss) ss given
 notes_ahead [] given going none some left n = cc
 notes_ahead (x ∷ xs) given going none some left n =
-    subst (λ g. Gives Note ≡ ahead_at g (earliest g (x ∷ xs)) (x ∷ xs) given) (sym none)
-    (notes_at (x ∷ xs) given left n ∙ ap (λ q. ahead_at false q (x ∷ xs) given) (sym (earliest_note x xs n.all)))
+    grind (arith, nat_tests, notes_at (x ∷ xs) given left n, earliest_note x xs n.all)
 
 -- Of no source anything is known.
 pub none_due : (ss : List Source) → list_all waits ss ≡ true → any_due ss ≡ false
 none_due [] h = refl
-none_due (s ∷ ss) h =
-    let ih = none_due ss in
-    grind (arith, h, ih)
+none_due (s ∷ ss) h = grind (arith, nat_tests, none_due ss)
 
 none_lost : (ss : List Source) → list_all waits ss ≡ true → list_any (is_lost false) ss ≡ false
 none_lost [] h = refl
-none_lost (s ∷ ss) h =
-    let ih = none_lost ss in
-    grind (arith, h, ih)
+none_lost (s ∷ ss) h = grind (arith, nat_tests, none_lost ss)
 
 first_waits : (s : Source) (ss : List Source) (given : ℕ) → list_all waits (s ∷ ss) ≡ true
     → list_any (is_lost false) (s ∷ ss) ≡ false → Wants 0 ≡ ahead_of false (s ∷ ss) given
@@ -65,20 +61,11 @@ waits_ahead (s ∷ ss) given some h =
 
 -- Data leaves the spines as they stand.
 note_stays : (path : Path) (row : Row) → place path row ≡ Note → (after path row ≡ path) × (is_inside path ≡ false)
-note_stays Unopened (Comment text) h = cc
-note_stays Unopened (Spined kind tokens) h = cc
-note_stays (Spines []) row h = cc
-note_stays (Spines (name ∷ names)) (Comment text) h = grind (arith, h)
-note_stays (Spines (name ∷ names)) (Spined Local tokens) h = grind (arith, h)
-note_stays (Spines (name ∷ names)) (Spined Interpretation tokens) h = grind (arith, h)
-note_stays (Spines (name ∷ names)) (Spined Values tokens) h = grind (arith, h)
+note_stays = grind (arith, nat_tests)
 
 -- Data is no global comment.
 pub note_spined : (path : Path) (row : Row) → place path row ≡ Note → kind_of row ≡ Global → ⊥
-note_spined Unopened (Comment text) h k = cc
-note_spined (Spines []) (Comment text) h k = cc
-note_spined (Spines (name ∷ names)) (Comment text) h k = grind (arith, h)
-note_spined path (Spined kind tokens) h k = grind (arith, k)
+note_spined = grind (arith, nat_tests)
 
 pub note_moved : (going : Bool) (p : Place) (path : Path) (due : Bool) (row : Row) (ended : Option end.End) → place path row ≡ Note
     → record { path = path; due = false; coming = []; ended = ended }

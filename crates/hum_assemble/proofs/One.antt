@@ -1,10 +1,10 @@
 -- One source alone: its records are given as they are.
+use Rattle.std.proofs.lemmas.Bool.Decides.{nat_tests}
 use Rattle.std.proofs.Common.{◌≡◌, ◌∙◌, refl, sym, ap, subst, ℕ, ◌+◌, ◌≤◌, Bool, true, false, ◌||◌}
 use Rattle.std.proofs.lemmas.Bool.{le-leb, ne_eqb, eq-eqb}
-use Rattle.std.proofs.Common.{List, [], ◌∷◌, ◌++◌, length, arith, append-nil}
+use Rattle.std.proofs.Common.{List, [], ◌∷◌, length, arith, append-nil}
 use Rattle.std.specs.Prelude.{◌==◌, nat_le, Option, None, Some}
-use Rattle.hum_score.specs.declared.records.SpinedKind.{SpinedKind}
-use Rattle.hum_score.specs.Row.{Row, Comment, Spined, text_of, tokens_of}
+use Rattle.hum_score.specs.Row.{Row, text_of, tokens_of}
 use Rattle.hum_score.specs.Rules.{fault_of}
 use Rattle.hum_score.specs.Spines.{Path, Unopened, after}
 use Rattle.hum_score.specs.InOrder.{Follow}
@@ -16,7 +16,7 @@ use Rattle.hum_assemble.specs.declared.places.Place.{Place}
 use Rattle.hum_assemble.specs.declared.places.Next as next
 use Rattle.hum_assemble.specs.declared.places.Next.TheVariants.{Gives, Refused}
 use Rattle.hum_assemble.specs.Source.{place, is_inside}
-use Rattle.hum_assemble.specs.Places.{rank, is_over, kind_at}
+use Rattle.hum_assemble.specs.Places.{rank, is_over}
 use Rattle.hum_assemble.specs.Merge.{Merge, ahead, made, given_row, given_on, all_moved}
 use Rattle.hum_assemble.specs.Merge.{spines, rule_broken, row_of_kind, unless_broken}
 use Rattle.hum_assemble.specs.Meaning.{all_given, rest, refusal, GivesOneAsItIs}
@@ -36,29 +36,16 @@ own_rank : (n : ℕ) → (n == n) ≡ true
 own_rank n = eq-eqb n n refl
 
 like_kind : (row : Row) → row_of_kind (spined_of row) (text_of row) (tokens_of row) ≡ row
-like_kind (Comment text) = refl
-like_kind (Spined kind tokens) = refl
+like_kind = grind (arith, nat_tests)
 
 row_given : (path : Path) (due : Bool) (row : Row) (rows : List Row) (ended : Option end.End) (given : ℕ)
     → fault_of path row ≡ None → given_row (place path row) (sole path due (row ∷ rows) ended given) ≡ row
-row_given path due row rows ended given sound =
-    let q = place path row in
-    let all = own_rank (rank (place path row)) in
-    let kind : kind_at (place path row) ≡ spined_of row = kind_fits path row sound in
-    by due all ∙ ap (λ (tokens : List (List ℕ)). row_of_kind (kind_at (place path row)) (text_of row) tokens) (append-nil (tokens_of row))
-    ∙ ap (λ (o : Option SpinedKind). row_of_kind o (text_of row) (tokens_of row)) kind
-    ∙ like_kind row
-  where
-    by : (d : Bool) → (rank (place path row) == rank (place path row)) ≡ true
-        → given_row (place path row) (sole path d (row ∷ rows) ended given) ≡ row_of_kind (kind_at (place path row)) (text_of row) (tokens_of row ++ [])
-    by true e = rw e refl
-    by false e = rw e refl
+row_given = grind (arith, nat_tests, own_rank, spined_of, kind_fits, append-nil, like_kind)
 
 goes_to : (path : Path) (due : Bool) (row : Row) (rows : List Row) (ended : Option end.End) (given : ℕ)
     → given_on (place path row) (sole path due (row ∷ rows) ended given)
     ≡ sole (after path row) (is_inside (after path row)) rows ended (given + 1)
-goes_to path true row rows ended given = rw (own_rank (rank (place path row))) refl
-goes_to path false row rows ended given = rw (own_rank (rank (place path row))) refl
+goes_to = grind (arith, nat_tests)
 
 -- It is given, or breaks a rule.
 data Coming (m : Merge) (q : Place) : Type 0 where

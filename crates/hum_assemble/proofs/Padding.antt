@@ -1,4 +1,5 @@
 -- The path rules of one source's record stay as they are between null tokens of other sources.
+use Rattle.std.proofs.lemmas.Bool.Decides.{nat_tests}
 use Rattle.std.proofs.Common.{◌≡◌, ◌∙◌, refl, ap, ℕ, zero, suc, ◌+◌, Bool}
 use Rattle.std.proofs.Common.{false, List, [], ◌∷◌, ◌++◌, length, arith}
 use Rattle.std.proofs.Common.{replicate}
@@ -27,22 +28,12 @@ exchanges_left (suc n) j signs = exchanges_left n (j + 1) signs ∙ ap (λ (k : 
 pub mixed_left : (others names : List (List ℕ)) (signs : List Sign)
     → has_mixed_join (others ++ names)
     (plains (length others) ++ signs) ≡ has_mixed_join names signs
-mixed_left [] names signs = refl
-mixed_left (x ∷ []) [] [] = refl
-mixed_left (x ∷ []) (y ∷ names) [] = refl
-mixed_left (x ∷ []) [] (s ∷ signs) = refl
-mixed_left (x ∷ []) (y ∷ names) (s ∷ signs) = refl
 mixed_left (x ∷ y ∷ others) names signs = mixed_left (y ∷ others) names signs
-
--- on the right
-pub none_first : (m : ℕ) → first_is is_join (plains m) ≡ false
-none_first zero = refl
-none_first (suc m) = refl
+mixed_left others names signs = grind (arith, nat_tests)
 
 pub first_right : (signs : List Sign) (m : ℕ)
     → first_is is_join (signs ++ plains m) ≡ first_is is_join signs
-first_right [] m = none_first m
-first_right (s ∷ signs) m = refl
+first_right = grind (arith, nat_tests)
 
 pub lone_plains : (b : Bool) (m : ℕ) → has_lone_join b (plains m) ≡ false
 lone_plains b zero = refl

@@ -1,4 +1,5 @@
 -- The merge after some records.
+use Rattle.std.proofs.lemmas.Bool.Decides.{nat_tests}
 use Rattle.std.proofs.Common.{◌≡◌, ◌∙◌, refl, sym, ap, ℕ, zero, suc, ◌+◌, ◌≤◌, ◌<◌, Bool}
 use Rattle.std.proofs.Common.{true, false, List, [], ◌∷◌, ◌++◌, length, arith, map}
 use Rattle.std.specs.Prelude.{Some}
@@ -7,7 +8,7 @@ use Rattle.hum_score.specs.Row.{Row}
 use Rattle.hum_assemble.specs.declared.places.Place.{Place}
 use Rattle.hum_assemble.specs.declared.places.Next.TheVariants.{Gives}
 use Rattle.hum_assemble.specs.Source.{Source}
-use Rattle.hum_assemble.specs.Change.{Change, More, Ends, changed, changed_at, IsOpenAt, Input, had, IsOpenInput}
+use Rattle.hum_assemble.specs.Change.{Change, changed, changed_at, IsOpenAt, Input, had, IsOpenInput}
 use Rattle.hum_assemble.specs.Change.{had_at}
 use Rattle.hum_assemble.specs.Merge.{Merge, made, all_moved, ahead, given_row, given_on}
 use Rattle.hum_assemble.specs.Round.{any_due}
@@ -86,8 +87,7 @@ at (suc n) m s r =
 
 -- The opening merge with one record more.
 begun_had : (change : Change) (x : Input) → begun (had change x) ≡ changed change (begun x)
-begun_had (More row) x = refl
-begun_had (Ends e) x = refl
+begun_had = grind (arith, nat_tests)
 
 begun_all : (j : ℕ) (change : Change) (xs : List Input)
     → map begun (had_at j change xs) ≡ changed_at j change (map begun xs)

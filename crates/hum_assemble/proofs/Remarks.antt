@@ -1,5 +1,6 @@
 -- Rounds of global comments: the front and the tail.
-use Rattle.std.proofs.Common.{◌≡◌, ◌∙◌, refl, sym, ap, ℕ, zero, suc, ◌+◌, ◌≤◌, ◌<◌, Bool, true}
+use Rattle.std.proofs.lemmas.Bool.Decides.{nat_tests}
+use Rattle.std.proofs.Common.{◌≡◌, ◌∙◌, refl, sym, ap, ℕ, zero, suc, ◌≤◌, ◌<◌, Bool, true}
 use Rattle.std.proofs.Common.{false, not, ◌&&◌, List, [], ◌∷◌, length, arith}
 use Rattle.std.proofs.Common.{map}
 use Rattle.std.specs.Prelude.{Option, is_some}
@@ -9,7 +10,7 @@ use Rattle.hum_score.specs.InOrder.{Follow}
 use Rattle.hum_assemble.specs.Source.{Source}
 use Rattle.hum_assemble.specs.Places.{rank}
 use Rattle.hum_assemble.specs.Round.{is_missing, place_at}
-use Rattle.hum_assemble.specs.Groups.{most, then_on}
+use Rattle.hum_assemble.specs.Groups.{then_on}
 use Rattle.hum_assemble.specs.Groups.{where_any, each_alone}
 use Rattle.hum_assemble.specs.Groups.{Comments, shows_comment, next_comment, behind_comment}
 use Rattle.hum_assemble.specs.Groups.{comment_rounds, all_comments}
@@ -18,11 +19,10 @@ use Rattle.hum_assemble.proofs.Does.{Does, does_weaken, does_then, does_known, d
 use Rattle.hum_assemble.proofs.Does.{Both}
 use Rattle.hum_assemble.proofs.Apart.{MayGive, each_does, Given}
 use Rattle.hum_assemble.proofs.Beginning.{Idle, Spans, takes_part, begun_at, does_begin}
-use Rattle.hum_assemble.proofs.Bodies.{idle_sees}
 use Rattle.hum_assemble.proofs.Units.{both_map}
 use Rattle.hum_assemble.proofs.Grouping.{both_any, both_all, both_known, both_none}
 use Rattle.hum_assemble.proofs.Grouping.{both_moved, both_stuck, both_under, both_over}
-use Rattle.hum_assemble.proofs.Grouping.{AllShort, most_short, none_short, shorter, some_one}
+use Rattle.hum_assemble.proofs.Grouping.{AllShort, most_short, none_short, some_one}
 use Rattle.hum_assemble.proofs.Grouping.{all_shorter, any_map}
 
 all_map : {X Y : Type 0} (f : Y → Bool) (g : X → Y) (xs : List X)
@@ -36,8 +36,7 @@ map_map f g [] = refl
 map_map f g (x ∷ xs) = ap (λ (ys : List _). f (g x) ∷ ys) (map_map f g xs)
 
 map_same : {X Y : Type 0} (f g : X → Y) (xs : List X) → ((x : X) → f x ≡ g x) → map f xs ≡ map g xs
-map_same f g [] e = refl
-map_same f g (x ∷ xs) e = rw (e x, map_same f g xs e) refl
+map_same = grind (arith, nat_tests)
 
 -- What rounds of global comments need of each source.
 pub record Remarks {V : Type 0} (k : ℕ) (look : V → Comments) (next : V → V)
@@ -73,9 +72,7 @@ module _ {V : Type 0} (k : ℕ) (look : V → Comments) (next : V → V) (R F : 
   Later s v = R s (next v)
 
   calm_later : (s : Source) (v : V) → Later s v → Sees true (suc k) s
-  calm_later s v h =
-      let few = r.few in
-      idle_sees (suc k) s (omega (arith, few)) (r.due s (next v) h) (r.follow s (next v) h)
+  calm_later = grind (arith, nat_tests)
 
   idle_now : (s : Source) (v : V) → R s v × (shows v ≡ true) → Idle k s
   idle_now s v h = record {
@@ -91,15 +88,10 @@ module _ {V : Type 0} (k : ℕ) (look : V → Comments) (next : V → V) (R F : 
   ends_now s v h = r.ends s v h.0 h.1
 
   one_comment : (v : V) → has v ≡ true → 1 ≤ size v
-  one_comment v h =
-      (elim (look v).rows as (λ rows. is_some (next_comment (record (look v) { rows = rows })) ≡ true → 1 ≤ length rows) [
-        | [] ↦ λ e. cc
-        | row ∷ rows ↦ λ e. omega arith
-      ]) h
+  one_comment = grind (arith, nat_tests)
 
   shorter_on : (n : ℕ) → 1 ≤ n → (v : V) → size v < suc n → size (next v) < n
-  shorter_on n o v l =
-      rw (r.looks_on v) (shorter n (look v).rows o l)
+  shorter_on = grind (arith, nat_tests)
 
   each_now : (ss : List Source) (vs : List V) → Both R ss vs
       → Does (each_alone 0 (map given_of vs)) (map (begun_at k) ss) (λ x. Both Later x vs)
@@ -112,8 +104,7 @@ module _ {V : Type 0} (k : ℕ) (look : V → Comments) (next : V → V) (R F : 
 
   pub comments_does : (n : ℕ) (ss : List Source) (vs : List V) → AllShort size n vs → Both R ss vs
       → Does (comment_rounds n (map look vs)) ss (λ x. Both F x vs)
-  comments_does zero ss vs l h =
-      does_nothing ss (λ x. Both F x vs) (none_short size R F ss vs l h)
+  comments_does zero ss vs l h = grind (arith, nat_tests, does_nothing, none_short)
   comments_does (suc n) ss vs l h =
       let few = r.few in
       let on : map behind_comment (map look vs) ≡ map look (map next vs) =
@@ -153,7 +144,4 @@ module _ {V : Type 0} (k : ℕ) (look : V → Comments) (next : V → V) (R F : 
 
   pub all_comments_does : (ss : List Source) (vs : List V) → Both R ss vs
       → Does (all_comments (map look vs)) ss (λ x. Both F x vs)
-  all_comments_does ss vs h =
-      rw (map_map (λ c. length c.rows) look vs)
-      (comments_does (most (map size vs) + 1) ss vs
-      (most_short size (most (map size vs)) vs (omega arith)) h)
+  all_comments_does = grind (arith, nat_tests, map_map, comments_does, most_short)

@@ -1,5 +1,6 @@
 -- Tokens at the front of some for which a record has room.
-use Rattle.std.proofs.Common.{◌≡◌, ◌∙◌, refl, sym, ap, ℕ, zero, suc, ◌<◌, ◌≤◌, Bool, List, [], ◌∷◌, ◌++◌, length}
+use Rattle.std.proofs.lemmas.Bool.Decides.{nat_tests}
+use Rattle.std.proofs.Common.{◌≡◌, ◌∙◌, refl, sym, ap, ℕ, suc, ◌<◌, ◌≤◌, Bool, List, [], ◌∷◌, ◌++◌, length}
 use Rattle.std.proofs.Common.{take, drop, get_or, append_assoc, arith}
 use Rattle.std.proofs.lemmas.List.{drop_more}
 use Rattle.hum_record.specs.Building.{spelled}
@@ -11,10 +12,7 @@ use Rattle.hum_assemble.specs.Merge.{part_given, tokens_given}
 
 pub front_fits : (front rest all : List (List ℕ)) → all ≡ front ++ rest → length (spelled all) ≤ 1048576
     → length (spelled front) ≤ 1048576
-front_fits front rest all e h =
-    let front_of = spelled_front front rest in
-    let same = ap (λ (ts : List (List ℕ)). length (spelled ts)) e in
-    omega (arith, front_of, same, h)
+front_fits = grind (arith, nat_tests, spelled_front)
 
 -- those so far, the next, and the rest
 one_more : (tokens front : List (List ℕ)) (t : List ℕ) (rest : List (List ℕ))
@@ -27,11 +25,8 @@ record Parted (all : List (List ℕ)) (j : ℕ) : Type 0 where
   whole : all ≡ take j all ++ get_or all j [] ∷ rest
 
 parted : (all : List (List ℕ)) (j : ℕ) → j < length all → Parted all j
-parted [] j h = absurd (omega (arith, h))
-parted (t ∷ ts) zero h = record { rest = ts; whole = refl }
-parted (t ∷ ts) (suc j) h =
-    let w = parted ts j (omega (arith, h)) in
-    record { rest = w.rest; whole = ap (λ (xs : List (List ℕ)). t ∷ xs) w.whole }
+parted (t ∷ ts) (suc j) h = grind (arith, nat_tests, parted ts j (omega (arith, h)))
+parted all j h = grind (arith, nat_tests)
 
 pub token_fits : (tokens all : List (List ℕ)) (j : ℕ) → j < length all → length (spelled (tokens ++ all)) ≤ 1048576
     → length (spelled ((tokens ++ take j all) ++ get_or all j [] ∷ [])) ≤ 1048576
@@ -49,5 +44,4 @@ pub source_fits : (tokens : List (List ℕ)) (free going taken : Bool) (p : Plac
     → i < length ss → taken ≡ takes free going p (get_or ss i d)
     → length (spelled (tokens ++ tokens_given free going p (drop i ss))) ≤ 1048576
     → length (spelled (tokens ++ part_given taken p (get_or ss i d))) ≤ 1048576
-source_fits tokens free going taken p ss i d less t h =
-    let parted = rw (drop_more ss i d less) at h in rw t (part_fits tokens _ _ parted)
+source_fits = grind (arith, nat_tests, drop_more, part_fits)

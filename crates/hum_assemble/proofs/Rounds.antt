@@ -1,17 +1,15 @@
 -- All sources, where a record is given.
-use Rattle.std.proofs.Common.{◌≡◌, ◌∙◌, refl, sym, ap, ℕ, zero, suc, ◌≤◌, ◌<◌, ◌⊎◌, inl, inr, Bool}
-use Rattle.std.proofs.lemmas.Bool.{leb-true, leb-false}
-use Rattle.std.proofs.Common.{true, false, ◌&&◌, ◌||◌, cond, List, [], ◌∷◌, ◌++◌, length, arith}
+use Rattle.std.proofs.lemmas.Grind.{common_steps}
+use Rattle.std.proofs.lemmas.Bool.Decides.{nat_tests}
+use Rattle.std.proofs.Common.{◌≡◌, ◌∙◌, refl, sym, ap, ℕ, ◌≤◌, ◌<◌, ◌⊎◌, Bool}
+use Rattle.std.proofs.Common.{true, false, ◌&&◌, ◌||◌, List, [], ◌∷◌, ◌++◌, length, arith}
 use Rattle.std.proofs.Common.{length-append, replicate}
-use Rattle.std.specs.Prelude.{nat_le, None, Some}
+use Rattle.std.specs.Prelude.{None, Some}
 use Rattle.std.specs.List.{AllByRecursion}
 use Rattle.hum_score.specs.declared.records.SpinedKind.{SpinedKind}
-use Rattle.hum_score.specs.declared.records.SpinedKind.TheVariants.{Local, Interpretation, Values}
-use Rattle.hum_score.specs.Row.{Row, Comment, Spined, tokens_of}
+use Rattle.hum_score.specs.Row.{Row, tokens_of}
 use Rattle.hum_score.specs.Rules.{fault_of}
-use Rattle.hum_score.specs.Spines.{Path, Unopened, Spines, exclusives, width, after}
-use Rattle.hum_path.proofs.Plain.{sound_width}
-use Rattle.hum_path.proofs.Widths.{text_width}
+use Rattle.hum_score.specs.Spines.{Path, exclusives, width, after}
 use Rattle.hum_stage.specs.declared.faults.End.TheVariants.{Closed}
 use Rattle.hum_assemble.specs.declared.places.Place.{Place}
 use Rattle.hum_assemble.specs.Source.{Source, is_inside}
@@ -35,12 +33,7 @@ NoneInside = AllByRecursion (λ s. is_inside s.path ≡ false)
 
 -- the earliest place is before all
 pub earlier_le : (n : ℕ) (p q : Place) → n ≤ rank (earlier p q) → (n ≤ rank p) × (n ≤ rank q)
-earlier_le n p q h =
-    (elim (nat_le (rank p) (rank q)) as (λ b. nat_le (rank p) (rank q) ≡ b
-    → n ≤ rank (cond b p q) → (n ≤ rank p) × (n ≤ rank q)) [
-      | true ↦ λ e w. let l = leb-true (rank p) (rank q) e in (w, omega (arith, l, w))
-      | false ↦ λ e w. let l = leb-false (rank p) (rank q) e in (omega (arith, l, w), w)
-    ]) refl h
+earlier_le = grind (arith, nat_tests)
 
 pub all_show : (going : Bool) (p : Place) (ss : List Source) → AllKnown going ss
     → rank p ≤ rank (earliest going ss) → AllShow going p ss
@@ -57,8 +50,7 @@ none_inside going p (s ∷ ss) o k l =
 
 -- Sources go on as sources of scores.
 or_false : (a b : Bool) → (a || b) ≡ false → (a ≡ false) × (b ≡ false)
-or_false true b h = cc
-or_false false b h = (refl, h)
+or_false = grind (arith, nat_tests)
 
 shared_free : (free going : Bool) (p : Place) (s : Source) → (is_shared p ≡ true → free ≡ true)
     → is_shared p ≡ true → still_free free going p s ≡ true
@@ -81,10 +73,7 @@ names_of (s ∷ ss) = exclusives s.path ++ names_of ss
 
 pub names_spines : (ss : List Source) → length (names_of ss) ≡ spines ss
 names_spines [] = refl
-names_spines (s ∷ ss) =
-    let e = names_spines ss in
-    let l = length-append (exclusives s.path) (names_of ss) in
-    omega (arith, e, l)
+names_spines (s ∷ ss) = grind (arith, common_steps, names_spines ss)
 
 -- A source has spines, or has ended without any.
 abbrev pub IsSettled : Source → Type 0
@@ -95,25 +84,18 @@ AllSettled = AllByRecursion IsSettled
 
 -- who takes has spines
 pub opened_taker : (p : Place) (s : Source) → IsSettled s → Takes p s → is_opened s.path ≡ true
-opened_taker p s (inl o) t = o
-opened_taker p s (inr e) t = absurd (let v = sym (e.0) ∙ t.is in cc)
+opened_taker = grind (arith, nat_tests)
 
 row_wide : (path : Path) (row : Row) (kind : SpinedKind) → is_opened path ≡ true
     → Some kind ≡ spined_of row → fault_of path row ≡ None
     → length (exclusives path) ≡ length (tokens_of row)
-row_wide Unopened row kind o k h = cc
-row_wide (Spines names) (Comment text) kind o k h = cc
-row_wide (Spines names) (Spined Interpretation tokens) kind o k h = sym (sound_width names tokens h)
-row_wide (Spines names) (Spined Local tokens) kind o k h = sym (text_width (Spines names) tokens h)
-row_wide (Spines names) (Spined Values tokens) kind o k h = sym (text_width (Spines names) tokens h)
+row_wide = grind (arith, nat_tests)
 
 replicate_length : (n : ℕ) (token : List ℕ) → length (replicate n token) ≡ n
-replicate_length zero token = refl
-replicate_length (suc n) token = ap suc (replicate_length n token)
+replicate_length = grind (arith, common_steps)
 
 and_right : (a b : Bool) → (a && b) ≡ true → b ≡ true
-and_right true b h = h
-and_right false b h = cc
+and_right = grind (arith, nat_tests)
 
 pub taken_by : (free going : Bool) (p : Place) (s : Source) → is_over p ≡ false → IsSound s
     → takes free going p s ≡ true → Takes p s

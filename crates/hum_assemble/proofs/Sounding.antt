@@ -1,10 +1,11 @@
 -- Records that break no path rule.
-use Rattle.std.proofs.Common.{◌≡◌, ◌≢◌, ◌∙◌, refl, sym, ap, ℕ, ◌+◌, ◌≤◌, Bool, true, false}
-use Rattle.std.proofs.lemmas.Bool.{le-ltb, eq-eqb}
-use Rattle.std.proofs.Common.{not, ◌||◌, List, [], ◌∷◌, length, map}
+use Rattle.std.proofs.lemmas.Grind.{common_steps}
+use Rattle.std.proofs.lemmas.Bool.Decides.{nat_tests}
+use Rattle.std.proofs.Common.{◌≡◌, ◌≢◌, ◌∙◌, refl, ap, ℕ, ◌≤◌, Bool, true, false, arith}
+use Rattle.std.proofs.lemmas.Bool.{le-ltb}
+use Rattle.std.proofs.Common.{◌||◌, List, [], ◌∷◌, length, map}
 use Rattle.std.specs.Prelude.{◌==◌, nat_lt, None}
 use Rattle.std.specs.List.{list_any, list_all, find}
-use Rattle.std.proofs.lemmas.List.{length-map}
 use Rattle.hum_score.specs.Spelling.{is_empty}
 use Rattle.hum_score.specs.declared.spines.Sign.{Sign}
 use Rattle.hum_score.specs.declared.spines.Sign.TheVariants.{Split, Join, Exchange, Add, End}
@@ -12,7 +13,7 @@ use Rattle.hum_score.specs.declared.spines.Sign.TheVariants.{Exclusive, Plain}
 use Rattle.hum_score.specs.Sign.{sign_of, is_exclusive, all_plain}
 use Rattle.hum_score.specs.Rules.{breaks, breaks_as_text, in_order, has_unnamed, has_bare}
 use Rattle.hum_score.specs.Rules.{has_lone_join, is_pair_or_none, has_mixed_join}
-use Rattle.hum_score.specs.Spines.{Unopened, Spines, exchanges, moves_under, renamed}
+use Rattle.hum_score.specs.Spines.{Unopened, Spines, exchanges}
 use Rattle.hum_path.specs.Onward.{beginnings, onward}
 use Rattle.hum_path.proofs.Onwards.{names_onward}
 use Rattle.hum_path.proofs.Staying.{plain_breaks}
@@ -22,20 +23,11 @@ use Rattle.hum_assemble.proofs.Beside.{Leads}
 few_fit : (n : ℕ) → n ≤ 4096 → nat_lt 4096 n ≡ false
 few_fit n h = le-ltb 4096 n h
 
-same_count : (n m : ℕ) → n ≡ m → not (m == n) ≡ false
-same_count n m h = rw (eq-eqb m n (sym h)) refl
-
 -- an interpretation that obeys the rules, where there are few spines
 pub leads_sound : (names tokens result : List (List ℕ)) → Leads names tokens result
     → length result ≤ 4096 → (length names == 0) ≡ false
     → find (breaks (Spines names) tokens) in_order ≡ None
-leads_sound names tokens result o few some =
-    let wide = same_count (length names) (length tokens) o.wide in
-    let size : length (moves_under (map sign_of tokens)) ≡ length result =
-    sym (length-map (moves_under (map sign_of tokens)) (renamed names tokens)) ∙ ap length o.leads in
-    let fits : nat_lt 4096 (length (moves_under (map sign_of tokens))) ≡ false =
-    ap (nat_lt 4096) size ∙ few_fit (length result) few in
-    rw (some, wide, o.unnamed, o.bare, o.steers, o.lone, o.pair, o.mixed, fits) refl
+leads_sound = grind (arith, common_steps)
 
 -- an opening record
 pub opening_sound : (tokens : List (List ℕ)) → list_all is_exclusive (map sign_of tokens) ≡ true
@@ -47,15 +39,12 @@ opening_sound tokens all bare few = rw (all, bare, few_fit (length tokens) few) 
 pub text_sound : (names tokens : List (List ℕ)) → length names ≡ length tokens
     → list_any is_empty names ≡ false → (length names == 0) ≡ false
     → find (breaks_as_text (Spines names) tokens) in_order ≡ None
-text_sound names tokens wide named some =
-    rw (some, same_count (length names) (length tokens) wide, named) refl
+text_sound = grind (arith, nat_tests)
 
 -- an interpretation that asks nothing
 some_tokens : (names tokens : List (List ℕ)) → length names ≡ length tokens
     → (length names == 0) ≡ false → tokens ≢ []
-some_tokens names tokens wide some e =
-    let z : length names ≡ 0 = wide ∙ ap length e in
-    let f : (0 == 0) ≡ false = ap (λ (n : ℕ). n == 0) (sym z) ∙ some in cc
+some_tokens = grind (arith, nat_tests)
 
 pub plain_sound : (names tokens : List (List ℕ)) → length names ≡ length tokens
     → list_any is_empty names ≡ false → (length names == 0) ≡ false → length names ≤ 4096
@@ -66,22 +55,14 @@ plain_sound names tokens wide named some few plain =
 
 -- a record that ends all spines
 or_false : (a b : Bool) → (a || b) ≡ false → (a ≡ false) × (b ≡ false)
-or_false true b h = cc
-or_false false b h = (refl, h)
+or_false = grind (arith, nat_tests)
 
 ends_unnamed : (names : List (List ℕ)) (signs : List Sign) → list_all is_end signs ≡ true
     → list_any is_empty names ≡ false → has_unnamed names signs ≡ false
-ends_unnamed [] signs h n = refl
-ends_unnamed (x ∷ names) [] h n = refl
 ends_unnamed (x ∷ names) (End ∷ signs) h n =
     let b = or_false (is_empty x) (list_any is_empty names) n in
     rw b.0 (ends_unnamed names signs h b.1)
-ends_unnamed (x ∷ names) (Split ∷ signs) h n = cc
-ends_unnamed (x ∷ names) (Join ∷ signs) h n = cc
-ends_unnamed (x ∷ names) (Exchange ∷ signs) h n = cc
-ends_unnamed (x ∷ names) (Add ∷ signs) h n = cc
-ends_unnamed (x ∷ names) (Exclusive ∷ signs) h n = cc
-ends_unnamed (x ∷ names) (Plain ∷ signs) h n = cc
+ends_unnamed names signs h k = grind (arith, nat_tests)
 
 pub record Ends (signs : List Sign) : Type 0 where
   pub exclusive : list_any is_exclusive signs ≡ false
@@ -114,23 +95,15 @@ all_ends (End ∷ signs) h = more (all_ends signs h)
       where
         by_signs : (ss : List Sign) → has_mixed_join (y ∷ names) ss ≡ false
             → has_mixed_join (x ∷ y ∷ names) (End ∷ ss) ≡ false
-        by_signs [] e = refl
-        by_signs (r ∷ ss) e = e
+        by_signs = grind (arith, nat_tests)
 
     onward_end : (f : List ℕ → List ℕ) (b : Bool) (xs : List (List ℕ))
         → ((f : List ℕ → List ℕ) (b : Bool) (xs : List (List ℕ)) → onward f (beginnings b signs) signs xs ≡ [])
         → onward f (beginnings b (End ∷ signs)) (End ∷ signs) xs ≡ []
-    onward_end f b [] ih = refl
-    onward_end f b (x ∷ xs) ih = ih f false xs
+    onward_end = grind (arith, nat_tests)
 
     more : Ends signs → Ends (End ∷ signs)
-    more e = record {
-      exclusive = e.exclusive;
-      lone = e.lone;
-      places = λ j. e.places (j + 1);
-      mixed = λ names. mixed_end names e.mixed;
-      none = λ f b xs. onward_end f b xs e.none;
-    }
+    more = grind (arith, nat_tests, mixed_end, onward_end)
 all_ends (Split ∷ signs) h = cc
 all_ends (Join ∷ signs) h = cc
 all_ends (Exchange ∷ signs) h = cc

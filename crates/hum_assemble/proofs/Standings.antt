@@ -1,15 +1,15 @@
 -- What an assembler does, and what it stands for then.
+use Rattle.std.proofs.lemmas.Bool.Decides.{nat_tests}
 use Rattle.std.proofs.lemmas.Bool.{lt-ltb, le-ltb}
 use Rattle.std.proofs.Common.{◌≡◌, ◌∙◌, refl, sym, ap, add-one, ℕ, zero, suc, ◌+◌, ◌<◌}
-use Rattle.std.proofs.Common.{inl, inr, Bool, true, false, ◌&&◌, ◌||◌, cond, List, [], ◌∷◌}
+use Rattle.std.proofs.Common.{inl, inr, Bool, true, false, ◌||◌, cond, List, [], ◌∷◌}
 use Rattle.std.proofs.Common.{length, arith, map}
 use Rattle.std.proofs.lemmas.List.{length-map}
-use Rattle.std.specs.Prelude.{Option, None, Some, is_none, is_some, nat_lt}
+use Rattle.std.specs.Prelude.{Option, None, Some, is_none, nat_lt}
 use Rattle.std.specs.Prelude.{slice_get}
 use Rattle.std.specs.List.{list_any, position_from}
 use Rattle.std.proofs.lemmas.Option.{slice_get_past}
 use Rattle.hum_score.specs.Row.{Row, text_of}
-use Rattle.hum_stage.specs.declared.faults.Rule.{Rule}
 use Rattle.hum_words.specs.declared.commands.Command.TheVariants.{Assemble}
 use Rattle.hum_stage.specs.declared.faults.End as end
 use Rattle.hum_assemble.specs.declared.places.Place.{Place}
@@ -22,7 +22,7 @@ use Rattle.hum_assemble.specs.Change.{had_at}
 use Rattle.hum_assemble.specs.Merge.{Merge, unless_missing, ahead_at, unless_broken}
 use Rattle.hum_assemble.specs.Merge.{rule_broken, spines, all_moved, made, ahead, given_row}
 use Rattle.hum_assemble.specs.Merge.{given_on}
-use Rattle.hum_assemble.specs.Round.{shown, is_asked, is_lost, is_missing, earliest}
+use Rattle.hum_assemble.specs.Round.{is_lost, is_missing, earliest}
 use Rattle.hum_assemble.specs.Round.{any_due}
 use Rattle.hum_assemble.specs.Places.{is_over}
 use Rattle.hum_assemble.specs.Meaning.{goes_on, opening, begun}
@@ -64,17 +64,15 @@ record First (i k : ℕ) (es : List (Option end.End)) : Type 0 where
 
 first_open : (i k : ℕ) (es : List (Option end.End)) → position_from is_none i es ≡ Some k
     → First i k es
-first_open i k [] h = cc
-first_open i k (None ∷ es) h = record { place = 0; is = (let e : i ≡ k = cc in omega (arith, e)); opens = refl }
 first_open i k (Some e ∷ es) h = let f = first_open (i + 1) k es h in record { place = suc f.place; is = (let w = f.is in omega (arith, w)); opens = f.opens }
+first_open i k es h = grind (arith, nat_tests)
 
 pub leftmost : (k : ℕ) (es : List (Option end.End)) → position_from is_none 0 es ≡ Some k → OpenIn k es
 leftmost k es h = let f = first_open 0 k es h in let e : k ≡ f.place = (let w = f.is in omega (arith, w)) in rw e f.opens
 
 -- where one hasn't ended there is no end of all
 with_none : (e : Option end.End) → with_end e None ≡ None
-with_none None = refl
-with_none (Some e) = refl
+with_none = grind (arith, nat_tests)
 
 pub no_end : (j : ℕ) (es : List (Option end.End)) → OpenIn j es → inputs_end es ≡ None
 no_end j [] i = absurd i
@@ -82,12 +80,10 @@ no_end zero (e ∷ es) i = rw i refl
 no_end (suc j) (e ∷ es) i = rw (no_end j es i) (with_none e)
 
 or_left : (a b : Bool) → (a || b) ≡ false → a ≡ false
-or_left true b h = cc
-or_left false b h = refl
+or_left = grind (arith, nat_tests)
 
 or_right : (a b : Bool) → (a || b) ≡ false → b ≡ false
-or_right true b h = cc
-or_right false b h = h
+or_right = grind (arith, nat_tests)
 
 -- What is waited for: a source without a record, that hasn't ended.
 abbrev pub WaitsAt : ℕ → List Source → Type 0
@@ -100,27 +96,9 @@ record Waiting (i k : ℕ) (ss : List Source) : Type 0 where
   is : k ≡ i + place
   waits : WaitsAt place ss
 
-and_true : (a b : Bool) → (a && b) ≡ true → (a ≡ true) × (b ≡ true)
-and_true true b h = (refl, h)
-and_true false b h = cc
-
-not_some : (o : Option end.End) → is_some o ≡ false → o ≡ None
-not_some None h = refl
-not_some (Some e) h = cc
-
-none_coming : (s : Source) (coming : List Row)
-    → shown s ≡ shown (record { path = s.path; due = s.due; coming = coming; ended = s.ended })
-    → is_none (shown s) ≡ true → coming ≡ []
-none_coming s [] e h = refl
-none_coming s (x ∷ xs) e h = absurd (let w = rw e at h in cc)
-
 missing_waits : (going : Bool) (s : Source) → is_missing going s ≡ true → is_lost going s ≡ false
     → (s.coming ≡ []) × (s.ended ≡ None)
-missing_waits going s h l =
-    let p = and_true (is_asked going s) (is_none (shown s)) h in
-    let a = p.0 in
-    let n = p.1 in
-    (none_coming s s.coming refl n, not_some s.ended (rw (a, n) at l))
+missing_waits = grind (arith, nat_tests)
 
 first_waits : (going : Bool) (i k : ℕ) (ss : List Source)
     → position_from (is_missing going) i ss ≡ Some k → list_any (is_lost going) ss ≡ false
@@ -134,21 +112,15 @@ first_waits going i k (s ∷ ss) h l =
           record { place = suc f.place; is = (let v = f.is in omega (arith, v)); waits = f.waits }
     ]) refl h
 
-broken_waits : (k : ℕ) (p : Place) (o : Option Rule) → unless_broken p o ≡ Wants k → ⊥
-broken_waits k p None h = cc
-broken_waits k p (Some rule) h = cc
-
 pub at_waits : (going : Bool) (p : Place) (ss : List Source) (given k : ℕ) (b : Bool)
     → cond b NothingMore (unless_broken p (rule_broken (spines (all_moved true going p ss))
     (length (text_of (made going p ss))) given)) ≡ Wants k
     → ⊥
-at_waits going p ss given k true h = cc
-at_waits going p ss given k false h = broken_waits k p _ h
+at_waits = grind (arith, nat_tests)
 
 pub missing_is : (k : ℕ) (o : Option ℕ) (known : next.Next) → (known ≡ Wants k → ⊥)
     → unless_missing o known ≡ Wants k → o ≡ Some k
-missing_is k None known n h = absurd (n h)
-missing_is k (Some j) known n h = cc
+missing_is = grind (arith, nat_tests)
 
 ahead_waits : (going : Bool) (ss : List Source) (given k : ℕ) (b : Bool)
     → list_any (is_lost going) ss ≡ b
@@ -179,10 +151,7 @@ reached_on (suc n) m s r = on_going n m r.0 r.1 ∙ reached_on n (given_on r.0 m
 
 pub stopped_rests : (a : next.Next) → is_stopped a ≡ true
     → (is_giving a ≡ false) × (is_waiting a ≡ false)
-stopped_rests (Gives p) h = cc
-stopped_rests (Refused rule) h = (refl, refl)
-stopped_rests (Wants j) h = cc
-stopped_rests NothingMore h = (refl, refl)
+stopped_rests = grind (arith, nat_tests)
 
 -- the same can be done next
 pub same_next : (stage : ℕ) (kept : Merge) (spent : Bool) (t : Moment)
@@ -193,18 +162,12 @@ same_next stage kept spent t h = elim h.keeps [ inl e ↦ ap ahead e | inr d ↦
 same_given : (stage : ℕ) (kept : Merge) (spent : Bool) (t : Moment)
     (h : Standing stage kept spent t)
     → kept.given ≡ t.given
-same_given stage kept spent t h =
-    let r = reaches_given t.given (opening t.inputs) h.at h.reached in
-    let s : kept.given ≡ h.at.given = elim h.keeps [ inl e ↦ ap (λ (m : Merge). m.given) e | inr d ↦ d.given ] in
-    omega (arith, r, s)
+same_given = grind (arith, nat_tests, reaches_given)
 
 pub same_ends : (stage : ℕ) (kept : Merge) (spent : Bool) (t : Moment)
     (h : Standing stage kept spent t)
     → ends_in kept ≡ ends t.inputs
-same_ends stage kept spent t h =
-    let r = reaches_ended t.given (opening t.inputs) h.at h.reached in
-    let s : ends_in kept ≡ ends_in h.at = elim h.keeps [ inl e ↦ ap ends_in e | inr d ↦ d.ended ] in
-    s ∙ (r ∙ begun_ends t.inputs)
+same_ends = grind (arith, nat_tests, reaches_ended, begun_ends)
 
 -- a source for each input
 pub as_many : (stage : ℕ) (kept : Merge) (spent : Bool) (t : Moment)
@@ -258,11 +221,7 @@ resting_wants stage kept spent t h r =
 giving_at : (stage : ℕ) (kept : Merge) (spent : Bool) (t : Moment)
     (h : Standing stage kept spent t) (p : Place)
     → ahead kept ≡ Gives p → kept ≡ h.at
-giving_at stage kept spent t h p g = elim h.keeps [
-  | inl e ↦ e
-  | inr d ↦
-      absurd (let s = stopped_rests (ahead h.at) d.stopped in let e = ap is_giving (sym (d.same) ∙ g) in cc)
-]
+giving_at = grind (arith, nat_tests)
 
 giving_now : (stage : ℕ) (kept : Merge) (spent : Bool) (t : Moment)
     (h : Standing stage kept spent t) (p : Place)
@@ -357,10 +316,7 @@ reached_after j change t s i r =
 wants_open : (stage : ℕ) (kept : Merge) (spent : Bool) (t : Moment)
     (h : Standing stage kept spent t) (j : ℕ) (a : next.Next)
     → ahead kept ≡ a → wants_by kept a ≡ Some j → OpenIn j (ends_in kept)
-wants_open stage kept spent t h j (Gives p) e w = cc
-wants_open stage kept spent t h j (Wants k) e w = let s : k ≡ j = cc in open_in j kept.sources (waiting_open j kept.sources (waits_at kept j (e ∙ ap Wants s)))
-wants_open stage kept spent t h j (Refused rule) e w = leftmost j (ends_in kept) w
-wants_open stage kept spent t h j NothingMore e w = leftmost j (ends_in kept) w
+wants_open = grind (arith, nat_tests, open_in, waiting_open, waits_at, leftmost)
 
 pub open_wanted : (stage : ℕ) (kept : Merge) (spent : Bool) (t : Moment)
     (h : Standing stage kept spent t) (j : ℕ)
@@ -386,10 +342,7 @@ changed_ends j e ss ss' h = end_put j e ss ∙ (ap (put_end j e) h ∙ sym (end_
 
 pub wanted_is : (stage : ℕ) (kept : Merge) (spent : Bool) (t : Moment) (j k : ℕ)
     → Standing stage kept spent t → ahead kept ≡ Wants k → wants_of t ≡ Some j → k ≡ j
-wanted_is stage kept spent t j k h e w =
-    let s = wants_stands stage kept spent t h ∙ w in
-    let s' : Some k ≡ Some j = ap (wants_by kept) (sym e) ∙ s in
-    cc
+wanted_is stage kept spent t j k h e w = grind (arith, nat_tests, wants_stands stage kept spent t h)
 
 -- One record more is put, where it is kept.
 pub put_kept : (stage : ℕ) (kept : Merge) (t : Moment) (j k : ℕ) (change : Change)
@@ -400,8 +353,7 @@ put_kept stage kept t j k change h e w =
     let i = rw (same_ends stage kept false t h) at (open_wanted stage kept false t h j w) in
     let live : kept ≡ h.at = elim h.keeps [
       | inl x ↦ x
-      | inr d ↦ absurd
-          (let s = stopped_rests (ahead h.at) d.stopped in let v = ap is_waiting (sym (d.same) ∙ e) in cc)
+      | inr d ↦ grind (arith, nat_tests, stopped_rests, is_waiting)
     ] in
     record {
       stage_is = h.stage_is;

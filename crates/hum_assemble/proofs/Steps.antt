@@ -1,14 +1,13 @@
 -- Records given one after another.
-use Rattle.std.proofs.lemmas.Bool.{eq-eqb, ltb-false}
+use Rattle.std.proofs.lemmas.Bool.Decides.{nat_tests}
+use Rattle.std.proofs.lemmas.Bool.{eq-eqb}
 use Rattle.std.proofs.Common.{◌≡◌, ◌∙◌, refl, sym, ap, ℕ, zero, suc, ◌+◌, ◌≤◌, Bool, true}
 use Rattle.std.proofs.Common.{false, not, ◌||◌, cond, List, [], ◌∷◌, length, arith, map}
-use Rattle.std.specs.Prelude.{Option, None, Some, ◌==◌}
-use Rattle.std.specs.Prelude.{nat_lt, nat_le}
+use Rattle.std.specs.Prelude.{Option, ◌==◌}
+use Rattle.std.specs.Prelude.{nat_le}
 use Rattle.std.specs.List.{list_any, position_from}
 use Rattle.hum_score.specs.Row.{Row, text_of}
 use Rattle.hum_score.specs.Spines.{Path}
-use Rattle.hum_stage.specs.declared.faults.Rule.{Rule}
-use Rattle.hum_stage.specs.declared.faults.Rule.TheVariants.{A1, L1, L2}
 use Rattle.hum_stage.specs.declared.faults.End as end
 use Rattle.hum_assemble.specs.declared.places.Place.{Place}
 use Rattle.hum_assemble.specs.declared.places.Next as next
@@ -16,16 +15,16 @@ use Rattle.hum_assemble.specs.declared.places.Next.TheVariants.{Gives, Refused, 
 use Rattle.hum_assemble.specs.declared.places.Next.TheVariants.{Over as NothingMore}
 use Rattle.hum_assemble.specs.Source.{Source}
 use Rattle.hum_assemble.specs.Change.{IsOpenAt}
-use Rattle.hum_assemble.specs.Merge.{Merge, moved, all_moved, spines, made, rule_broken}
-use Rattle.hum_assemble.specs.Merge.{unless_broken, unless_missing, ahead, ahead_at, ahead_of}
+use Rattle.hum_assemble.specs.Merge.{Merge, moved, all_moved, made}
+use Rattle.hum_assemble.specs.Merge.{unless_missing, ahead, ahead_at, ahead_of}
 use Rattle.hum_assemble.specs.Merge.{given_row, given_on, advanced}
 use Rattle.hum_assemble.specs.Places.{rank, is_over, is_shared}
 use Rattle.hum_assemble.specs.Round.{is_missing, is_lost, place_at, earliest, any_due}
 use Rattle.hum_assemble.specs.Round.{takes, still_free, AllKnown}
 use Rattle.hum_assemble.specs.Meaning.{gives, goes_on, total, all_given, rest}
 use Rattle.hum_assemble.specs.Taking.{is_at, IsGiving}
-use Rattle.hum_assemble.proofs.Taking.{empty_over, or_not_false}
-use Rattle.hum_assemble.proofs.Growing.{Ahead, Lost, Known, seen, is_waiting}
+use Rattle.hum_assemble.proofs.Taking.{or_not_false}
+use Rattle.hum_assemble.proofs.Growing.{Ahead, seen, is_waiting}
 
 abbrev pub is_giving : next.Next → Bool
 is_giving (Gives p) = true
@@ -52,25 +51,14 @@ pub record IsGiven (going : Bool) (ss : List Source) (given : ℕ) (p : Place) :
   pub place : p ≡ earliest going ss
   pub some : is_over p ≡ false
 
-broken_gives : (q p : Place) (o : Option Rule) → unless_broken q o ≡ Gives p → p ≡ q
-broken_gives q p None h = cc
-broken_gives q p (Some rule) h = cc
-
 at_gives : (going : Bool) (q p : Place) (ss : List Source) (given : ℕ)
     → ahead_at going q ss given ≡ Gives p → (p ≡ q) × (is_over q ≡ false)
-at_gives going q p ss given h =
-    (elim (is_over q) as (λ b. is_over q ≡ b → cond b NothingMore
-    (unless_broken q (rule_broken (spines (all_moved true going q ss)) (length (text_of (made going q ss)))
-    given)) ≡ Gives p → (p ≡ q) × (is_over q ≡ false)) [
-      | true ↦ λ e w. cc
-      | false ↦ λ e w. (broken_gives q p _ w, e)
-    ]) refl h
+at_gives = grind (arith, nat_tests)
 
 missing_given : (going : Bool) (ss : List Source) (given : ℕ) (p : Place) (o : Option ℕ)
     → unless_missing o (ahead_at going (earliest going ss) ss given) ≡ Gives p
     → ahead_at going (earliest going ss) ss given ≡ Gives p
-missing_given going ss given p None h = h
-missing_given going ss given p (Some j) h = cc
+missing_given = grind (arith, nat_tests)
 
 pub lost_given : (going : Bool) (ss : List Source) (given : ℕ) (p : Place) (b : Bool)
     → cond b NothingMore (unless_missing (position_from (is_missing going) 0 ss)
@@ -81,8 +69,7 @@ lost_given going ss given p false h = (refl, missing_given going ss given p _ h)
 
 with_known : (going : Bool) (ss : List Source) (given : ℕ) (p : Place)
     → list_any (is_lost going) ss ≡ false → Ahead going ss given → AllKnown going ss
-with_known going ss given p f (Lost t) = cc
-with_known going ss given p f (Known k) = k
+with_known = grind (arith, nat_tests)
 
 pub is_given : (going : Bool) (ss : List Source) (given : ℕ) (p : Place)
     → ahead_of going ss given ≡ Gives p → IsGiven going ss given p
@@ -97,8 +84,7 @@ is_given going ss given p h =
 
 -- Ends stay.
 pub moved_ended : (b going : Bool) (p : Place) (s : Source) → (moved b going p s).ended ≡ s.ended
-moved_ended false going p s = refl
-moved_ended true going p s = elim s.coming as (λ c. (advanced s.path s.due c s.ended).ended ≡ s.ended) [ [] ↦ refl | x ∷ xs ↦ refl ]
+moved_ended = grind (arith, nat_tests)
 
 pub all_ended : (free going : Bool) (p : Place) (ss : List Source)
     → map (λ s. s.ended) (all_moved free going p ss) ≡ map (λ s. s.ended) ss
@@ -117,13 +103,11 @@ one_less : (going : Bool) (p : Place) (path : Path) (due : Bool) (coming : List 
     → is_over p ≡ false
     → is_at going p (record { path = path; due = due; coming = coming; ended = ended }) ≡ true
     → length (advanced path due coming ended).coming + 1 ≡ length coming
-one_less going p path due [] ended o h = let e = ap (λ (q : Place). rank p == rank q) (empty_over going path due ended) in cc
-one_less going p path due (x ∷ xs) ended o h = omega arith
+one_less = grind (arith, nat_tests)
 
 not_more : (b going : Bool) (p : Place) (s : Source)
     → length (moved b going p s).coming ≤ length s.coming
-not_more false going p s = omega arith
-not_more true going p s = elim s.coming as (λ c. length (advanced s.path s.due c s.ended).coming ≤ length c) [ [] ↦ omega arith | x ∷ xs ↦ omega arith ]
+not_more = grind (arith, nat_tests)
 
 pub total_le : (free going : Bool) (p : Place) (ss : List Source)
     → total (all_moved free going p ss) ≤ total ss
@@ -165,9 +149,7 @@ takes_one m p h =
 -- All records that can be given.
 pub gives_going : (n : ℕ) (m : Merge) (p : Place) → ahead m ≡ Gives p
     → gives (suc n) m ≡ given_row p m ∷ gives n (given_on p m)
-gives_going n m p h = ap (λ (a : next.Next). elim a as (λ b. List Row)
-    [ Gives q ↦ given_row q m ∷ gives n (given_on q m) | Refused rule ↦ [] | Wants j ↦ [] | NothingMore ↦ [] ])
-    h
+gives_going = grind (arith, nat_tests)
 
 pub gives_resting : (n : ℕ) (m : Merge) → is_giving (ahead m) ≡ false → gives n m ≡ []
 gives_resting zero m h = refl
@@ -222,10 +204,7 @@ enough_suc : (k l : ℕ) (m : Merge) → total m.sources ≤ suc k → total m.s
     → Same (suc k) l m
 enough_suc k l m h i ih (Resting r) = enough_resting (suc k) l m r
 enough_suc k zero m h i ih (Going p e) = absurd (let t = takes_one m p e in omega (arith, t, i))
-enough_suc k (suc l) m h i ih (Going p e) =
-    let t = takes_one m p e in
-    let n = ih l (given_on p m) (omega (arith, t, h)) (omega (arith, t, i)) in
-    (gives_going k m p e ∙ (ap (λ (x : List Row). given_row p m ∷ x) n.0 ∙ sym (gives_going l m p e)), on_going k m p e ∙ (n.1 ∙ sym (on_going l m p e)))
+enough_suc k (suc l) m h i ih (Going p e) = grind (arith, nat_tests, takes_one, gives_going, on_going)
 
 pub enough : (k l : ℕ) (m : Merge) → total m.sources ≤ k → total m.sources ≤ l → Same k l m
 enough zero l m h i = enough_zero l m h (doing m)
@@ -256,27 +235,9 @@ giving ss given p h =
       at = rw g.place (earliest_at (any_due ss) ss (rw g.place at g.some));
     }
 
--- what a given record's text has room for
-unbroken_fits : (q p : Place) (spines bytes given : ℕ) → unless_broken q (rule_broken spines bytes given) ≡ Gives p
-    → bytes ≤ 1048576
-unbroken_fits q p spines bytes given h = by_tests (nat_lt 4096 spines) (nat_lt 1048576 bytes) refl h
-  where
-    by_tests : (a b : Bool) → nat_lt 1048576 bytes ≡ b
-        → unless_broken q (cond a (Some A1) (cond b (Some L1) (cond (nat_le 4294967295 given) (Some L2) None))) ≡ Gives p
-        → bytes ≤ 1048576
-    by_tests true b e h = cc
-    by_tests false true e h = cc
-    by_tests false false e h = ltb-false 1048576 bytes e
-
 at_fits : (going : Bool) (q p : Place) (ss : List Source) (given : ℕ) → ahead_at going q ss given ≡ Gives p
     → length (text_of (made going q ss)) ≤ 1048576
-at_fits going q p ss given h = by_over (is_over q) h
-  where
-    by_over : (b : Bool)
-        → cond b NothingMore (unless_broken q (rule_broken (spines (all_moved true going q ss)) (length (text_of (made going q ss))) given))
-        ≡ Gives p → length (text_of (made going q ss)) ≤ 1048576
-    by_over true h = cc
-    by_over false h = unbroken_fits q p (spines (all_moved true going q ss)) (length (text_of (made going q ss))) given h
+at_fits = grind (arith, nat_tests)
 
 pub given_fits : (going : Bool) (ss : List Source) (given : ℕ) (p : Place) → ahead_of going ss given ≡ Gives p
     → length (text_of (made going p ss)) ≤ 1048576

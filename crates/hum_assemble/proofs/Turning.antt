@@ -1,25 +1,24 @@
 -- The opening record and the closing one.
-use Rattle.std.proofs.Common.{◌≡◌, ◌∙◌, refl, ap, ℕ, suc, ◌≤◌, ◌<◌, inl, inr}
-use Rattle.std.proofs.lemmas.Bool.{eqb-false, ne_eqb}
-use Rattle.std.proofs.Common.{Bool, true, false, ◌&&◌, ◌||◌, cond, List, [], ◌∷◌, ◌++◌, length}
+use Rattle.std.proofs.lemmas.Grind.{common_steps}
+use Rattle.std.proofs.Common.{◌≡◌, ◌∙◌, refl, ap, ℕ, ◌≤◌, ◌<◌, inl}
+use Rattle.std.proofs.lemmas.Bool.{eqb-false}
+use Rattle.std.proofs.Common.{Bool, true, false, ◌&&◌, List, [], ◌∷◌, ◌++◌}
 use Rattle.std.proofs.Common.{arith, map}
 use Rattle.std.specs.Prelude.{◌==◌, Option, None, Some}
 use Rattle.std.specs.List.{list_any, list_all, AllByRecursion}
 use Rattle.std.proofs.lemmas.Bool.Decides.{nat_tests}
-use Rattle.std.specs.Str.{bytes_eq}
-use lib.Chars.{codes}
 use Rattle.hum_score.specs.declared.records.SpinedKind.TheVariants.{Local, Interpretation, Values}
 use Rattle.hum_score.specs.Row.{Row, Comment, Spined, tokens_of}
 use Rattle.hum_score.specs.declared.spines.Sign.{Sign}
-use Rattle.hum_score.specs.Sign.{sign_of, is_exclusive, all_plain}
+use Rattle.hum_score.specs.Sign.{sign_of, is_exclusive}
 use Rattle.hum_score.specs.Rules.{fault_of, has_bare, is_unfinished}
 use Rattle.hum_score.specs.Spines.{Path, Unopened, Spines, exclusives, after}
-use Rattle.hum_path.proofs.Obeyed.{opens, obeys}
+use Rattle.hum_path.proofs.Obeyed.{obeys}
 use Rattle.hum_stage.specs.declared.faults.End as end
-use Rattle.hum_stage.specs.declared.faults.End.TheVariants.{Closed, Broken}
+use Rattle.hum_stage.specs.declared.faults.End.TheVariants.{Closed}
 use Rattle.hum_assemble.specs.declared.places.Place.TheVariants.{Opening}
-use Rattle.hum_assemble.specs.declared.places.Place.TheVariants.{Tandem, Change, Closing}
-use Rattle.hum_assemble.specs.Source.{Source, place, is_inside, is_end, unit_place, inside_place}
+use Rattle.hum_assemble.specs.declared.places.Place.TheVariants.{Closing}
+use Rattle.hum_assemble.specs.Source.{Source, place, is_end}
 use Rattle.hum_assemble.specs.Head.{is_opened}
 use Rattle.hum_assemble.specs.Places.{rank}
 use Rattle.hum_assemble.specs.Round.{place_at, is_missing}
@@ -40,22 +39,11 @@ use Rattle.hum_assemble.proofs.Alone.{NoneIn, names_in}
 list_all_append : (test : Sign → Bool) (xs ys : List (List ℕ))
     → list_all test (map sign_of xs) ≡ true → list_all test (map sign_of ys) ≡ true
     → list_all test (map sign_of (xs ++ ys)) ≡ true
-list_all_append test [] ys h k = k
-list_all_append test (x ∷ xs) ys h k =
-    (elim (test (sign_of x)) as (λ b. (b && list_all test (map sign_of xs)) ≡ true
-    → (b && list_all test (map sign_of (xs ++ ys))) ≡ true) [
-      | true ↦ λ e. list_all_append test xs ys e k
-      | false ↦ λ e. cc
-    ]) h
+list_all_append = grind (arith, common_steps)
 
 bare_append : (xs ys : List (List ℕ)) → has_bare xs ≡ false → has_bare ys ≡ false
     → has_bare (xs ++ ys) ≡ false
-bare_append [] ys h k = k
-bare_append (x ∷ xs) ys h k =
-    (elim (bytes_eq (codes "**") x) as (λ b. (b || has_bare xs) ≡ false → (b || has_bare (xs ++ ys)) ≡ false) [
-      | true ↦ λ e. cc
-      | false ↦ λ e. bare_append xs ys e k
-    ]) h
+bare_append = grind (arith, common_steps)
 
 -- Where an opening record is given, each source has one there or ends without any.
 idle : (due : Bool) (coming : List Row) (ended : Option end.End)
@@ -63,14 +51,7 @@ idle : (due : Bool) (coming : List Row) (ended : Option end.End)
     → 3 ≤ rank (place_at false (record { path = Unopened; due = due; coming = coming; ended = ended }))
     → is_at false Opening (record { path = Unopened; due = due; coming = coming; ended = ended }) ≡ false
     → (coming ≡ []) × (ended ≡ Some Closed)
-idle true (Comment text ∷ rows) ended k l n = absurd (omega (arith, l))
-idle false (Comment text ∷ rows) ended k l n = absurd (omega (arith, l))
-idle true (Spined kind tokens ∷ rows) ended k l n = cc
-idle false (Spined kind tokens ∷ rows) ended k l n = cc
-idle true [] ended k l n = cc
-idle false [] None k l n = cc
-idle false [] (Some Closed) k l n = (refl, refl)
-idle false [] (Some (Broken f)) k l n = cc
+idle = grind (arith, nat_tests)
 
 pub record Opens (ss : List Source) : Type 0 where
   pub exclusive : list_all is_exclusive (map sign_of (tokens_given true false Opening ss)) ≡ true
@@ -89,13 +70,7 @@ record Opened (path : Path) (row : Row) : Type 0 where
 
 opened_by : (path : Path) (row : Row) → path ≡ Unopened → Some Interpretation ≡ spined_of row
     → fault_of path row ≡ None → Opened path row
-opened_by Unopened (Comment text) u k h = cc
-opened_by Unopened (Spined Local tokens) u k h = cc
-opened_by Unopened (Spined Values tokens) u k h = cc
-opened_by Unopened (Spined Interpretation tokens) u k h =
-    let o = opens tokens h in
-    record { exclusive = o.exclusive; bare = o.bare; names = refl; is = refl }
-opened_by (Spines names) row u k h = cc
+opened_by = grind (arith, nat_tests)
 
 pub all_open : (ss : List Source) → AllUnopened ss → AllSound ss → AllShow false Opening ss
     → Opens ss
@@ -114,52 +89,17 @@ all_open (s ∷ ss) u i k =
             names = rw (at, f, m, o.names, ih.names) refl;
             settled = rw at (inl (ap is_opened m ∙ o.is), ih.settled);
           }
-      | false ↦ λ at.
-          let same : s ≡ record { path = Unopened; due = s.due; coming = s.coming; ended = s.ended } =
-          ap (λ (p : Path). record { path = p; due = s.due; coming = s.coming; ended = s.ended }) u.0 in
-          let known = k.0.known in
-          let later = k.0.later in
-          let none = idle s.due s.coming s.ended (rw same at known) (rw same at later) (rw same at at) in
-          record {
-            exclusive = rw (at, u.0) ih.exclusive;
-            bare = rw (at, u.0) ih.bare;
-            names = rw (at, u.0) ih.names;
-            settled = rw at (inr none, ih.settled);
-          }
+      | false ↦ grind (arith, nat_tests, idle)
     ]) refl
-
--- Where a closing record is given, each source has one there or no spine.
-unit_early : (row : Row) → rank (unit_place row) ≤ 9
-unit_early (Comment text) = omega arith
-unit_early (Spined Local tokens) = omega arith
-unit_early (Spined Values tokens) = omega arith
-unit_early (Spined Interpretation tokens) =
-    elim (list_all is_end (map sign_of tokens)) as (λ a. rank (cond a Closing (cond (all_plain tokens) Tandem Change)) ≤ 9) [
-      | true ↦ omega arith
-      | false ↦ elim (all_plain tokens) as (λ b. rank (cond b Tandem Change) ≤ 9) [ true ↦ omega arith | false ↦ omega arith ]
-    ]
-
-inside_soon : (row : Row) → rank (inside_place row) ≤ 1
-inside_soon (Comment text) = omega arith
-inside_soon (Spined kind tokens) = omega arith
 
 not_nine : (n : ℕ) → (9 == n) ≡ false → 9 ≤ n → 9 < n
 not_nine n h l = let other = eqb-false 9 n h in omega (arith, l, other)
 
 beyond : (path : Path) (row : Row) → 9 < rank (place path row) → exclusives path ≡ []
-beyond Unopened row h = refl
-beyond (Spines []) row h = refl
-beyond (Spines (n ∷ ns)) row h =
-    (elim (is_inside (Spines (n ∷ ns))) as (λ b. 9 < rank (cond b (inside_place row) (unit_place row)) → n ∷ ns ≡ []) [
-      | true ↦ λ e. let f = inside_soon row in absurd (omega (arith, e, f))
-      | false ↦ λ e. let f = unit_early row in absurd (omega (arith, e, f))
-    ]) h
+beyond = grind (arith, nat_tests)
 
 pub finished : (path : Path) → is_unfinished path ≡ false → exclusives path ≡ []
-finished Unopened h = refl
-finished (Spines []) h = refl
-finished (Spines (n ∷ ns)) h =
-    let z : suc (length ns) ≡ 0 = grind (arith, nat_tests, h) in absurd (omega (arith, z))
+finished = grind (arith, common_steps)
 
 done : (path : Path) (due : Bool) (coming : List Row) (ended : Option end.End)
     → IsSound (record { path = path; due = due; coming = coming; ended = ended })
@@ -167,12 +107,7 @@ done : (path : Path) (due : Bool) (coming : List Row) (ended : Option end.End)
     → 9 ≤ rank (place_at false (record { path = path; due = due; coming = coming; ended = ended }))
     → is_at false Closing (record { path = path; due = due; coming = coming; ended = ended }) ≡ false
     → exclusives path ≡ []
-done path true (row ∷ rows) ended i k l n = beyond path row (not_nine _ n l)
-done path false (row ∷ rows) ended i k l n = beyond path row (not_nine _ n l)
-done path true [] ended i k l n = cc
-done path false [] None i k l n = cc
-done path false [] (Some Closed) i k l n = finished path (i.closes refl)
-done path false [] (Some (Broken f)) i k l n = cc
+done = grind (arith, nat_tests, beyond, not_nine, finished)
 
 record Closed_by (path : Path) (row : Row) : Type 0 where
   ends : list_all is_end (map sign_of (tokens_of row)) ≡ true
@@ -225,18 +160,9 @@ all_close (s ∷ ss) i e k =
           }
     ]) refl
 
--- Names that aren't empty.
-or_parts : (a b : Bool) → (a || b) ≡ false → (a ≡ false) × (b ≡ false)
-or_parts true b h = cc
-or_parts false b h = (refl, h)
-
 any_parts : (xs ys : List (List ℕ)) → list_any is_empty (xs ++ ys) ≡ false
     → (list_any is_empty xs ≡ false) × (list_any is_empty ys ≡ false)
-any_parts [] ys h = (refl, h)
-any_parts (x ∷ xs) ys h =
-    let b = or_parts (is_empty x) (list_any is_empty (xs ++ ys)) h in
-    let r = any_parts xs ys b.1 in
-    (rw b.0 r.0, r.1)
+any_parts = grind (arith, common_steps)
 
 pub named_none : (paths : List Path) → list_any is_empty (names_in paths) ≡ false → NoneIn paths
 named_none [] h = tt
@@ -244,8 +170,7 @@ named_none (path ∷ paths) h =
     let b = any_parts (exclusives path) (names_in paths) h in (b.0, named_none paths b.1)
 
 pub exclusive_filled : (token : List ℕ) → is_exclusive (sign_of token) ≡ true → is_empty token ≡ false
-exclusive_filled [] h = cc
-exclusive_filled (b ∷ bs) h = ne_eqb (suc (length bs)) 0 (λ e. omega (arith, e))
+exclusive_filled = grind (arith, nat_tests)
 
 pub exclusive_named : (tokens : List (List ℕ)) → list_all is_exclusive (map sign_of tokens) ≡ true
     → list_any is_empty tokens ≡ false

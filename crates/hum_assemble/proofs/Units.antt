@@ -1,5 +1,6 @@
 -- A round of units.
-use Rattle.std.proofs.lemmas.Bool.{eqb-false, ne_eqb}
+use Rattle.std.proofs.lemmas.Bool.Decides.{nat_tests}
+use Rattle.std.proofs.lemmas.Bool.{eqb-false}
 use Rattle.std.proofs.Common.{◌≡◌, ◌∙◌, refl, sym, ap, ℕ, suc, ◌≤◌, ◌<◌, Bool, true}
 use Rattle.std.proofs.Common.{false, not, ◌||◌, List, [], ◌∷◌, ◌++◌, length, arith}
 use Rattle.std.proofs.Common.{map}
@@ -29,7 +30,7 @@ use Rattle.hum_assemble.proofs.Sorting.{stands, Sorted, AsClosing, AsData, AsAdd
 use Rattle.hum_assemble.proofs.Sorting.{Tests, picks_comments, picks_locals, picks_tandems}
 use Rattle.hum_assemble.proofs.Sorting.{picks_others}
 use Rattle.hum_assemble.proofs.Bodies.{InBody, InRound, Waits, Gone, GoneBefore, gone_later, round_sees}
-use Rattle.hum_assemble.proofs.Bodies.{calm_sees, body_stands, inside_does, Bare, inside_of}
+use Rattle.hum_assemble.proofs.Bodies.{body_stands, inside_does, Bare, inside_of}
 use Rattle.hum_assemble.proofs.Taking.{same_rank}
 
 -- what is left behind a unit of one record
@@ -80,22 +81,15 @@ adds_unit n ns row rows ended whole wh ad at u st i f = record {
 past_rank : (n m : ℕ) → (n == m) ≡ false → n ≤ m → suc n ≤ m
 past_rank n m h l = let other = eqb-false n m h in omega (arith, l, other)
 
-below_rank : (n m : ℕ) → m < n → (n == m) ≡ false
-below_rank n m h = ne_eqb n m (λ e. omega (arith, h, e))
-
 module _ (k : ℕ) (t : Row → Bool) (p : Place) (ts : Tests t k) (pk : rank p ≡ k) (low : 4 ≤ k)
     (high : k ≤ 7) where
   test_at : (path : Path) (row : Row) → place path row ≡ unit_place row → 4 ≤ rank (place path row)
       → rank (place path row) ≤ 7 → t row ≡ (k == rank (place path row))
-  test_at path row u a b =
-      ts.picks row (rw (← u) a) (rw (← u) b) ∙ ap (λ (q : Place). k == rank q) (sym u)
+  test_at = grind (arith, nat_tests)
 
   test_gone : (b : Body) (units : List (List Row)) → GoneBefore k units
       → unit_if t (record b { units = units }) ≡ None
-  test_gone b [] g = refl
-  test_gone b ([] ∷ units) g = absurd g
-  test_gone b ((row ∷ rows) ∷ units) g =
-      rw (ts.picks row g.0 g.1, below_rank k (rank (unit_place row)) g.2) refl
+  test_gone = grind (arith, nat_tests)
 
   abbrev pub Mine : Source → Body → Type 0
   Mine s b = MayGive k (InRound (suc k)) (unit_if t b) s b
@@ -162,27 +156,13 @@ module _ (k : ℕ) (t : Row → Bool) (p : Place) (ts : Tests t k) (pk : rank p 
 
   pub gives : is_shared p ≡ false → is_over p ≡ false → (s : Source) (b : Body) → InRound k s b
       → Mine s b
-  gives un ov s b (Waits n ns row rows ended e o f w x y) =
-      rw e (row_gives un ov n ns row rows ended o f x y b w (sorted n ns o row f.0))
-  gives un ov s b (Gone h g) = gone_gives s b h g
-
--- One record of those that share a place.
-at_over : (p : Place) (path : Path) (due : Bool) (coming : List Row) (ended : Option end.End)
-    → is_over p ≡ false → due ≡ false
-    → is_at true p (record { path = path; due = due; coming = coming; ended = ended }) ≡ false
-at_over p path true coming ended o d = cc
-at_over p path false coming ended o d = o
-
-pub not_asked : (p : Place) (s : Source) (b : Body) → is_over p ≡ false → InBody s b
-    → is_at true p s ≡ false
-not_asked p s b o h = at_over p s.path s.due s.coming s.ended o h.idle
+  gives = grind (arith, nat_tests, row_gives, sorted, gone_gives)
 
 at_due : (p : Place) (path : Path) (due : Bool) (coming : List Row) (ended : Option end.End)
     → is_over p ≡ false
     → is_at true p (record { path = path; due = due; coming = coming; ended = ended }) ≡ true
     → due ≡ true
-at_due p path true coming ended o h = refl
-at_due p path false coming ended o h = let e = sym o ∙ h in cc
+at_due = grind (arith, nat_tests)
 
 pub some_due : (p : Place) (ss : List Source) → is_over p ≡ false
     → list_any (is_at true p) ss ≡ true → any_due ss ≡ true
@@ -200,25 +180,8 @@ module _ (k : ℕ) (t : Row → Bool) (p : Place) (ts : Tests t k) (pk : rank p 
   abbrev pub Ours : Source → Body → Type 0
   Ours s b = Shares true p (row_if t) (InRound (suc k)) s b
 
-  gone_none : (b : Body) (units : List (List Row)) → GoneBefore k units
-      → row_if t (record b { units = units }) ≡ None
-  gone_none b [] g = refl
-  gone_none b ([] ∷ units) g = absurd g
-  gone_none b ((row ∷ rows) ∷ units) g =
-      rw (row_if, ts.picks row g.0 g.1, below_rank k (rank (unit_place row)) g.2) refl
-
   gone_shares : (s : Source) (b : Body) → InBody s (behind_unit b) → GoneBefore k b.units → Ours s b
-  gone_shares s b h g =
-      let n = gone_none b b.units g in
-      let a = not_asked p s (behind_unit b) ov h in
-      let on : InRound (suc k) s b = Gone h (gone_later k b.units g) in
-      record {
-        sees = rw pk (calm_sees k s (behind_unit b) (omega (arith, high)) h);
-        part = rw (a, n) refl;
-        at = rw (a, n) refl;
-        on = rw a on;
-        stays = λ e. on;
-      }
+  gone_shares s b h g = grind (arith, nat_tests)
 
   module _ (n : List ℕ) (ns : List (List ℕ))
       (row : Row) (rows : List Row) (ended : Option end.End) (o : is_inside (Spines (n ∷ ns)) ≡ false)
@@ -273,9 +236,7 @@ module _ (k : ℕ) (t : Row → Bool) (p : Place) (ts : Tests t k) (pk : rank p 
         ≡ with_row Adds row rows (body (is_closed_end ended) true rows)
         → Ours (waiting (Spines (n ∷ ns)) row rows ended)
         (with_row Adds row rows (body (is_closed_end ended) true rows))
-    adds_not true tc e at w =
-        let seven : k ≡ 7 = same_rank k (rank (place (Spines (n ∷ ns)) row)) e ∙ ap rank at in
-        absurd (omega (arith, seven, high))
+    adds_not true tc e at w = grind (arith, nat_tests)
     adds_not false tc e at w = shares_not _ w (rw (row_if, tc) refl) e
 
     row_shares : (b : Body) → body (is_closed_end ended) false (row ∷ rows) ≡ b
@@ -303,10 +264,8 @@ module _ (k : ℕ) (t : Row → Bool) (p : Place) (ts : Tests t k) (pk : rank p 
 -- A round.
 pub both_map : {A B : Type 0} (P Q : A → B → Type 0) (xs : List A) (ys : List B)
     → ((x : A) (y : B) → P x y → Q x y) → Both P xs ys → Both Q xs ys
-both_map P Q [] [] f h = tt
-both_map P Q [] (y ∷ ys) f h = absurd h
-both_map P Q (x ∷ xs) [] f h = absurd h
 both_map P Q (x ∷ xs) (y ∷ ys) f h = (f x y h.0, both_map P Q xs ys f h.1)
+both_map P Q xs ys h k = grind (arith, nat_tests)
 
 module _ (k : ℕ) (t : Row → Bool) (p : Place) (ts : Tests t k) (pk : rank p ≡ k) (low : 4 ≤ k)
     (ov : is_over p ≡ false) where
@@ -330,8 +289,7 @@ module _ (k : ℕ) (t : Row → Bool) (p : Place) (ts : Tests t k) (pk : rank p 
       (both_map (InRound k) (Ours k t p ts pk low high ov) ss bs (shares k t p ts pk low high ov) h)
 
 round_over : (s : Source) (b : Body) → InRound 8 s b → InBody s (behind_unit b)
-round_over s b (Waits n ns row rows ended e o f w x y) = absurd (omega (arith, x, y))
-round_over s b (Gone h g) = h
+round_over = grind (arith, nat_tests)
 
 pub round_does : (ss : List Source) (bs : List Body) → Both (InRound 4) ss bs
     → Does (unit_round bs) ss (λ x. Both (λ s b. InBody s (behind_unit b)) x bs)

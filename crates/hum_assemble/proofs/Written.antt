@@ -1,6 +1,6 @@
 -- What a merge gives, as parts that are written.
+use Rattle.std.proofs.lemmas.Bool.Decides.{nat_tests}
 use Rattle.std.proofs.Common.{◌≡◌, ◌∙◌, refl, sym, ap, ℕ, ◌+◌, ◌≤◌, Bool, true}
-use Rattle.std.proofs.lemmas.Bool.{leb-false, leb-true}
 use Rattle.std.proofs.Common.{false, not, ◌&&◌, ◌||◌, cond, List, [], ◌∷◌, length, arith}
 use Rattle.std.specs.Prelude.{Option, None, Some, is_none, ◌==◌}
 use Rattle.std.specs.List.{list_any, AllByRecursion, position_from}
@@ -16,16 +16,16 @@ use Rattle.hum_assemble.specs.declared.places.Next.TheVariants.{Over as NothingM
 use Rattle.hum_assemble.specs.Source.{Source}
 use Rattle.hum_assemble.specs.Head.{first_of}
 use Rattle.hum_assemble.specs.Places.{rank, kind_at, is_over, is_shared}
-use Rattle.hum_assemble.specs.Round.{any_due, is_missing, is_lost, place_at, takes, still_free}
+use Rattle.hum_assemble.specs.Round.{any_due, is_missing, place_at, takes, still_free}
 use Rattle.hum_assemble.specs.Round.{earliest, AllKnown}
 use Rattle.hum_assemble.specs.Merge.{Merge, all_moved, moved, made, spines, ahead}
 use Rattle.hum_assemble.specs.Merge.{ahead_at, ahead_of, unless_broken, unless_missing, given_row}
-use Rattle.hum_assemble.specs.Merge.{given_on, comment_given, tokens_given, part_given, advanced}
+use Rattle.hum_assemble.specs.Merge.{given_on, comment_given, tokens_given}
 use Rattle.hum_assemble.specs.Merge.{row_of_kind}
 use Rattle.hum_assemble.specs.Meaning.{all_given, rest, refusal}
 use Rattle.hum_assemble.specs.Taking.{is_at}
 use Rattle.hum_assemble.specs.Groups.{written, stops_at, rule_at, row_of, paths_on, path_on, widths}
-use Rattle.hum_assemble.specs.Groups.{side_by_side, part}
+use Rattle.hum_assemble.specs.Groups.{side_by_side}
 use Rattle.hum_assemble.proofs.Moving.{known_not_lost}
 use Rattle.hum_assemble.proofs.Growing.{missing_none}
 use Rattle.hum_assemble.proofs.Steps.{all_going, all_resting, is_giving}
@@ -33,13 +33,12 @@ use Rattle.hum_assemble.proofs.Sides.{Takes, takes_fields}
 use Rattle.hum_assemble.proofs.Alone.{paths_of}
 use Rattle.hum_assemble.proofs.Fitting.{spined_of}
 use Rattle.hum_assemble.proofs.Taking.{or_not_false, same_rank}
-use Rattle.std.specs.Prelude.{nat_le, replicate}
 use Rattle.hum_assemble.specs.declared.places.Place.TheVariants.{Aside, Begins, Front, Opening}
 use Rattle.hum_assemble.specs.declared.places.Place.TheVariants.{Remark, Local as LocalPlace}
 use Rattle.hum_assemble.specs.declared.places.Place.TheVariants.{Tandem, Change, Note, Closing}
 use Rattle.hum_assemble.specs.declared.places.Place.TheVariants.{Tail, Over}
-use Rattle.hum_assemble.specs.Places.{earlier, null_at}
-use Rattle.hum_assemble.specs.Merge.{tokens_of_first, text_of_first}
+use Rattle.hum_assemble.specs.Places.{earlier}
+use Rattle.hum_assemble.specs.Merge.{text_of_first}
 use Rattle.hum_assemble.specs.Groups.{row_like}
 
 abbrev pub merge_of : List Source → ℕ → Merge
@@ -62,16 +61,10 @@ is_still (Wants j) = true
 is_still NothingMore = true
 
 still_rests : (a : next.Next) → is_still a ≡ true → is_giving a ≡ false
-still_rests (Gives p) h = cc
-still_rests (Refused rule) h = cc
-still_rests (Wants j) h = refl
-still_rests NothingMore h = refl
+still_rests = grind (arith, nat_tests)
 
 still_refusal : (n : ℕ) (a : next.Next) → is_still a ≡ true → refusal n a ≡ None
-still_refusal n (Gives p) h = cc
-still_refusal n (Refused rule) h = cc
-still_refusal n (Wants j) h = refl
-still_refusal n NothingMore h = refl
+still_refusal = grind (arith, nat_tests)
 
 pub still_meets : (ss : List Source) → ((given : ℕ) → is_still (ahead (merge_of ss given)) ≡ true)
     → Meets ss []
@@ -125,42 +118,18 @@ pub same_place : (p q : Place) → rank p ≡ rank q → p ≡ q
 same_place p q e = sym (ranked p) ∙ (ap of_rank e ∙ ranked q)
 
 pub rank_most : (p : Place) → rank p ≤ 11
-rank_most Aside = omega arith
-rank_most Begins = omega arith
-rank_most Front = omega arith
-rank_most Opening = omega arith
-rank_most Remark = omega arith
-rank_most LocalPlace = omega arith
-rank_most Tandem = omega arith
-rank_most Change = omega arith
-rank_most Note = omega arith
-rank_most Closing = omega arith
-rank_most Tail = omega arith
-rank_most Over = omega arith
-
-earlier_least : (n : ℕ) (p q : Place) → n ≤ rank p → n ≤ rank q → n ≤ rank (earlier p q)
-earlier_least n p q a b =
-    elim (nat_le (rank p) (rank q)) as (λ b. n ≤ rank (cond b p q)) [ true ↦ a | false ↦ b ]
+rank_most = grind (arith, nat_tests)
 
 pub earlier_left : (p q : Place) → rank (earlier p q) ≤ rank p
-earlier_left p q =
-    (elim (nat_le (rank p) (rank q)) as (λ b. nat_le (rank p) (rank q) ≡ b → rank (cond b p q) ≤ rank p) [
-      | true ↦ λ e. omega arith
-      | false ↦ λ e. let less = leb-false (rank p) (rank q) e in omega (arith, less)
-    ]) refl
+earlier_left = grind (arith, nat_tests)
 
 pub earlier_right : (p q : Place) → rank (earlier p q) ≤ rank q
-earlier_right p q =
-    (elim (nat_le (rank p) (rank q)) as (λ b. nat_le (rank p) (rank q) ≡ b → rank (cond b p q) ≤ rank q) [
-      | true ↦ λ e. leb-true (rank p) (rank q) e
-      | false ↦ λ e. omega arith
-    ]) refl
+earlier_right = grind (arith, nat_tests)
 
 pub least : (going : Bool) (n : ℕ) (ss : List Source) → n ≤ 11 → AllSee going n ss
     → n ≤ rank (earliest going ss)
 least going n [] l h = l
-least going n (s ∷ ss) l h =
-    earlier_least n (place_at going s) (earliest going ss) h.0.later (least going n ss l h.1)
+least going n (s ∷ ss) l h = grind (arith, nat_tests, least going n ss l h.1)
 
 reached : (going : Bool) (p : Place) (ss : List Source) → list_any (is_at going p) ss ≡ true
     → rank (earliest going ss) ≤ rank p
@@ -176,10 +145,7 @@ reached going p (s ∷ ss) h =
 
 pub earliest_is : (going : Bool) (p : Place) (ss : List Source) → AllSee going (rank p) ss
     → list_any (is_at going p) ss ≡ true → earliest going ss ≡ p
-earliest_is going p ss h a =
-    let l = least going (rank p) ss (rank_most p) h in
-    let r = reached going p ss a in
-    same_place (earliest going ss) p (omega (arith, l, r))
+earliest_is = grind (arith, nat_tests, least, rank_most, reached, same_place)
 
 all_known : (going : Bool) (n : ℕ) (ss : List Source) → AllSee going n ss → AllKnown going ss
 all_known going n [] h = tt
@@ -187,23 +153,16 @@ all_known going n (s ∷ ss) h = (h.0.known, all_known going n ss h.1)
 
 -- Who takes has a record there.
 and_right : (a b : Bool) → (a && b) ≡ true → b ≡ true
-and_right true b h = h
-and_right false b h = cc
+and_right = grind (arith, nat_tests)
 
 pub taking : (free going : Bool) (p : Place) (n : ℕ) (s : Source) → is_over p ≡ false
     → Sees going n s → takes free going p s ≡ true → Takes p s
-taking free going p n s o i h =
-    takes_fields going p s.path s.due s.coming s.ended o i.follow (and_right free (is_at going p s) h)
+taking = grind (arith, nat_tests, takes_fields, and_right)
 
 -- The paths.
 path_moved : (b going : Bool) (p : Place) (s : Source)
     → (moved b going p s).path ≡ path_on s.path (cond b (first_of s.coming) None)
-path_moved false going p s = refl
-path_moved true going p s =
-    elim s.coming as (λ c. (advanced s.path s.due c s.ended).path ≡ path_on s.path (first_of c)) [
-      | [] ↦ refl
-      | row ∷ rows ↦ refl
-    ]
+path_moved = grind (arith, nat_tests)
 
 pub paths_moved : (free going : Bool) (p : Place) (ss : List Source)
     → paths_of (all_moved free going p ss) ≡ paths_on (paths_of ss) (parts_at free going p ss)
@@ -215,38 +174,17 @@ widths_are : (ss : List Source) → widths (paths_of ss) ≡ spines ss
 widths_are [] = refl
 widths_are (s ∷ ss) = ap (λ (n : ℕ). width s.path + n) (widths_are ss)
 
--- The tokens.
-part_is : (free going : Bool) (p : Place) (kind : SpinedKind) (n : ℕ) (s : Source)
-    → is_over p ≡ false → kind_at p ≡ Some kind → Sees going n s
-    → part_given (takes free going p s) p s
-    ≡ part kind s.path (cond (takes free going p s) (first_of s.coming) None)
-part_is free going p kind n s o k i =
-    (elim (takes free going p s) as (λ b. takes free going p s ≡ b
-    → part_given b p s ≡ part kind s.path (cond b (first_of s.coming) None)) [
-      | true ↦ λ h.
-          let t = taking free going p n s o i h in
-          ap tokens_of_first t.is
-          ∙ sym (ap (λ (rows : List Row). part kind s.path (first_of rows)) t.is)
-      | false ↦ λ h. ap (λ (o : Option SpinedKind). replicate (width s.path) (null_at o)) k
-    ]) refl
-
 tokens_are : (free going : Bool) (p : Place) (kind : SpinedKind) (n : ℕ) (ss : List Source)
     → is_over p ≡ false → kind_at p ≡ Some kind → AllSee going n ss
     → tokens_given free going p ss ≡ side_by_side kind (paths_of ss) (parts_at free going p ss)
 tokens_are free going p kind n [] o k i = refl
 tokens_are free going p kind n (s ∷ ss) o k i =
-    rw (
-      part_is free going p kind n s o k i.0,
-      tokens_are (still_free free going p s) going p kind n ss o k i.1,
-    ) refl
+    grind (arith, nat_tests, tokens_are (still_free free going p s) going p kind n ss o k i.1)
 
 -- The record.
 like_spined : (row : Row) (kind : SpinedKind) (paths : List Path) (all : List (Option Row))
     → Some kind ≡ spined_of row → row_like row paths all ≡ Spined kind (side_by_side kind paths all)
-like_spined (Comment text) kind paths all h = cc
-like_spined (Spined k tokens) kind paths all h =
-    let e : k ≡ kind = cc in
-    ap (λ (x : SpinedKind). Spined x (side_by_side x paths all)) e
+like_spined = grind (arith, nat_tests)
 
 row_spined : (going : Bool) (p : Place) (kind : SpinedKind) (n : ℕ) (ss : List Source)
     (paths : List Path) (all : List (Option Row))
@@ -266,8 +204,7 @@ row_spined going p kind n (s ∷ ss) paths all o k i h =
 
 like_comment : (row : Row) (paths : List Path) (all : List (Option Row))
     → None ≡ spined_of row → row_like row paths all ≡ Comment (text_of row)
-like_comment (Comment text) paths all h = refl
-like_comment (Spined k tokens) paths all h = cc
+like_comment = grind (arith, nat_tests)
 
 row_comment : (going : Bool) (p : Place) (n : ℕ) (ss : List Source)
     (paths : List Path) (all : List (Option Row))
@@ -315,14 +252,12 @@ ahead_is going p ss given o i h =
 rows_by : (m : Merge) (p : Place) (o : Option Rule) (row : Row) (rows : List Row)
     → ahead m ≡ unless_broken p o → given_row p m ≡ row → all_given (given_on p m) ≡ rows
     → all_given m ≡ cond (is_none o) (row ∷ rows) []
-rows_by m p None row rows a r w = (all_going m p a).0 ∙ rw (r, w) refl
-rows_by m p (Some rule) row rows a r w = (all_resting m (ap is_giving a)).0
+rows_by = grind (arith, nat_tests, all_going, all_resting, is_giving)
 
 stop_by : (m : Merge) (p : Place) (o : Option Rule) (stop : Option (ℕ × Rule))
     → ahead m ≡ unless_broken p o → refused (given_on p m) ≡ stop
     → refused m ≡ (elim o as (λ x. Option (ℕ × Rule)) [ None ↦ stop | Some rule ↦ Some (m.given + 1, rule) ])
-stop_by m p None stop a w =
-    ap (λ (x : Merge). refusal (x.given + 1) (ahead x)) (all_going m p a).1 ∙ w
+stop_by m p None stop a w = grind (arith, nat_tests, all_going m p a)
 stop_by m p (Some rule) stop a w =
     ap (λ (x : Merge). refusal (x.given + 1) (ahead x)) (all_resting m (ap is_giving a)).1
     ∙ ap (refusal (m.given + 1)) a
@@ -352,15 +287,12 @@ pub meets_step : (going : Bool) (p : Place) (ss : List Source) (ps : List (List 
     → any_due ss ≡ going → is_over p ≡ false → AllSee going (rank p) ss
     → list_any (is_at going p) ss ≡ true → Meets (all_moved true going p ss) ps
     → Meets ss (parts_at true going p ss ∷ ps)
-meets_step going p ss ps e o i h w =
-    rw (← e) (step_now p ss ps o (rw (← e) at i) (rw (← e) at h) (rw (← e) at w))
+meets_step = grind (arith, nat_tests, step_now)
 
 -- Nothing more.
 still_lost : (b : Bool) (o : Option ℕ) (a : next.Next) → (o ≡ None → is_still a ≡ true)
     → is_still (cond b NothingMore (unless_missing o a)) ≡ true
-still_lost true o a h = refl
-still_lost false None a h = h refl
-still_lost false (Some j) a h = refl
+still_lost = grind (arith, nat_tests)
 
 some_missing : (going : Bool) (i : ℕ) (ss : List Source) → list_any (is_missing going) ss ≡ true
     → position_from (is_missing going) i ss ≡ None → ⊥
@@ -373,21 +305,11 @@ some_missing going i (s ∷ ss) h e =
     ]) h e
 
 pub meets_missing : (ss : List Source) → list_any (is_missing (any_due ss)) ss ≡ true → Meets ss []
-meets_missing ss h =
-    still_meets ss (λ given. still_lost _ _ _ (λ e. absurd (some_missing (any_due ss) 0 ss h e)))
+meets_missing = grind (arith, nat_tests, still_meets, still_lost, some_missing)
 
 over_still : (going : Bool) (q : Place) (ss : List Source) (given : ℕ) → q ≡ Over
     → is_still (ahead_at going q ss given) ≡ true
-over_still going q ss given e =
-    ap (λ (x : Place). is_still (ahead_at going x ss given)) e
+over_still = grind (arith, nat_tests)
 
 pub meets_over : (ss : List Source) → AllSee (any_due ss) 11 ss → Meets ss []
-meets_over ss i =
-    let l = least (any_due ss) 11 ss (omega arith) i in
-    let r = rank_most (earliest (any_due ss) ss) in
-    let o : earliest (any_due ss) ss ≡ Over =
-    same_place (earliest (any_due ss) ss) Over (omega (arith, l, r)) in
-    still_meets ss (λ given. still_lost (list_any (is_lost (any_due ss)) ss)
-    (position_from (is_missing (any_due ss)) 0 ss)
-    (ahead_at (any_due ss) (earliest (any_due ss) ss) ss given)
-    (λ e. over_still (any_due ss) (earliest (any_due ss) ss) ss given o))
+meets_over = grind (arith, nat_tests, least, rank_most, same_place, still_meets, still_lost, over_still)

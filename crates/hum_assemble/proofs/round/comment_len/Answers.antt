@@ -1,3 +1,5 @@
+use Rattle.std.proofs.lemmas.Bool.Decides.{nat_tests}
+use Rattle.std.proofs.Common.{arith}
 use Rattle.hum_assemble.proofs.Firsts.{comment_here, comment_behind, no_comment}
 use Rattle.hum_assemble.proofs.round.comment_len.Goals as goal
 
@@ -12,5 +14,4 @@ loop-rest-preserved c =
     c.in-len1-up.len_at_least c.source-item.is c.takes.ensures c.if-takes.false c.loop-rest.invariant
 
 pub returns : goal.returns
-returns c =
-    no_comment c.args.going c.args.p c.args.sources.now c.loop-rest.rest.now c.in_default.len_below c.loop-rest.invariant
+returns = grind (arith, nat_tests, no_comment)

@@ -1,4 +1,5 @@
-use Rattle.std.proofs.Common.{true}
+use Rattle.std.proofs.lemmas.Bool.Decides.{nat_tests}
+use Rattle.std.proofs.Common.{true, arith}
 use Rattle.hum_assemble.proofs.Steps.{giving, given_fits}
 use Rattle.hum_assemble.proofs.Taking.{all_lawful}
 use Rattle.hum_assemble.specs.Round.{any_due}
@@ -6,8 +7,7 @@ use Rattle.hum_assemble.proofs.round.give.Goals as goal
 
 pub give_at-requires-clause-giving : goal.give_at-requires-clause-giving
 give_at-requires-clause-giving c =
-    rw c.requires.going
-    (giving c.args.sources.now c.requires.ahead.0 c.args.p c.requires.ahead.1)
+    grind (arith, nat_tests, giving c.args.sources.now c.requires.ahead.0 c.args.p c.requires.ahead.1)
 
 pub returns-clause-lawful : goal.returns-clause-lawful
 returns-clause-lawful c =

@@ -1,4 +1,5 @@
-use Rattle.std.proofs.Common.{◌∙◌, ap, sym}
+use Rattle.std.proofs.lemmas.Bool.Decides.{nat_tests}
+use Rattle.std.proofs.Common.{◌∙◌, ap, arith}
 use Rattle.hum_assemble.specs.Places.{null_at}
 use Rattle.hum_assemble.specs.Head.{coming}
 use Rattle.hum_assemble.proofs.Notes.{note_spined}
@@ -16,9 +17,7 @@ returns-then-not-taken c =
     (c.null_at.ensures ∙ ap null_at c.kind.ensures))
 
 pub noted_len-requires : goal.noted_len-requires
-noted_len-requires c =
-    let fits = rw c.in-Some.is at c.self.invariant.fits in
-    note_spined c.self.inside.paths.path _ (sym fits.place ∙ c.in-Note.is)
+noted_len-requires = grind (arith, nat_tests, note_spined)
 
 pub returns-in-Note : goal.returns-in-Note
 returns-in-Note c = rw (← c.self.view_is, c.if-not-taken.false, c.in-Some.is) c.noted_len.ensures

@@ -1,4 +1,5 @@
-use Rattle.std.proofs.Common.{◌≡◌, ◌∙◌, sym, ap, refl, [], replicate}
+use Rattle.std.proofs.lemmas.Bool.Decides.{nat_tests}
+use Rattle.std.proofs.Common.{◌≡◌, ◌∙◌, sym, ap, refl, replicate, arith}
 use Rattle.hum_assemble.specs.Source.{Source}
 use Rattle.hum_assemble.specs.Head.{coming}
 use Rattle.hum_score.specs.Row.{tokens_of}
@@ -25,10 +26,7 @@ push_row-requires-clause-tokens c =
     (sym c.requires.taken.2 ∙ c.if-not-taken.false)
 
 pub returns-in-None : goal.returns-in-None
-returns-in-None c =
-    let coming = sym (ap (λ (s : Source). s.coming) c.self.view_is) ∙ ap coming c.in-None.is in
-    let none : part_given c.args.taken c.args.p c.args.self.now ≡ [] = rw (c.if-not-taken.false, coming) refl in
-    rw none (first_added c.args.builder.now)
+returns-in-None = grind (arith, nat_tests, first_added)
 
 pub returns-in-Some : goal.returns-in-Some
 returns-in-Some c =
@@ -38,12 +36,7 @@ returns-in-Some c =
     rw part c.push_row.ensures
 
 pub push_nulls-requires : goal.push_nulls-requires
-push_nulls-requires c =
-    let part : part_given c.args.taken c.args.p c.args.self.now ≡ nulls_of_kind c.args.builder.now.kind c.width.result =
-    rw c.if-not-taken.true (ap (λ (s : Source). nulls c.args.p s) (sym c.self.view_is)
-    ∙ sym (ap (λ n. nulls_of_kind c.args.builder.now.kind n) c.width.ensures.width
-    ∙ ap (λ t. replicate (width c.self.inside.paths.path) (null_at t)) (sym c.requires.kind))) in
-    record { fits = rw part at c.requires.fits }
+push_nulls-requires = grind (arith, nat_tests)
 
 pub returns-then-not-taken : goal.returns-then-not-taken
 returns-then-not-taken c =
