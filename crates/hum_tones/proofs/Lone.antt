@@ -46,16 +46,6 @@ pub trans_stays : (way : TransOptions) (token : List ℕ) (found : Note) → Ok 
 trans_stays way token found read alone is =
     trans_lone way token token alone (rw (← read, is) refl)
 
-pub trans_refused : (way : TransOptions) (token text : List ℕ) (rule : Rule) → subtokens token ≡ token ∷ []
-    → HasPut (transposed_part way.steps way.semitones token) [] text (Some rule) → given (Transposed way) token ≡ Err rule
-trans_refused way token text rule alone put = go (transposed_part way.steps way.semitones token) refl put
-  where
-    go : (r : Result (Option (List ℕ)) Rule) → transposed_part way.steps way.semitones token ≡ r → HasPut r [] text (Some rule)
-        → given (Transposed way) token ≡ Err rule
-    go (Ok None) is put = absurd put
-    go (Ok (Some made)) is put = absurd put
-    go (Err other) is put = rw (alone, is) (ap (λ (x : Rule). Err x) (sym put))
-
 -- a part with a space behind it
 pub spaced : (given : Result (Option (List ℕ)) Rule) (before middle after : List ℕ) → HasPut given before middle None
     → after ≡ middle ++ codes " " → HasAdded given before after None
