@@ -11,13 +11,12 @@ use Rattle.hum_score.specs.declared.spines.Sign.{Sign}
 use Rattle.hum_score.specs.declared.spines.Sign.TheVariants.{Split, Plain}
 use Rattle.hum_score.specs.Sign.{sign_of, is_join, is_exchange, is_exclusive, is_path_indicator}
 use Rattle.hum_score.specs.Spines.{Spines, exchanges, names_after}
-use Rattle.hum_score.specs.Rules.{first_is, has_lone_join, has_mixed_join, has_unnamed, has_bare}
+use Rattle.hum_score.specs.Rules.{has_lone_join, has_mixed_join, has_unnamed, has_bare}
 use Rattle.hum_score.specs.Rules.{names_and_steers, is_pair_or_none, stays_unnamed}
 use Rattle.hum_score.specs.Score.{Lead}
-use Rattle.hum_path.specs.Onward.{beginnings, onward, onward_one, swapped, renamed_each}
+use Rattle.hum_path.specs.Onward.{beginnings, onward, swapped, renamed_each}
 use Rattle.hum_path.proofs.Onwards.{names_onward, swapped_none, swapped_length, each_length, begins_length}
 use Rattle.hum_path.proofs.Obeyed.{Obeys}
-use Rattle.hum_score.proofs.Cases.{by_bool}
 use Rattle.hum_score.specs.declared.records.SpinedKind.TheVariants.{Interpretation}
 use Rattle.hum_score.specs.Row.{Row, chosen}
 use Rattle.hum_stage.specs.declared.faults.Rule.{Rule}
@@ -56,25 +55,15 @@ soft_indicator : (lone : Bool) (s : Sign) → is_path_indicator s ≡ false → 
 soft_indicator = grind (arith, nat_tests)
 
 soft_torn : (lone : Bool) (fs : List Bool) (ss : List Sign) → is_torn fs (map (soften lone) ss) ≡ is_torn fs ss
-soft_torn lone (f ∷ g ∷ fs) (s ∷ t ∷ ss) =
-    let rest = soft_torn lone (g ∷ fs) (t ∷ ss) in
-    rw (soft_join lone s, soft_join lone t, rest) refl
+soft_torn lone (f ∷ g ∷ fs) (s ∷ t ∷ ss) = grind (arith, nat_tests, soft_torn lone (g ∷ fs) (t ∷ ss))
 soft_torn lone fs ss = grind (arith, nat_tests)
-
-soft_first : (lone : Bool) (ss : List Sign) → first_is is_join (map (soften lone) ss) ≡ first_is is_join ss
-soft_first lone [] = refl
-soft_first lone (s ∷ ss) = soft_join lone s
 
 soft_lone : (lone b : Bool) (ss : List Sign) → has_lone_join b (map (soften lone) ss) ≡ has_lone_join b ss
 soft_lone lone b [] = refl
-soft_lone lone b (s ∷ ss) =
-    let rest = soft_lone lone (is_join s) ss in
-    rw (soft_join lone s, soft_first lone ss, rest) refl
+soft_lone lone b (s ∷ ss) = grind (arith, nat_tests, soft_lone lone (is_join s) ss)
 
 soft_mixed : (lone : Bool) (ns : List (List ℕ)) (ss : List Sign) → has_mixed_join ns (map (soften lone) ss) ≡ has_mixed_join ns ss
-soft_mixed lone (n ∷ m ∷ ns) (s ∷ t ∷ ss) =
-    let rest = soft_mixed lone (m ∷ ns) (t ∷ ss) in
-    rw (soft_join lone s, soft_join lone t, rest) refl
+soft_mixed lone (n ∷ m ∷ ns) (s ∷ t ∷ ss) = grind (arith, nat_tests, soft_mixed lone (m ∷ ns) (t ∷ ss))
 soft_mixed lone ns ss = grind (arith, nat_tests)
 
 soft_unnamed : (lone : Bool) (ns : List (List ℕ)) (ss : List Sign) → has_unnamed ns (map (soften lone) ss) ≡ has_unnamed ns ss
@@ -108,25 +97,14 @@ soft_bare lone (t ∷ ts) h =
     one = grind (arith, nat_tests)
 
 soft_each : (lone : Bool) (ns ts : List (List ℕ)) → renamed_each ns (map (softened lone) ts) ≡ renamed_each ns ts
-soft_each lone (n ∷ ns) (t ∷ ts) = let rest = soft_each lone ns ts in rw (one lone, rest) refl
-  where
-    apart : (s : Sign) → is_exchange s ≡ true → is_exclusive s ≡ false
-    apart = grind (arith, nat_tests)
-
-    one : (lone : Bool) → cond (is_exclusive (sign_of (softened lone t))) (softened lone t) n ≡ cond (is_exclusive (sign_of t)) t n
-    one false = refl
-    one true = by_bool (is_exchange (sign_of t))
-        (λ w. rw (w, apart (sign_of t) w) refl)
-        (λ w. rw w refl)
+soft_each lone (n ∷ ns) (t ∷ ts) = grind (arith, nat_tests, soft_each lone ns ts)
 soft_each lone ns ts = grind (arith, nat_tests)
 
 -- and carries on the same
 soft_onward : {X : Type 0} (added : X → X) (lone : Bool) (bs : List Bool) (ss : List Sign) (xs : List X)
     → onward added bs (map (soften lone) ss) xs ≡ onward added bs ss xs
-soft_onward {X} added lone (b ∷ bs) (s ∷ ss) (x ∷ xs) = let rest = soft_onward added lone bs ss xs in rw (one lone s, rest) refl
-  where
-    one : (lone : Bool) (s : Sign) → onward_one added b (soften lone s) x ≡ onward_one added b s x
-    one = grind (arith, nat_tests)
+soft_onward {X} added lone (b ∷ bs) (s ∷ ss) (x ∷ xs) =
+    grind (arith, nat_tests, soft_onward added lone bs ss xs)
 soft_onward added lone bs ss xs = grind (arith, nat_tests)
 
 -- none is exchanged
@@ -160,8 +138,7 @@ chosen_comes {X} added true fs ss xs len wide two is none =
     swapped_none 0 (map (soften true) (chosen fs ss)) (chosen fs xs) (soft_exchanges 0 (chosen fs ss)) in
     let whole = chosen_onward added (swapped ss fs) (beginnings false ss) ss (swapped ss xs) size (omega (arith, wide, swap)) in
     let begins : chosen (swapped ss fs) (beginnings false ss) ≡ chosen fs (beginnings false ss) =
-    ap (λ (bs : List Bool). chosen (swapped ss fs) bs) (sym (begin_swapped false ss))
-    ∙ lone_stays fs ss (beginnings false ss) len (sym size) two is none in
+    grind (arith, nat_tests, begin_swapped, lone_stays) in
     let signs : chosen (swapped ss fs) ss ≡ chosen fs ss =
     ap (λ (ts : List Sign). chosen (swapped ss fs) ts) (sym (sign_swapped ss)) ∙ lone_stays fs ss ss len refl two is none in
     let columns = lone_stays fs ss xs len wide two is none in
@@ -199,17 +176,7 @@ chosen_unnamed (false ∷ fs) (n ∷ ns) (s ∷ ss) h = chosen_unnamed fs ns ss 
 -- an exclusive interpretation or a path indicator is missing
 chosen_steers : (lone : Bool) (fs : List Bool) (ss : List Sign) → names_and_steers ss ≡ false
     → names_and_steers (chosen fs (map (soften lone) ss)) ≡ false
-chosen_steers lone fs ss h = by_bool (list_any is_exclusive ss)
-    (λ w.
-    let none : list_any is_path_indicator ss ≡ false = rw w at h in
-    let left = chosen_none is_path_indicator fs (map (soften lone) ss) (soft_indicators lone ss none) in
-    rw left (never (list_any is_exclusive (chosen fs (map (soften lone) ss)))))
-    (λ w.
-    let left = chosen_none is_exclusive fs (map (soften lone) ss) (soft_exclusives lone ss ∙ w) in
-    rw left refl)
-  where
-    never : (b : Bool) → (b && false) ≡ false
-    never = grind (arith, nat_tests)
+chosen_steers = grind (arith, nat_tests, chosen_none, soft_indicators, soft_exclusives)
 
 chosen_pair : (lone : Bool) (fs : List Bool) (ss : List Sign) → length fs ≡ length ss → is_pair_or_none (exchanges 0 ss) ≡ true
     → is_lone (exchanged_flags fs ss) ≡ lone
@@ -219,9 +186,7 @@ chosen_pair true fs ss len two is = rw (← chosen_map (soften true) fs ss, soft
 
 pub cut_signs : (fs : List Bool) (lone : Bool) (ts : List (List ℕ))
     → signs_in (pieces fs (map (softened lone) ts)) ≡ chosen fs (map (soften lone) (map sign_of ts))
-cut_signs fs lone ts =
-    ap (λ (us : List (List ℕ)). map sign_of us) (chosen_tokens false fs (map (softened lone) ts))
-    ∙ (chosen_map sign_of fs (map (softened lone) ts) ∙ ap (λ (ss : List Sign). chosen fs ss) (soft_signs lone ts))
+cut_signs = grind (arith, nat_tests, chosen_tokens, chosen_map, soft_signs)
 
 fits_at : (lone : Bool) (fs : List Bool) (names tokens : List (List ℕ)) → length fs ≡ length tokens → Obeys names tokens
     → is_torn fs (map sign_of tokens) ≡ false
@@ -233,14 +198,9 @@ fits_at lone fs names tokens len keeps torn is =
     let size = length-map tokens (softened lone) in
     let wide = keeps.wide in
     record {
-      formed = chosen_formed fs (map (softened lone) tokens) names (omega (arith, len, size)) (omega (arith, wide, size))
-          (rw soft (soft_torn lone fs (map sign_of tokens) ∙ torn))
-          (rw soft (soft_lone lone false (map sign_of tokens) ∙ keeps.lone))
-          (rw soft (soft_mixed lone names (map sign_of tokens) ∙ keeps.mixed));
-      unnamed = rw signs
-          (chosen_unnamed fs names (map (soften lone) (map sign_of tokens)) (soft_unnamed lone names (map sign_of tokens) ∙ keeps.unnamed));
-      bare = rw (chosen_tokens false fs (map (softened lone) tokens))
-          (chosen_none (bytes_eq (codes "**")) fs (map (softened lone) tokens) (soft_bare lone tokens keeps.bare));
+      formed = grind (arith, nat_tests, chosen_formed, soft_torn, soft_lone, soft_mixed);
+      unnamed = grind (arith, nat_tests, chosen_unnamed, soft_unnamed);
+      bare = grind (arith, nat_tests, chosen_tokens, chosen_none, soft_bare);
       steers = rw signs (chosen_steers lone fs (map sign_of tokens) keeps.steers);
       pair = rw signs (chosen_pair lone fs (map sign_of tokens) (omega (arith, len, count)) keeps.pair is);
     }

@@ -1,4 +1,5 @@
 -- Exchanged columns, of which both, none or one is chosen.
+use Rattle.std.proofs.lemmas.Grind.{common_steps}
 use Rattle.std.proofs.Common.{◌≡◌, ◌∙◌, refl, sym, ap, ℕ, suc, ◌+◌, ◌==◌, Bool, true, false, not}
 use Rattle.std.proofs.Common.{◌&&◌, ◌||◌, List, [], ◌∷◌, length, arith}
 use Rattle.std.proofs.lemmas.Bool.{false≢true}
@@ -19,21 +20,14 @@ use Rattle.hum_extract.specs.Extract.{exchanged_flags, is_lone, chosen_before, c
 -- as many flags as exchanged columns
 pub flags_size : (j : ℕ) (fs : List Bool) (ss : List Sign) → length fs ≡ length ss
     → length (exchanged_flags fs ss) ≡ length (exchanges j ss)
-flags_size j [] [] len = refl
-flags_size j (f ∷ fs) (s ∷ ss) len = by_bool (is_exchange s)
-    (λ w. rw w (ap suc (flags_size (j + 1) fs ss (omega (arith, len)))))
-    (λ w. rw w (flags_size (j + 1) fs ss (omega (arith, len))))
-flags_size j fs ss h = grind (arith, nat_tests)
+flags_size j (f ∷ fs) (s ∷ ss) len = grind (arith, nat_tests, flags_size (j + 1) fs ss (omega (arith, len)))
+flags_size j fs ss h = grind (arith, common_steps)
 
 -- the chosen ones of them
 pub chosen_exchanges : (j : ℕ) (fs : List Bool) (ss : List Sign)
     → length (exchanges j (chosen fs ss)) ≡ length (chosen (exchanged_flags fs ss) (exchanged_flags fs ss))
-chosen_exchanges j (true ∷ fs) (s ∷ ss) = by_bool (is_exchange s)
-    (λ w. rw w (ap suc (chosen_exchanges (j + 1) fs ss)))
-    (λ w. rw w (chosen_exchanges (j + 1) fs ss))
-chosen_exchanges j (false ∷ fs) (s ∷ ss) = by_bool (is_exchange s)
-    (λ w. rw w (chosen_exchanges j fs ss))
-    (λ w. rw w (chosen_exchanges j fs ss))
+chosen_exchanges j (true ∷ fs) (s ∷ ss) = grind (arith, nat_tests, chosen_exchanges (j + 1) fs ss)
+chosen_exchanges j (false ∷ fs) (s ∷ ss) = grind (arith, nat_tests, chosen_exchanges j fs ss)
 chosen_exchanges j fs ss = grind (arith, nat_tests)
 
 parts : {f g : Bool} {fs gs : List Bool} → f ∷ fs ≡ g ∷ gs → (f ≡ g) × (fs ≡ gs)
@@ -129,8 +123,6 @@ swapped_dropped fs ss xs h k = grind (arith, nat_tests)
 lone_first : {X : Type 0} (x : X) (gs fs : List Bool) (ss : List Sign) (xs : List X) → length ss ≡ length xs
     → exchanged_flags fs ss ≡ false ∷ gs → chosen_before fs ss ≡ false
     → chosen (put_next true ss fs) (put_next x ss xs) ≡ x ∷ chosen fs xs
-lone_first x gs (true ∷ fs) (s ∷ ss) (y ∷ xs) len e none =
-    by_bool (is_exchange s) (λ w. chosen_first (rw w at e)) (λ w. absurd (false≢true (sym (rw w at none))))
 lone_first x gs (false ∷ fs) (s ∷ ss) (y ∷ xs) len e none =
     by_bool (is_exchange s)
     (λ w. rw w refl)
@@ -141,8 +133,6 @@ lone_first x gs fs ss xs h k w = grind (arith, nat_tests)
 lone_second : {X : Type 0} (x d : X) (gs fs : List Bool) (ss : List Sign) (xs : List X) → length ss ≡ length xs
     → exchanged_flags fs ss ≡ true ∷ gs → chosen_before fs ss ≡ false
     → at_next d ss xs ∷ chosen (put_next false ss fs) (put_next x ss xs) ≡ chosen fs xs
-lone_second x d gs (true ∷ fs) (s ∷ ss) (y ∷ xs) len e none =
-    by_bool (is_exchange s) (λ w. rw w refl) (λ w. absurd (false≢true (sym (rw w at none))))
 lone_second x d gs (false ∷ fs) (s ∷ ss) (y ∷ xs) len e none =
     by_bool (is_exchange s)
     (λ w. dropped_first (rw w at e))
@@ -152,10 +142,7 @@ lone_second x d gs fs ss xs h k w = grind (arith, nat_tests)
 lone_either : {X : Type 0} (f g : Bool) (fs : List Bool) (ss : List Sign) (x : X) (xs : List X) → length ss ≡ length xs → differ f g ≡ true
     → exchanged_flags fs ss ≡ g ∷ [] → chosen_before fs ss ≡ false
     → chosen (at_next f ss fs ∷ put_next f ss fs) (at_next x ss xs ∷ put_next x ss xs) ≡ chosen (f ∷ fs) (x ∷ xs)
-lone_either true true fs ss x xs len d e none = absurd (false≢true d)
-lone_either true false fs ss x xs len d e none = rw (flag_at true false [] fs ss e) (lone_first x [] fs ss xs len e none)
-lone_either false true fs ss x xs len d e none = rw (flag_at false true [] fs ss e) (lone_second x x [] fs ss xs len e none)
-lone_either false false fs ss x xs len d e none = absurd (false≢true d)
+lone_either = grind (arith, nat_tests, false≢true, flag_at, lone_first, lone_second)
 
 -- stays where it is.
 swapped_lone : {X : Type 0} (g h : Bool) (fs : List Bool) (ss : List Sign) (xs : List X) → length ss ≡ length xs
@@ -170,8 +157,7 @@ swapped_lone {X} g h (f ∷ fs) (s ∷ ss) (x ∷ xs) len e d none =
   where
     on : (f : Bool) → chosen (swapped ss fs) (swapped ss xs) ≡ chosen fs xs
         → chosen (f ∷ swapped ss fs) (x ∷ swapped ss xs) ≡ chosen (f ∷ fs) (x ∷ xs)
-    on true h = ap (λ (ys : List X). x ∷ ys) h
-    on false h = h
+    on = grind (arith, nat_tests)
 swapped_lone g h fs ss xs k w e m = grind (arith, nat_tests)
 
 -- What is the same under each exchange doesn't change.
@@ -193,20 +179,13 @@ begin_swapped b (Exchange ∷ ss) = rw (begin_at false ss, begin_put false ss) r
 begin_swapped b (Join ∷ ss) = ap (λ (bs : List Bool). (true && not b) ∷ bs) (begin_swapped true ss)
 begin_swapped b (s ∷ ss) = ap (λ (bs : List Bool). false ∷ bs) (begin_swapped false ss)
 
-is_exchange_at : (s : Sign) → is_exchange s ≡ true → s ≡ Exchange
-is_exchange_at = grind (arith, nat_tests)
-
 sign_at : (ss : List Sign) → at_next Exchange ss ss ≡ Exchange
 sign_at [] = refl
-sign_at (s ∷ ss) = by_bool (is_exchange s)
-    (λ w. rw w (is_exchange_at s w))
-    (λ w. rw w (sign_at ss))
+sign_at (s ∷ ss) = grind (arith, nat_tests, sign_at ss)
 
 sign_put : (ss : List Sign) → put_next Exchange ss ss ≡ ss
 sign_put [] = refl
-sign_put (s ∷ ss) = by_bool (is_exchange s)
-    (λ w. rw w (ap (λ (t : Sign). t ∷ ss) (sym (is_exchange_at s w))))
-    (λ w. rw w (ap (λ (ts : List Sign). s ∷ ts) (sign_put ss)))
+sign_put (s ∷ ss) = grind (arith, nat_tests, sign_put ss)
 
 pub sign_swapped : (ss : List Sign) → swapped ss ss ≡ ss
 sign_swapped [] = refl

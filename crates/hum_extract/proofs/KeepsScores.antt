@@ -1,13 +1,14 @@
 -- What is extracted of a score is a score.
-use Rattle.std.proofs.Common.{◌≡◌, refl, ap, ℕ, Bool, true, false, not, List, [], ◌∷◌, length, map, arith, cond}
+use Rattle.std.proofs.lemmas.Bool.Decides.{nat_tests}
+use Rattle.std.proofs.Common.{◌≡◌, refl, ap, ℕ, Bool, true, false, List, [], ◌∷◌, length, map, arith, cond}
 use Rattle.std.specs.Prelude.{None, Result, Ok, Err}
 use Rattle.std.specs.List.{list_any, list_all, find}
 use Rattle.std.specs.Str.{bytes_eq}
 use lib.Chars.{codes}
-use Rattle.std.proofs.lemmas.Bool.{and_parts, and_from, or_parts, not-false, false≢true}
+use Rattle.std.proofs.lemmas.Bool.{and_parts, and_from, or_parts, not-false}
 use Rattle.hum_score.specs.declared.records.SpinedKind.{SpinedKind}
 use Rattle.hum_score.specs.declared.records.SpinedKind.TheVariants.{Interpretation}
-use Rattle.hum_score.specs.Row.{Row, Spined, chosen}
+use Rattle.hum_score.specs.Row.{Row, chosen}
 use Rattle.hum_score.specs.Spelling.{is_empty}
 use Rattle.hum_score.specs.Sign.{sign_of, is_exclusive}
 use Rattle.hum_score.specs.Spines.{Unopened, Spines}
@@ -20,9 +21,9 @@ use Rattle.hum_stage.specs.declared.faults.Rule.TheVariants.{X2}
 use Rattle.hum_stage.specs.Meaning.{KeepsScore}
 use Rattle.hum_stage.specs.Decided.{decisions, limit}
 use Rattle.hum_columns.proofs.ChosenLists.{chosen_length, chosen_fewer, chosen_none}
-use Rattle.hum_columns.proofs.KeepsScores.{Reach, Selects, text_reaches, text_parts, opening_reaches, columns_keep}
+use Rattle.hum_columns.proofs.KeepsScores.{Reach, Selects, text_reaches, text_parts, columns_keep}
 use Rattle.hum_choices.specs.Extract.{Choice}
-use Rattle.hum_extract.specs.Choice.{opening_flags, misses, names_beyond}
+use Rattle.hum_extract.specs.Choice.{opening_flags, misses}
 use Rattle.hum_extract.specs.Extract.{opened, extract, column_command}
 use Rattle.hum_extract.proofs.Taking.{opening_length}
 use Rattle.hum_extract.proofs.CutLeads.{cut_leads}
@@ -39,10 +40,8 @@ text_kept fs kind names tokens (u ∷ us) other h e =
 
 -- At the opening.
 some_chosen : {X : Type 0} (fs : List Bool) (xs : List X) → length fs ≡ length xs → list_any (λ b. b) fs ≡ true → chosen fs xs ≡ [] → ⊥
-some_chosen [] xs h any e = false≢true any
-some_chosen (f ∷ fs) [] h any e = absurd (omega (arith, h))
-some_chosen (true ∷ fs) (x ∷ xs) h any e = cc
 some_chosen (false ∷ fs) (x ∷ xs) h any e = some_chosen fs xs (omega (arith, h)) any e
+some_chosen fs xs h k w = grind (arith, nat_tests)
 
 chosen_opens : (fs : List Bool) (tokens : List (List ℕ)) → Opens tokens → Opens (chosen fs tokens)
 chosen_opens fs tokens h = record {
@@ -53,12 +52,11 @@ chosen_opens fs tokens h = record {
   where
     exclusive : (fs : List Bool) (ts : List (List ℕ)) → list_all is_exclusive (map sign_of ts) ≡ true
         → list_all is_exclusive (map sign_of (chosen fs ts)) ≡ true
-    exclusive [] ts h = refl
-    exclusive (f ∷ fs) [] h = refl
     exclusive (true ∷ fs) (t ∷ ts) h =
         let both = and_parts (is_exclusive (sign_of t)) (list_all is_exclusive (map sign_of ts)) h in
         and_from (is_exclusive (sign_of t)) (list_all is_exclusive (map sign_of (chosen fs ts))) both.0 (exclusive fs ts both.1)
     exclusive (false ∷ fs) (t ∷ ts) h = exclusive fs ts (and_parts (is_exclusive (sign_of t)) (list_all is_exclusive (map sign_of ts)) h).1
+    exclusive fs ts h = grind (arith, nat_tests)
 
 open_kept : (choice : Choice) (tokens : List (List ℕ)) (rows : List Row) → Opens tokens → opened choice tokens ≡ Ok rows
     → Reach Unopened rows (Spines (chosen (opening_flags choice tokens) tokens))
@@ -68,14 +66,9 @@ open_kept choice tokens rows h e = by_test (misses choice tokens) refl (chosen (
         → ◌≡◌ {A = Result (List Row) Rule} (cond b (Err X2) (Ok (filled Interpretation (us ∷ [])))) (Ok rows)
         → Reach Unopened rows (Spines (chosen (opening_flags choice tokens) tokens))
     by_test true missed us is e = cc
-    by_test false missed [] is e =
-        let none = not (list_any (λ b. b) (opening_flags choice tokens)) in
-        let any = not-false _ (or_parts (names_beyond choice (length tokens)) none missed).1 in
-        absurd (some_chosen (opening_flags choice tokens) tokens (opening_length choice tokens) any is)
+    by_test false missed [] is e = grind (arith, nat_tests, not-false, or_parts, some_chosen, opening_length)
     by_test false missed (u ∷ us) is e =
-        let one : Spined Interpretation (u ∷ us) ∷ [] ≡ rows = cc in
-        let keeps = chosen_opens (opening_flags choice tokens) tokens h in
-        rw (← one, is) (opening_reaches (u ∷ us) (rw is at keeps))
+        grind (arith, nat_tests, chosen_opens (opening_flags choice tokens) tokens h)
 
 pub extract_selects : (choice : Choice) → Selects (column_command choice) chosen
 extract_selects choice = record {
@@ -83,8 +76,7 @@ extract_selects choice = record {
   nothing = nothing;
   opening = open_kept choice;
   later = cut_leads;
-  other = λ fs kind names tokens rows len other h e.
-      let one : filled kind (chosen fs tokens ∷ []) ≡ rows = cc in rw (← one) (text_kept fs kind names tokens (chosen fs tokens) other h refl);
+  other = grind (arith, nat_tests, text_kept);
 }
   where
     nothing : (fs : List Bool) → chosen {X = List ℕ} fs [] ≡ []

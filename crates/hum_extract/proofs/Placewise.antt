@@ -1,4 +1,6 @@
 -- Exchanged columns, place by place.
+use Rattle.std.proofs.lemmas.Grind.{common_steps}
+use Rattle.std.proofs.lemmas.Bool.Decides.{nat_tests}
 use Rattle.std.proofs.Common.{◌≡◌, ◌∙◌, sym, ap, ℕ, suc, ◌+◌, ◌<◌, Bool, true, false, cond, ◌||◌}
 use Rattle.std.proofs.Common.{List, [], ◌∷◌, ◌++◌, length, map, drop, get_or, arith, add-one, drop-cons, Option, None, Some, refl}
 use Rattle.std.specs.Option.{option_to_list}
@@ -28,15 +30,12 @@ between_next false exchanges mark flags signs = cond exchanges (chosen_before fl
 
 between_step : (inside f : Bool) (s : Sign) (flags : List Bool) (signs : List Sign)
     → between_from inside (f ∷ flags) (s ∷ signs) ≡ between_next inside (is_exchange s) f flags signs
-between_step true f s flags signs = refl
-between_step false f s flags signs = refl
+between_step = grind (arith, nat_tests)
 
 between_at : (inside : Bool) (fs : List Bool) (ts : List (List ℕ)) (j : ℕ) → j < length fs → length fs ≡ length ts
     → between_from inside (drop j fs) (map sign_of (drop j ts))
     ≡ between_next inside (is_exchange (sign_of (get_or ts j []))) (get_or fs j false) (drop (suc j) fs) (map sign_of (drop (suc j) ts))
-between_at inside fs ts j h e =
-    rw (flag_at fs j h, signs_at ts j (omega (arith, e)))
-    (between_step inside (get_or fs j false) (sign_of (get_or ts j [])) (drop (suc j) fs) (map sign_of (drop (suc j) ts)))
+between_at = grind (arith, nat_tests, flag_at, signs_at, between_step, get_or)
 
 pub between_ends : (inside : Bool) (fs : List Bool) (ts : List (List ℕ)) (j : ℕ) → j < length fs → length fs ≡ length ts
     → inside ≡ true → is_exchange (sign_of (get_or ts j [])) ≡ true
@@ -47,8 +46,7 @@ pub between_inside : (inside : Bool) (fs : List Bool) (ts : List (List ℕ)) (j 
     → inside ≡ true → is_exchange (sign_of (get_or ts j [])) ≡ false → get_or fs j false ≡ false
     → between_from (inside || is_exchange (sign_of (get_or ts j []))) (drop (j + 1) fs) (map sign_of (drop (j + 1) ts))
     ≡ between_from inside (drop j fs) (map sign_of (drop j ts))
-between_inside inside fs ts j h e is exchanges mark =
-    rw add-one (sym (between_at inside fs ts j h e ∙ rw (is, exchanges, mark) refl))
+between_inside = grind (arith, common_steps)
 
 pub between_outside : (inside : Bool) (fs : List Bool) (ts : List (List ℕ)) (j : ℕ) → j < length fs → length fs ≡ length ts
     → inside ≡ false
@@ -59,8 +57,7 @@ between_outside inside fs ts j h e is =
     rw add-one (sym (between_at inside fs ts j h e ∙ rw is (outside s (get_or fs j false) (drop (suc j) fs) (map sign_of (drop (suc j) ts)))))
   where
     outside : (s f : Bool) (flags : List Bool) (signs : List Sign) → between_next false s f flags signs ≡ between_from s flags signs
-    outside true f flags signs = refl
-    outside false f flags signs = refl
+    outside = grind (arith, nat_tests)
 
 lone_at : (first : Option Bool) (fs : List Bool) (ts : List (List ℕ)) (j : ℕ) → j < length fs → length fs ≡ length ts
     → lone_after first (drop j fs) (map sign_of (drop j ts))

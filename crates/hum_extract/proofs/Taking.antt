@@ -9,16 +9,15 @@ use Rattle.hum_score.specs.declared.records.SpinedKind.TheVariants.{Local, Inter
 use Rattle.hum_score.specs.Row.{Row, Comment, Spined, tokens_of, text_of, chosen}
 use Rattle.hum_score.specs.Spelling.{IsTextOf}
 use Rattle.hum_score.specs.declared.spines.Sign.{Sign}
-use Rattle.hum_score.specs.declared.spines.Sign.TheVariants.{Split, Join, Exchange, Add, End, Exclusive, Plain}
+use Rattle.hum_score.specs.declared.spines.Sign.TheVariants.{Plain}
 use Rattle.hum_score.specs.Sign.{sign_of, is_join, is_plain, all_plain, steers}
-use Rattle.hum_score.specs.Spines.{Path, Unopened, Spines, width, after}
+use Rattle.hum_score.specs.Spines.{Path, Spines, width, after}
 use Rattle.hum_score.specs.Rules.{fault_of}
 use Rattle.hum_score.specs.Score.{IsOpen, path_after}
 use Rattle.hum_path.proofs.Plain.{sound_width, plain_stays}
 use Rattle.hum_stage.specs.Decided.{Decision}
 use Rattle.hum_columns.specs.Spread.{touches, filled}
 use Rattle.hum_columns.specs.Chosen.{flags, is_torn, each_piece}
-use Rattle.hum_columns.specs.Deciding.{at_path}
 use Rattle.hum_columns.specs.Following.{AsWide, Memory, Follows}
 use Rattle.hum_columns.proofs.ChosenJoins.{chosen_tokens}
 use Rattle.hum_columns.proofs.Flags.{flags_width, flags_plain, opening_steers}
@@ -43,13 +42,7 @@ softened_none [] = refl
 softened_none (t ∷ ts) = ap (λ rest. t ∷ rest) (softened_none ts)
 
 not_join : (s : Sign) → is_plain s ≡ true → is_join s ≡ false
-not_join Plain h = refl
-not_join Split h = cc
-not_join Join h = cc
-not_join Exchange h = cc
-not_join Add h = cc
-not_join End h = cc
-not_join Exclusive h = cc
+not_join = grind (arith, nat_tests)
 
 plain_touches : (after : Bool) (fs : List Bool) (ts : List (List ℕ)) → all_plain ts ≡ true → touches false (chosen fs (each_piece after ts)) ≡ false
 plain_touches after (true ∷ fs) (t ∷ ts) h =
@@ -62,28 +55,21 @@ plain_touches after fs ts h = grind (arith, nat_tests)
 
 pub plain_cut : (fs : List Bool) (ts : List (List ℕ)) → all_plain ts ≡ true
     → cut fs ts ≡ Ok (filled Interpretation (chosen fs ts ∷ []))
-plain_cut fs ts h =
-    rw (plain_torn fs (map sign_of ts) h, plain_exchanged fs (map sign_of ts) h, softened_none ts, plain_touches false fs ts h, chosen_tokens false fs ts) refl
+plain_cut = grind (arith, nat_tests, plain_torn, plain_exchanged, softened_none, plain_touches, chosen_tokens)
 
 -- where the spines stand
 
 stays_plain : (tokens : List (List ℕ)) → not (all_plain tokens) ≡ false → all_plain tokens ≡ true
-stays_plain tokens h = flip (all_plain tokens) h
-  where
-    flip : (b : Bool) → not b ≡ false → b ≡ true
-    flip true h = refl
-    flip false h = cc
+stays_plain = grind (arith, nat_tests)
 
 -- a width, where spines are open
 interpreted_width : (path : Path) (tokens : List (List ℕ)) → tokens ≢ [] → all_plain tokens ≡ true
     → fault_of path (Spined Interpretation tokens) ≡ None → length tokens ≡ width path
-interpreted_width Unopened tokens some plain sound = absurd (opening_steers tokens some plain sound)
-interpreted_width (Spines names) tokens some plain sound = sound_width names tokens sound
+interpreted_width = grind (arith, nat_tests, opening_steers, sound_width)
 
 plain_path : (path : Path) (tokens : List (List ℕ)) → tokens ≢ [] → all_plain tokens ≡ true
     → fault_of path (Spined Interpretation tokens) ≡ None → path ≡ Spines (names_in path)
-plain_path Unopened tokens some plain sound = absurd (opening_steers tokens some plain sound)
-plain_path (Spines names) tokens some plain sound = refl
+plain_path = grind (arith, nat_tests, opening_steers)
 
 -- a record that asks nothing of the spines
 
@@ -91,29 +77,12 @@ module _ (choice : Choice) {m : Memory} {decide : Decision} where
   -- the marks are as many as the tokens
   pub wide_still : (row : Row) (past : List Row) → Follows (column_command choice) m decide past → IsOpen (row ∷ past)
       → IsTextOf row (text_of row) → steers row ≡ false → AsWide m.each row
-  wide_still (Comment text) past s score lawful still = tt
-  wide_still (Spined Local tokens) past s score lawful still = wide_text (Spined Local tokens) past s score refl
-  wide_still (Spined Values tokens) past s score lawful still = wide_text (Spined Values tokens) past s score refl
-  wide_still (Spined Interpretation tokens) past s score lawful still =
-      ap length s.marks ∙ flags_width (opening_flags choice) past score.0
-      ∙ sym (interpreted_width (path_after past) tokens lawful.1 (stays_plain tokens still) score.1)
+  wide_still = grind (arith, nat_tests, wide_text, flags_width, interpreted_width, stays_plain)
 
   -- it stays without the columns that aren't chosen
   pub gives_still : (row : Row) (past out : List Row) → Follows (column_command choice) m decide past → IsOpen (row ∷ past)
       → IsTextOf row (text_of row) → steers row ≡ false → out ≡ kept m.each row → decide past row ≡ Ok out
-  gives_still (Comment text) past out s score lawful still e =
-      rw s.decides (ap Ok (sym e))
-  gives_still (Spined Local tokens) past out s score lawful still e =
-      rw s.decides (ap Ok (ap (λ fs. filled Local (chosen fs tokens ∷ [])) (sym s.marks) ∙ sym e))
-  gives_still (Spined Values tokens) past out s score lawful still e =
-      rw s.decides (ap Ok (ap (λ fs. filled Values (chosen fs tokens ∷ [])) (sym s.marks) ∙ sym e))
-  gives_still (Spined Interpretation tokens) past out s score lawful still e =
-      let plain = stays_plain tokens still in
-      let at = plain_path (path_after past) tokens lawful.1 plain score.1 in
-      let fs = flags (opening_flags choice) past in
-      let decided : at_path (path_after past) (opened choice tokens) (cut fs tokens) ≡ Ok (filled Interpretation (chosen fs tokens ∷ [])) =
-      ap (λ (p : Path). at_path p (opened choice tokens) (cut fs tokens)) at ∙ plain_cut fs tokens plain in
-      rw s.decides (decided ∙ ap Ok (ap (λ fs. filled Interpretation (chosen fs tokens ∷ [])) (sym s.marks) ∙ sym e))
+  gives_still = grind (arith, nat_tests, stays_plain, plain_path, plain_cut)
 
   -- nothing moves
   pub follows_still : (row : Row) (past : List Row) → Follows (column_command choice) m decide past → IsOpen (row ∷ past)
@@ -127,8 +96,7 @@ module _ (choice : Choice) {m : Memory} {decide : Decision} where
       let names = names_in (path_after past) in
       let sound : fault_of (Spines names) (Spined Interpretation tokens) ≡ None = rw at at score.1 in
       let same : after (path_after past) (Spined Interpretation tokens) ≡ path_after past =
-      ap (λ (p : Path). after p (Spined Interpretation tokens)) at
-      ∙ ap Spines (plain_stays names tokens plain (sound_width names tokens sound)) ∙ sym at in
+      grind (arith, nat_tests, plain_stays, sound_width) in
       record {
         decides = s.decides;
         spines = s.spines ∙ sym same;
@@ -136,10 +104,7 @@ module _ (choice : Choice) {m : Memory} {decide : Decision} where
       }
 
 pub steered_kind : (row : Row) → steers row ≡ true → row ≡ Spined Interpretation (tokens_of row)
-steered_kind (Comment text) h = cc
-steered_kind (Spined Local tokens) h = cc
-steered_kind (Spined Values tokens) h = cc
-steered_kind (Spined Interpretation tokens) h = refl
+steered_kind = grind (arith, nat_tests)
 
 -- as many flags as opening spines
 pub each_length : (choice : Choice) (width j : ℕ) (names : List (List ℕ)) → length (each_chosen choice width j names) ≡ length names
@@ -153,8 +118,4 @@ opening_length choice names = each_length choice (length names) 0 names
 pub gives_opening : (choice : Choice) (row : Row) (each : List Bool) (out : List Row) → row ≡ Spined Interpretation (tokens_of row)
     → misses choice (tokens_of row) ≡ false → each ≡ opening_flags choice (tokens_of row) → out ≡ kept each row
     → opened choice (tokens_of row) ≡ Ok out
-gives_opening choice (Comment text) each out is found marked given = cc
-gives_opening choice (Spined kind tokens) each out is found marked given =
-    let k : kind ≡ Interpretation = cc in
-    rw found (ap Ok (sym (given ∙ ap (λ k. filled k (chosen each tokens ∷ [])) k
-    ∙ ap (λ fs. filled Interpretation (chosen fs tokens ∷ [])) marked)))
+gives_opening = grind (arith, nat_tests)

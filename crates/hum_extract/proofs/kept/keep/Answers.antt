@@ -1,15 +1,14 @@
-use Rattle.std.proofs.Common.{◌∙◌, ◌∷◌, [], sym, ap}
-use Rattle.hum_extract.proofs.ChosenTokens.{none_chosen, none_kept, some_kept, was_true, was_false}
+use Rattle.std.proofs.lemmas.Grind.{common_steps}
+use Rattle.std.proofs.lemmas.Bool.Decides.{nat_tests}
+use Rattle.std.proofs.Common.{◌∙◌, ◌∷◌, [], sym, ap, arith}
+use Rattle.hum_extract.proofs.ChosenTokens.{none_kept, some_kept, was_true, was_false}
 use Rattle.hum_extract.proofs.kept.keep.Goals as goal
 
 pub returns-then-width-eq0 : goal.returns-then-width-eq0
-returns-then-width-eq0 c =
-    none_chosen c.args.selection.now c.args.row.now c.requires.lawful (sym c.width.ensures ∙ c.if-width-eq0.true)
+returns-then-width-eq0 = grind (arith, common_steps)
 
 pub returns-then-is_none : goal.returns-then-is_none
-returns-then-is_none c =
-    none_kept c.args.selection.now c.args.row.now (rw c.width.ensures at c.if-width-eq0.false)
-    (was_true _ (sym c.is_none.ensures ∙ c.if-is_none.true))
+returns-then-is_none = grind (arith, nat_tests, none_kept, was_true)
 
 pub retain-requires-clause-some : goal.retain-requires-clause-some
 retain-requires-clause-some c = was_false _ (sym c.is_none.ensures ∙ c.if-is_none.false)
