@@ -1,12 +1,13 @@
 -- The line in front of the bytes that come next.
-use Rattle.std.proofs.Common.{◌≡◌, ◌∙◌, ℕ, zero, suc, ◌+◌, ◌-◌, ◌<◌, ◌≤◌, inl, inr, ⊎_elim, true, false}
-use Rattle.std.proofs.Common.{List, [], ◌∷◌, ◌++◌, length, take, get_or, refl, sym, ap, subst, arith, Ok, length-append}
+use Rattle.std.proofs.lemmas.Grind.{common_steps}
+use Rattle.std.proofs.lemmas.Bool.Decides.{nat_tests}
+use Rattle.std.proofs.Common.{◌≡◌, ◌∙◌, ℕ, ◌+◌, ◌-◌, ◌<◌, ◌≤◌, inl, inr, ⊎_elim, false}
+use Rattle.std.proofs.Common.{List, [], ◌∷◌, ◌++◌, length, take, refl, sym, ap, subst, arith, Ok, length-append}
 use Rattle.std.specs.Prelude.{◌==◌, map}
 use Rattle.std.specs.Simd.Lanes.{mask_l}
-use Rattle.std.proofs.lemmas.Bool.{cases_Bool, or_parts}
-use Rattle.std.proofs.lemmas.List.{get_or_append_left, take-append-le, take_more, take_at}
+use Rattle.std.proofs.lemmas.List.{get_or_append_left, take-append-le, take_more}
 use Rattle.hum_text.specs.declared.Limits.{Limits}
-use Rattle.hum_text.specs.Text.{without_cr, ends_in_cr}
+use Rattle.hum_text.specs.Text.{without_cr}
 use Rattle.hum_score.specs.Row.{Row, text_of}
 use Rattle.hum_score.specs.Spelling.{has_byte, reading}
 use Rattle.hum_record.specs.Lines.{IsLine, IsRead}
@@ -14,38 +15,17 @@ use Rattle.hum_record.specs.Plain.{is_stop, HasNoStop}
 
 -- no byte of a text is CR that is read as a record
 no-return : (text : List ℕ) (row : Row) → reading text ≡ Ok row → has_byte 13 text ≡ false
-no-return text row read = elim (cases_Bool (has_byte 13 text)) as (λ _. has_byte 13 text ≡ false) [
-  | inl is ↦ let both = rw is at read in absurd cc
-  | inr none ↦ none
-]
-
-none-empty : (row : Row) → reading [] ≡ Ok row → ⊥
-none-empty row read = cc
+no-return = grind (arith, nat_tests)
 
 some-text : (text : List ℕ) (row : Row) → reading text ≡ Ok row → 0 < length text
-some-text [] row read = absurd (none-empty row read)
-some-text (b ∷ text) row read = omega arith
-
-not-there : (b k : ℕ) (xs : List ℕ) → has_byte b xs ≡ false → k < length xs → (get_or xs k 0 == b) ≡ false
-not-there b k [] none less = absurd (omega (arith, less))
-not-there b zero (x ∷ xs) none less = (or_parts (x == b) (has_byte b xs) none).0
-not-there b (suc k) (x ∷ xs) none less = not-there b k xs (or_parts (x == b) (has_byte b xs) none).1 (omega (arith, less))
+some-text = grind (arith, nat_tests)
 
 -- a text without CR, and one with CR behind it
 keeps-text : (text : List ℕ) → has_byte 13 text ≡ false → 0 < length text → without_cr text ≡ text
-keeps-text text none some =
-    let other : ends_in_cr text ≡ false = not-there 13 (length text - 1) text none (omega (arith, some)) in
-    rw other refl
-
-last-of : (xs : List ℕ) → (get_or (xs ++ 13 ∷ []) (length xs) 0 == 13) ≡ true
-last-of [] = refl
-last-of (x ∷ xs) = last-of xs
+keeps-text = grind (arith, common_steps)
 
 drops-cr : (text : List ℕ) → without_cr (text ++ 13 ∷ []) ≡ text
-drops-cr text =
-    let size : length (text ++ 13 ∷ []) - 1 ≡ length text = omega (arith, length-append text (13 ∷ [])) in
-    let is : ends_in_cr (text ++ 13 ∷ []) ≡ true = ap (λ n. get_or (text ++ 13 ∷ []) n 0 == 13) size ∙ last-of text in
-    rw is (take_at text (13 ∷ []) _ (sym size))
+drops-cr = grind (arith, common_steps)
 
 line_before : (held : List ℕ) (len : ℕ) → (line : IsLine held len) → len ≤ line.lf
 line_before held len line = ⊎_elim (λ same. omega (arith, same)) (λ one. let more = one.0 in omega (arith, more)) line.text
@@ -76,8 +56,7 @@ longer held behind len line =
 -- Where bytes begin with 64 without a stop, those do of which they are in front, and those that are in front of them.
 pub stops_in_front : (held behind pending : List ℕ) → pending ≡ held ++ behind → 64 ≤ length held
     → mask_l (map is_stop (take 64 pending)) ≡ mask_l (map is_stop (take 64 held))
-stops_in_front held behind pending is long =
-    ap (λ (bs : List ℕ). mask_l (map is_stop (take 64 bs))) is ∙ ap (λ (bs : List ℕ). mask_l (map is_stop bs)) (take-append-le 64 held behind long)
+stops_in_front held behind pending is long = grind (arith, nat_tests, take-append-le 64 held behind long)
 
 pub begins_so : (held behind pending : List ℕ) → pending ≡ held ++ behind → HasNoStop held → HasNoStop pending
 begins_so held behind pending is free =
@@ -113,13 +92,10 @@ taking limits given taken pending held behind row is most records bytes read =
     (λ same. ap (λ n. without_cr (take n held)) same ∙ ap without_cr read.text ∙ kept)
     (λ one.
     let more = one.0 in
-    let piece : take lf held ≡ text ++ 13 ∷ [] =
-    ap (λ n. take n held) more ∙ take_more held len 0 (omega (arith, more, within))
-    ∙ ap (λ (b : ℕ). take len held ++ b ∷ []) one.1 ∙ ap (λ (xs : List ℕ). xs ++ 13 ∷ []) read.text in
+    let piece : take lf held ≡ text ++ 13 ∷ [] = grind (arith, nat_tests, take_more) in
     ap without_cr piece ∙ drops-cr text)
     line.text in
-    let all : without_cr (take lf (held ++ behind)) ≡ text =
-    ap without_cr (take-append-le lf held behind (omega (arith, within))) ∙ clean in
+    let all : without_cr (take lf (held ++ behind)) ≡ text = grind (arith, nat_tests, take-append-le) in
     let front : take len (held ++ behind) ≡ text = take-append-le len held behind (omega (arith, before, within)) ∙ read.text in
     subst (λ (xs : List ℕ). Taking limits given taken xs row lf) (sym is) (record {
       line = longer held behind len line;

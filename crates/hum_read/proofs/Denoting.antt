@@ -1,7 +1,9 @@
 -- From record to record of the score that bytes denote.
-use Rattle.std.proofs.Common.{◌≡◌, ℕ, zero, suc, ◌+◌, ◌-◌, ◌<◌, ◌≤◌, Bool, true, false}
-use Rattle.std.proofs.Common.{List, [], ◌∷◌, ◌++◌, length, take, cond, Option, None, Some, Result, Ok, Err}
-use Rattle.std.proofs.Common.{refl, ap, sym, ◌∙◌, subst, arith, append_assoc, append-nil, length-append}
+use Rattle.std.proofs.lemmas.Grind.{common_steps}
+use Rattle.std.proofs.lemmas.Bool.Decides.{nat_tests}
+use Rattle.std.proofs.Common.{◌≡◌, ℕ, suc, ◌+◌, ◌-◌, ◌<◌, ◌≤◌}
+use Rattle.std.proofs.Common.{List, [], ◌∷◌, ◌++◌, length, take, Option, None, Some, Result, Ok, Err}
+use Rattle.std.proofs.Common.{refl, ap, sym, ◌∙◌, arith, append_assoc, append-nil, length-append}
 use Rattle.hum_text.specs.declared.TextFault.{TextFault}
 use Rattle.hum_text.specs.Text.{lines, fault_of}
 use Rattle.hum_text.specs.Reading.{Reader, Holds}
@@ -12,29 +14,20 @@ use Rattle.hum_score.specs.Row.{Row}
 use Rattle.hum_score.specs.Spelling.{reading}
 use Rattle.hum_score.specs.declared.spines.PathFault.{PathFault}
 use Rattle.hum_score.specs.Spines.{Path, Unopened, after}
-use Rattle.hum_score.specs.Rules.{is_unfinished, fault_of as path_fault_of}
+use Rattle.hum_score.specs.Rules.{fault_of as path_fault_of}
 use Rattle.hum_stage.specs.declared.faults.Rule.{Rule}
 use Rattle.hum_stage.specs.declared.faults.Rule.TheVariants as rule
 use Rattle.hum_stage.specs.declared.faults.End.{End}
-use Rattle.hum_stage.specs.declared.faults.End.TheVariants.{Closed}
 use Rattle.hum_score.specs.InOrder.{through, Follow, IsScore}
 use Rattle.hum_stage.proofs.Scores.{through-append}
 use Rattle.hum_read.specs.Denoted.{read_after, on_spines, unless, onward, denoted, up_to, standard}
-use Rattle.hum_read.specs.Denoted.{Score, score_of, end_at, broken_at, closed, ending, text_rule}
+use Rattle.hum_read.specs.Denoted.{score_of, end_at, broken_at, ending, text_rule}
 use Rattle.hum_read.specs.Reading.{Scores, HasRead, AreRead, ahead, Denotes}
 
 -- one line more is read as a record
 pub read-more : (given : List (List ℕ)) (rows : List Row) (line : List ℕ) (row : Row) → AreRead given rows
     → read_after (through Unopened rows) line ≡ Ok row → AreRead (given ++ line ∷ []) (rows ++ row ∷ [])
-read-more given rows line row are is more broken =
-    let path = through Unopened rows in
-    let rest = denoted (after path row) (length rows + 1) more broken in
-    let one : denoted path (length rows) (line ∷ more) broken ≡ ahead (row ∷ []) rest = rw is refl in
-    let along : through Unopened (rows ++ row ∷ []) ≡ after path row = through-append Unopened rows (row ∷ []) in
-    let size : length (rows ++ row ∷ []) ≡ length rows + 1 = length-append rows (row ∷ []) in
-    rw (append_assoc given (line ∷ []) more) (are (line ∷ more) broken
-    ∙ ap (ahead rows) one
-    ∙ rw (along, size, append_assoc rows (row ∷ []) rest.rows) refl)
+read-more = grind (arith, nat_tests, through-append, length-append, append_assoc)
 
 -- the lines up to the broken one, from those that were given on
 front-lines : (given more : List (List ℕ)) (broken : Option (ℕ × TextFault))
@@ -46,18 +39,14 @@ front-lines given more (Some (n, f)) before =
   where
     long : (given : List (List ℕ)) (n : ℕ) → length given ≤ n
         → take n (given ++ more) ≡ given ++ take (n - length given) more
-    long [] n h = ap (λ (k : ℕ). take k more) (omega arith)
-    long (g ∷ given) zero h = absurd (omega arith)
-    long (g ∷ given) (suc n) h =
-        let less : suc n - suc (length given) ≡ n - length given = omega arith in
-        rw less (ap (λ (ls : List (List ℕ)). g ∷ ls) (long given n (omega arith)))
+    long (g ∷ given) (suc n) h = grind (arith, nat_tests, long given n (omega arith))
+    long given n h = grind (arith, nat_tests)
 
 -- what the lines that are read leave of the score
 after-lines : (given : List (List ℕ)) (rows : List Row) (all : List ℕ) (more : List (List ℕ)) → AreRead given rows
     → up_to (fault_of standard all) (lines all) ≡ given ++ more
     → score_of all ≡ ahead rows (denoted (through Unopened rows) (length rows) more (fault_of standard all))
-after-lines given rows all more are is =
-    ap (λ (ls : List (List ℕ)). denoted Unopened 0 ls (fault_of standard all)) is ∙ are more (fault_of standard all)
+after-lines = grind (arith, nat_tests)
 
 -- The records that were given are a prefix of those that the bytes denote.
 pub given-rows : {R : Type 0} (v : Scores R) (all : List ℕ) (rows : List Row) (rest : List ℕ)
@@ -87,16 +76,13 @@ refused-next v all given line rows rest rule limits are holds is =
     ∙ rw is refl
 
 exact : (given more : List (List ℕ)) → take (length given) (given ++ more) ≡ given ++ []
-exact [] more = refl
-exact (g ∷ given) more = ap (λ (ls : List (List ℕ)). g ∷ ls) (exact given more)
+exact = grind (arith, common_steps)
 
 -- no line more is read: what stands at the end
 no-more : (given : List (List ℕ)) (rows : List Row) (all : List ℕ) (broken : Option (ℕ × TextFault))
     → AreRead given rows → fault_of standard all ≡ broken → up_to broken (lines all) ≡ given ++ []
     → score_of all ≡ ahead rows (ending (through Unopened rows) (length rows) broken)
-no-more given rows all broken are is sound =
-    after-lines given rows all [] are (ap (λ (b : Option (ℕ × TextFault)). up_to b (lines all)) is ∙ sound)
-    ∙ ap (λ (b : Option (ℕ × TextFault)). ahead rows (ending (through Unopened rows) (length rows) b)) is
+no-more = grind (arith, nat_tests)
 
 -- The text is broken in the next line.
 pub broken-next : {R : Type 0} (v : Reader R) (all : List ℕ) (given : List (List ℕ)) (rows : List Row) (rest : List ℕ)
@@ -119,38 +105,13 @@ ended-next all given rows are whole is = no-more given rows all None are is (who
 pub denotes-broken : (stage : ℕ) (all : List ℕ) (rows : List Row) (line : ℕ) (rule : Rule) (end : End)
     → score_of all ≡ ahead rows (broken_at line (Some rule)) → end ≡ end_at stage (Some (line, rule))
     → Denotes stage all rows end
-denotes-broken stage all rows line rule end is told = record {
-  records = ap (λ s. s.rows) is ∙ append-nil rows;
-  ending = ap (λ s. end_at stage s.fault) is ∙ sym told;
-  closed = λ e. absurd (not_closed (sym told ∙ e));
-}
-  where
-    not_closed : end_at stage (Some (line, rule)) ≡ Closed → ⊥
-    not_closed e = cc
+denotes-broken = grind (arith, common_steps)
 
 -- where no line is left, all is denoted
 pub denotes-ending : (stage : ℕ) (all : List ℕ) (rows : List Row) → IsScore rows
     → score_of all ≡ ahead rows (ending (through Unopened rows) (length rows) None)
     → Denotes stage all rows (end_at stage (ending (through Unopened rows) (length rows) None).fault)
-denotes-ending stage all rows score is = by_open (is_unfinished (through Unopened rows)) refl
-  where
-    End-of : Score → End
-    End-of s = end_at stage s.fault
-
-    by_open : (b : Bool) → is_unfinished (through Unopened rows) ≡ b
-        → Denotes stage all rows (End-of (ending (through Unopened rows) (length rows) None))
-    by_open true unfinished =
-        let left : ending (through Unopened rows) (length rows) None ≡ broken_at (length rows + 1) (Some rule.P8) =
-        rw unfinished refl in
-        denotes-broken stage all rows (length rows + 1) rule.P8 _ (is ∙ ap (ahead rows) left) (ap End-of left)
-    by_open false none =
-        let left : ending (through Unopened rows) (length rows) None ≡ closed = rw none refl in
-        let all_of : score_of all ≡ ahead rows closed = is ∙ ap (ahead rows) left in
-        record {
-          records = ap (λ s. s.rows) all_of ∙ append-nil rows;
-          ending = ap End-of is;
-          closed = λ e. (score, none);
-        }
+denotes-ending = grind (arith, common_steps)
 
 -- a record that is read breaks no rule of the spines
 sound-read : (path : Path) (read : Result Row RecordFault) (row : Row) → on_spines path read ≡ Ok row
@@ -159,17 +120,12 @@ sound-read path (Ok row') row h = by_fault (path_fault_of path row') refl h
   where
     by_fault : (f : Option PathFault) → path_fault_of path row' ≡ f → unless row' f ≡ Ok row
         → path_fault_of path row ≡ None
-    by_fault None is h = let same : row' ≡ row = cc in subst (λ (r : Row). path_fault_of path r ≡ None) same is
-    by_fault (Some f) is h = cc
+    by_fault = grind (arith, nat_tests)
 sound-read path (Err f) row h = cc
 
 -- what lines denote follows on the spines
 denoted-follow : (path : Path) (n : ℕ) (ls : List (List ℕ)) (broken : Option (ℕ × TextFault))
     → Follow path (denoted path n ls broken).rows
-denoted-follow path n [] None =
-    elim (is_unfinished path) as (λ (b : Bool). Follow path (cond b (broken_at (n + 1) (Some rule.P8)) closed).rows)
-    [ true ↦ tt | false ↦ tt ]
-denoted-follow path n [] (Some (line, fault)) = tt
 denoted-follow path n (line ∷ ls) broken =
     by_reading (read_after path line) refl (λ row. denoted-follow (after path row) (n + 1) ls broken)
   where
@@ -178,6 +134,7 @@ denoted-follow path n (line ∷ ls) broken =
         → Follow path (onward (n + 1) r (λ row. denoted (after path row) (n + 1) ls broken)).rows
     by_reading (Ok row) is rest = (sound-read path (reading line) row is, rest row)
     by_reading (Err rule) is rest = tt
+denoted-follow path n ls broken = grind (arith, nat_tests)
 
 -- The records that bytes denote are a score.
 pub score-of : (all : List ℕ) → IsScore (score_of all).rows
@@ -186,6 +143,4 @@ score-of all = denoted-follow Unopened 0 (up_to (fault_of standard all) (lines a
 -- The records that were given are a prefix of those that the bytes denote.
 pub front-rows : {R : Type 0} (v : Scores R) (all : List ℕ) (rows : List Row) (rest : List ℕ)
     → HasRead v all rows rest → (more : List Row) × ((score_of all).rows ≡ rows ++ more)
-front-rows v all rows rest h =
-    let front = given-rows v all rows rest h in
-    ((denoted (through Unopened rows) (length rows) front.0 (fault_of standard all)).rows, ap (λ s. s.rows) front.1)
+front-rows v all rows rest h = grind (arith, nat_tests, given-rows v all rows rest h)

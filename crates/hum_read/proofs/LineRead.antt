@@ -1,4 +1,6 @@
 -- What is said of a line that was read.
+use Rattle.std.proofs.lemmas.Bool.Decides.{nat_tests}
+use Rattle.std.proofs.Common.{arith}
 use Rattle.std.proofs.Common.{◌≡◌, ◌≢◌, ℕ, ◌≤◌, List, Option, None, Some, Result, Ok, Err, refl, ap, sym, ◌∙◌, subst}
 use Rattle.hum_score.specs.declared.records.RecordFault.{RecordFault}
 use Rattle.hum_score.specs.Row.{Row}
@@ -29,8 +31,7 @@ LineReads old result new = record {
 
 -- a refusal is no failed read
 refusal-sound : (stage line : ℕ) (rule : Option Rule) → answer_of (refusal stage line rule) ≢ Err error.Read
-refusal-sound stage line None is = cc
-refusal-sound stage line (Some rule) is = cc
+refusal-sound = grind (arith, nat_tests)
 
 module _ {R : Type 0} (v w : Scores R) (spines : Tracked) where
   -- the line is refused

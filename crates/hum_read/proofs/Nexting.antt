@@ -1,5 +1,7 @@
 -- What each way through `next` says.
-use Rattle.std.proofs.Common.{◌≡◌, ◌≢◌, ℕ, ◌<◌, ◌≤◌, Bool, true, false, ◌||◌, ◌⊎◌, inl, inr, List, [], length}
+use Rattle.std.proofs.lemmas.Grind.{common_steps}
+use Rattle.std.proofs.lemmas.Bool.Decides.{nat_tests}
+use Rattle.std.proofs.Common.{◌≡◌, ◌≢◌, ℕ, ◌≤◌, Bool, true, false, ◌⊎◌, inr, List, [], length}
 use Rattle.std.proofs.Common.{refl, ap, sym, ◌∙◌, subst, arith, Option, None, Some, Result, Ok, Err}
 use Rattle.std.specs.Prelude.{IfOk, IfErr, OnOk, IfSome}
 use Rattle.std.specs.Option.{is_some}
@@ -9,18 +11,15 @@ use Rattle.hum_text.specs.declared.TextFault.TheVariants as text
 use Rattle.hum_text.specs.declared.calls.TheConstants.{LARGEST_READ}
 use Rattle.hum_text.specs.declared.reader.Step.{Step}
 use Rattle.hum_text.specs.declared.reader.Step.TheVariants.{Line, More, End}
-use Rattle.hum_text.specs.Calls.{IsCalled}
 use Rattle.hum_text.specs.Reading.{Reader, IsUnread, IsFed, IsOver, NeedsRead, ReadsOnce, Nears, Fails, KeepsLimits, left_to_do, bytes_read}
 use Rattle.hum_text.specs.Reading.{GivesNext as LinesGiveNext}
 use Rattle.hum_text.specs.Reading.{GivesLine}
 use Rattle.hum_text.proofs.PollLemmas.{line-polls}
-use Rattle.hum_text.proofs.ReadingLemmas.{drop-all}
 use Rattle.hum_score.specs.Row.{Row}
 use Rattle.hum_stage.specs.declared.faults.End.{End as EndOf}
 use Rattle.hum_read.specs.declared.ReadError.{ReadError}
 use Rattle.hum_read.specs.declared.ReadError.TheVariants as error
 use Rattle.hum_score.specs.Spelling.{has_byte}
-use Rattle.hum_read.specs.Denoted.{standard}
 use Rattle.hum_read.specs.Steps.{IsTidy, Nexts, ReadsLine, given_by, end_of, stop_by}
 use Rattle.hum_read.proofs.Polling.{has-line, text-ended, text-stopped}
 use Rattle.hum_read.specs.Reading.{HasRead, Scores, Polled, Gave, ReadOn, Ended, Gives, GivesNext, stop_of, answer_of, IsCalledAtMostOnce}
@@ -40,30 +39,14 @@ Meets (Err text.S7) r = (end : EndOf) × (r ≡ Ok (Ended end))
 
 -- an answer is that nothing is there yet where the lines say so
 more-of : (s : Result Step TextFault) (r : Result Polled ReadError) → Meets s r → r ≡ Ok ReadOn → s ≡ Ok More
-more-of (Ok Line) r meets is = absurd (meets.0 is)
-more-of (Ok More) r meets is = refl
-more-of (Ok End) r meets is = let both = sym is ∙ meets.1 in cc
-more-of (Err text.Read) r meets is = let both = sym is ∙ meets in cc
-more-of (Err text.Memory) r meets is = let both = sym is ∙ meets in cc
-more-of (Err text.S1) r meets is = let both = sym is ∙ meets.1 in cc
-more-of (Err text.S2) r meets is = let both = sym is ∙ meets.1 in cc
-more-of (Err text.S3) r meets is = let both = sym is ∙ meets.1 in cc
-more-of (Err text.S7) r meets is = let both = sym is ∙ meets.1 in cc
+more-of = grind (arith, nat_tests)
 
 more-then : (s : Result Step TextFault) (r : Result Polled ReadError) → Meets s r → s ≡ Ok More → r ≡ Ok ReadOn
 more-then s r meets is = let At : Result Step TextFault → Type 0 = λ t. Meets t r in subst At is meets
 
 -- an answer is that the read failed where the lines say so
 read-of : (s : Result Step TextFault) (r : Result Polled ReadError) → Meets s r → r ≡ Err error.Read → s ≡ Err text.Read
-read-of (Ok Line) r meets is = absurd (meets.1 is)
-read-of (Ok More) r meets is = let both = sym is ∙ meets in cc
-read-of (Ok End) r meets is = let both = sym is ∙ meets.1 in cc
-read-of (Err text.Read) r meets is = refl
-read-of (Err text.Memory) r meets is = let both = sym is ∙ meets in cc
-read-of (Err text.S1) r meets is = let both = sym is ∙ meets.1 in cc
-read-of (Err text.S2) r meets is = let both = sym is ∙ meets.1 in cc
-read-of (Err text.S3) r meets is = let both = sym is ∙ meets.1 in cc
-read-of (Err text.S7) r meets is = let both = sym is ∙ meets.1 in cc
+read-of = grind (arith, nat_tests)
 
 -- a property of an answer that is a known one
 at : (Q : Result Polled ReadError → Type 0) (q r : Result Polled ReadError) → r ≡ q → Q q → Q r
@@ -72,61 +55,21 @@ at Q q r is h = subst Q (sym is) h
 -- each answer brings it nearer to the end, as a poll of the lines does
 nears-by : (s : Result Step TextFault) (r : Result Polled ReadError) (m n : ℕ) → Meets s r → IfOk s (λ step. Nears step m n)
     → IfOk r (λ step. NearsBy step m n)
-nears-by s r m n = by s
-  where
-    By : Result Polled ReadError → Type 0
-    By q = IfOk q (λ step. NearsBy step m n)
-
-    line : (q : Result Polled ReadError) → n < m → By q
-    line (Ok (Gave row)) near = near
-    line (Ok ReadOn) near = near
-    line (Ok (Ended end)) near = tt
-    line (Err e) near = tt
-
-    by : (t : Result Step TextFault) → Meets t r → IfOk t (λ step. Nears step m n) → By r
-    by (Ok Line) meets near = line r near
-    by (Ok More) meets near = line r near
-    by (Ok End) meets near = at By _ r meets.1 tt
-    by (Err text.Read) meets near = at By _ r meets tt
-    by (Err text.Memory) meets near = at By _ r meets tt
-    by (Err text.S1) meets near = at By _ r meets.1 tt
-    by (Err text.S2) meets near = at By _ r meets.1 tt
-    by (Err text.S3) meets near = at By _ r meets.1 tt
-    by (Err text.S7) meets near = at By _ r meets.1 tt
-
--- no byte was consumed
-consumes-none : (known : Option (List ℕ)) → Consumes known known []
-consumes-none None = tt
-consumes-none (Some xs) = refl
+nears-by = grind (arith, nat_tests)
 
 some-none : (s : Result EndOf ReadError) → Some s ≡ None → ⊥
 some-none s is = cc
 
 -- what one answers that has stopped is how it has stopped
 pub stop-answer : (s : Result EndOf ReadError) → Some s ≡ stop_of (answer_of s)
-stop-answer (Ok end) = refl
-stop-answer (Err e) = refl
+stop-answer = grind (arith, nat_tests)
 
 pub no-more : (s : Result EndOf ReadError) → answer_of s ≡ Ok ReadOn → ⊥
-no-more (Ok end) is = cc
-no-more (Err e) is = cc
-
-failed-of : (s : Result EndOf ReadError) → answer_of s ≡ Err error.Read → s ≡ Err error.Read
-failed-of (Ok end) is = cc
-failed-of (Err e) is = cc
-
-no-step : (s : Result EndOf ReadError) (m n : ℕ) → IfOk (answer_of s) (λ step. NearsBy step m n)
-no-step (Ok end) m n = tt
-no-step (Err e) m n = tt
+no-more = grind (arith, nat_tests)
 
 -- a fault is told as what it is
 meets-stop : (stage given : ℕ) (f : TextFault) → Meets (Err f) (answer_of (stop_by stage given f))
-meets-stop stage given text.Read = refl
-meets-stop stage given text.Memory = refl
-meets-stop stage given text.S1 = (_, refl)
-meets-stop stage given text.S2 = (_, refl)
-meets-stop stage given text.S3 = (_, refl)
-meets-stop stage given text.S7 = (_, refl)
+meets-stop = grind (arith, nat_tests)
 
 pub tidy-taken : {R : Type 0} (old new : Reader R) (stopped : Option (Result EndOf ReadError)) → IsTidy old stopped → GivesLine old new → IsTidy new stopped
 tidy-taken old new stopped tidy line = record { limits = line.limits ∙ tidy.limits; going = λ _. line.no_fault }
@@ -162,78 +105,21 @@ module _ {R : Type 0} (remaining : R → Option (List ℕ)) (calls : R → ℕ) 
   -- a poll makes at most one call
   once-of : (v w : Reader R) (s : Result Step TextFault) → ReadsOnce calls has_failed v s w
       → IsCalledAtMostOnce calls has_failed v.source w.source
-  once-of v w (Ok Line) read = inr (false, read.0)
-  once-of v w (Ok More) read = inr (false, read.0)
-  once-of v w (Ok End) read = inr (false, read.0)
-  once-of v w (Err text.Read) read = inr (true, read.0)
-  once-of v w (Err text.Memory) read = inl (sym read.0)
-  once-of v w (Err text.S1) read = inr (false, read.0)
-  once-of v w (Err text.S2) read = inr (false, read.0)
-  once-of v w (Err text.S3) read = inr (false, read.0)
-  once-of v w (Err text.S7) read = inr (false, read.0)
+  once-of = grind (arith, nat_tests)
 
   -- what it made of the read that was due
   due-of : (v w : Scores R) (s : Result Step TextFault) (r : Result Polled ReadError) → Meets s r
       → ReadsOnce calls has_failed v.lines s w.lines → ReadsOnceDue calls has_failed v r w
-  due-of v w s r = by s
-    where
-      By : Result Polled ReadError → Type 0
-      By q = ReadsOnceDue calls has_failed v q w
-
-      line : (q : Result Polled ReadError) → (q ≢ Ok ReadOn) → (q ≢ Err error.Read)
-          → ReadsOnce calls has_failed v.lines (Ok Line) w.lines → By q
-      line (Ok (Gave row)) more fails read = read
-      line (Ok ReadOn) more fails read = absurd (more refl)
-      line (Ok (Ended end)) more fails read = read
-      line (Err error.Read) more fails read = absurd (fails refl)
-      line (Err error.Memory) more fails read = inr read
-
-      by : (t : Result Step TextFault) → Meets t r → ReadsOnce calls has_failed v.lines t w.lines → By r
-      by (Ok Line) meets read = line r meets.0 meets.1 read
-      by (Ok More) meets read = at By _ r meets read
-      by (Ok End) meets read = at By _ r meets.1 read
-      by (Err text.Read) meets read = at By _ r meets read
-      by (Err text.Memory) meets read = at By _ r meets (inl read)
-      by (Err text.S1) meets read = at By _ r meets.1 read
-      by (Err text.S2) meets read = at By _ r meets.1 read
-      by (Err text.S3) meets read = at By _ r meets.1 read
-      by (Err text.S7) meets read = at By _ r meets.1 read
+  due-of = grind (arith, nat_tests)
 
   -- a mark that is new was set by a read that has_failed
   marked-of : (v w : Reader R) (s : Result Step TextFault) (r : Result Polled ReadError) → Meets s r
       → (¬ NeedsRead v → IsUnread v w) → (NeedsRead v → ReadsOnce calls has_failed v s w)
       → has_failed w.source ≡ true → (has_failed v.source ≡ true) ⊎ (r ≡ Err error.Read)
-  marked-of v w s r meets unread once is = by_old (has_failed v.source) refl
-    where
-      new : IsCalled calls has_failed v.source w.source false → has_failed v.source ≡ false → ⊥
-      new called clear =
-          let both : true ≡ false = sym is ∙ called.marked ∙ ap (λ b. b || false) clear in absurd cc
-
-      same : w.source ≡ v.source → has_failed v.source ≡ false → ⊥
-      same kept clear = let both : true ≡ false = sym is ∙ ap has_failed kept ∙ clear in absurd cc
-
-      sound : (has_failed v.source ≡ false) → (NeedsRead v → ⊥) → ⊥
-      sound clear needless = same (unread needless).0 clear
-
-      by : (t : Result Step TextFault) → Meets t r → (NeedsRead v → ReadsOnce calls has_failed v t w) → has_failed v.source ≡ false
-          → r ≡ Err error.Read
-      by (Ok Line) m read clear = absurd (sound clear (λ needs. new (read needs).0 clear))
-      by (Ok More) m read clear = absurd (sound clear (λ needs. new (read needs).0 clear))
-      by (Ok End) m read clear = absurd (sound clear (λ needs. new (read needs).0 clear))
-      by (Err text.Read) m read clear = m
-      by (Err text.Memory) m read clear = absurd (sound clear (λ needs. same (read needs).0 clear))
-      by (Err text.S1) m read clear = absurd (sound clear (λ needs. new (read needs).0 clear))
-      by (Err text.S2) m read clear = absurd (sound clear (λ needs. new (read needs).0 clear))
-      by (Err text.S3) m read clear = absurd (sound clear (λ needs. new (read needs).0 clear))
-      by (Err text.S7) m read clear = absurd (sound clear (λ needs. new (read needs).0 clear))
-
-      by_old : (b : Bool) → has_failed v.source ≡ b → (has_failed v.source ≡ true) ⊎ (r ≡ Err error.Read)
-      by_old true marked = inl marked
-      by_old false clear = inr (by s meets once clear)
+  marked-of = grind (arith, nat_tests)
 
   failed-new : (v w : Reader R) → v.fault ≡ None → (v.fault ≡ Some text.Read) ⊎ (has_failed w.source ≡ true) → has_failed w.source ≡ true
-  failed-new v w sound (inl is) = let both = sym is ∙ sound in cc
-  failed-new v w sound (inr is) = is
+  failed-new = grind (arith, nat_tests)
 
   -- A poll of the lines was made, and this comes of it.
   polled-nexts : (v w : Scores R) (s : Result Step TextFault) (r : Result Polled ReadError) → v.stopped ≡ None
@@ -282,17 +168,7 @@ module _ {R : Type 0} (remaining : R → Option (List ℕ)) (calls : R → ℕ) 
 
   pub asks-line : (old new : Reader R) (stopped : Option (Result EndOf ReadError)) (step : Step) → IsTidy old stopped
       → stopped ≡ None → step ≡ Line → Polls old (Ok step) new → AsksLine stopped new
-  asks-line old new stopped step tidy going is polls =
-      let Q : Step → Type 0 = λ t. Polls old (Ok t) new in
-      let polled : Polls old (Ok Line) new = subst Q is polls in
-      let within : KeepsLimits standard Line new.line new.given =
-      subst (λ l. KeepsLimits l Line new.line new.given) tidy.limits polled.within in
-      record {
-        going = going;
-        short = within.0;
-        one_line = within.1;
-        few = within.2;
-      }
+  asks-line = grind (arith, nat_tests)
 
   -- so many lines as the limits allow
   pub few-given : (old new : Reader R) (stopped : Option (Result EndOf ReadError)) (f : TextFault) (given : ℕ)
@@ -376,34 +252,4 @@ module _ {R : Type 0} (remaining : R → Option (List ℕ)) (calls : R → ℕ) 
 
   -- It has stopped before.
   pub stopped-nexts : (v : Scores R) → true ≡ is_some v.stopped → Nexts remaining calls has_failed v (given_by None v.stopped) v
-  stopped-nexts v some = by v.stopped refl some
-    where
-      none : bytes_read v.lines v.lines ≡ []
-      none = drop-all v.lines.pending (length v.lines.pending) (omega arith)
-
-      stopped : (s : Result EndOf ReadError) (r : Result Polled ReadError) → v.stopped ≡ Some s → r ≡ answer_of s → Nexts remaining calls has_failed v r v
-      stopped s r is told =
-          let ends : v.stopped ≡ None → ⊥ = λ going. let both = sym is ∙ going in absurd (some-none s both) in
-          let By : List ℕ → Type 0 = λ bs. Consumes (remaining v.lines.source) (remaining v.lines.source) bs in
-          record {
-            gives = λ going. absurd (ends going);
-            stops = is ∙ stop-answer s ∙ sym (ap stop_of told);
-            again = subst (λ o. IfSome o (λ q. (r ≡ answer_of q) × (v ≡ v))) (sym is) (told, refl);
-            stage = refl;
-            unread = λ _. (refl, refl, none);
-            once = λ _. inl refl;
-            due = λ due. absurd (ends due.going);
-            more = λ more. absurd (no-more s (sym told ∙ more));
-            unfed = λ _. none;
-            asked = omega (arith, ap length none);
-            consumes = subst By (sym none) (consumes-none (remaining v.lines.source));
-            at_end = λ end. inl end;
-            failed = λ fails. inl (is ∙ ap Some (failed-of s (sym told ∙ fails)));
-            marked = λ mark. inl mark;
-            taken = λ going. absurd (ends going);
-            nears = at (λ q. IfOk q (λ step. NearsBy step (left_to_do v.lines) (left_to_do v.lines))) _ r told (no-step s _ _);
-          }
-
-      by : (o : Option (Result EndOf ReadError)) → v.stopped ≡ o → true ≡ is_some o → Nexts remaining calls has_failed v (given_by None v.stopped) v
-      by None is some = let both : true ≡ false = some in absurd cc
-      by (Some s) is some = stopped s (given_by None v.stopped) is (ap (λ o. given_by None o) is)
+  stopped-nexts = grind (arith, common_steps)

@@ -1,7 +1,9 @@
 -- What the parts of a poll give.
+use Rattle.std.proofs.lemmas.Grind.{common_steps}
+use Rattle.std.proofs.lemmas.Bool.Decides.{nat_tests}
 use Rattle.std.proofs.Common.{◌≡◌, ℕ, ◌+◌, ◌<◌, ◌≤◌, List, [], ◌∷◌, ◌++◌, length}
 use Rattle.std.proofs.Common.{Option, None, Some, Result, Ok, Err, inl, inr, ◌⊎◌}
-use Rattle.std.proofs.Common.{refl, ap, sym, ◌∙◌, subst, arith, length-append}
+use Rattle.std.proofs.Common.{ap, sym, ◌∙◌, subst, arith, length-append}
 use Rattle.hum_text.specs.declared.TextFault.{TextFault}
 use Rattle.hum_text.specs.declared.TextFault.TheVariants as text
 use Rattle.hum_text.specs.Text.{lines, fault_of, IsOfText}
@@ -32,14 +34,10 @@ gives-refused : {R : Type 0} (v : Scores R) (all : List ℕ) (rows : List Row) (
     (rule : Option Rule) (result : Result Polled ReadError) (After : List Row → Type 0)
     → result ≡ answer_of (refusal v.stage v.lines.given rule) → HasLine v all rows rest
     → read_after (through Unopened rows) v.lines.line ≡ Err rule → Gives v.stage all rows result After
-gives-refused v all rows rest None result After told h is =
-    let G : Result Polled ReadError → Type 0 = λ r. Gives v.stage all rows r After in
-    subst G (sym told) tt
+gives-refused v all rows rest None result After told h is = grind (arith, nat_tests)
 gives-refused v all rows rest (Some rule) result After told h is =
     let G : Result Polled ReadError → Type 0 = λ r. Gives v.stage all rows r After in
-    let count : v.lines.given ≡ length rows + 1 =
-    (let n = h.holds.stands.number in let m = length-append h.given (v.lines.line ∷ []) in
-    let k = h.as_many in omega (arith, n, m, k)) in
+    let count : v.lines.given ≡ length rows + 1 = grind (arith, nat_tests, length-append) in
     let score = refused-next v.lines all h.given v.lines.line rows rest (Some rule) h.limits h.read h.holds is in
     let denotes : Denotes v.stage all rows (end_at v.stage (Some (v.lines.given, rule))) =
     denotes-broken v.stage all rows (length rows + 1) rule _ score
@@ -49,36 +47,18 @@ gives-refused v all rows rest (Some rule) result After told h is =
 -- a text that was refused breaks that rule, unless memory ran out
 parse-refused : (fault : RecordFault) (read : Result Row RecordFault) → Fails fault read
     → (record_rule fault ≡ None) ⊎ (read ≡ Err fault)
-parse-refused of_record.S4 read h = inr h
-parse-refused of_record.S5 read h = inr h
-parse-refused of_record.S6 read h = inr h
-parse-refused of_record.S8 read h = inr h
-parse-refused of_record.L1 read h = inr h
-parse-refused of_record.Memory read h = inl refl
+parse-refused = grind (arith, nat_tests)
 
 -- a record that was refused breaks that rule of the spines, unless memory ran out
 step-refused : (fault : PathFault) (broken : Option PathFault) → Refuses fault broken
     → (path_rule fault ≡ None) ⊎ (broken ≡ Some fault)
-step-refused of_path.P1 broken h = inr h
-step-refused of_path.P2 broken h = inr h
-step-refused of_path.P3 broken h = inr h
-step-refused of_path.P4 broken h = inr h
-step-refused of_path.P5 broken h = inr h
-step-refused of_path.P6 broken h = inr h
-step-refused of_path.P7 broken h = inr h
-step-refused of_path.P8 broken h = inr h
-step-refused of_path.P9 broken h = inr h
-step-refused of_path.P10 broken h = inr h
-step-refused of_path.P11 broken h = inr h
-step-refused of_path.Memory broken h = inl refl
+step-refused = grind (arith, nat_tests)
 
 -- memory ran out
 gives-memory : (stage given : ℕ) (all : List ℕ) (rows : List Row) (rule : Option Rule)
     (result : Result Polled ReadError) (After : List Row → Type 0)
     → result ≡ answer_of (refusal stage given rule) → rule ≡ None → Gives stage all rows result After
-gives-memory stage given all rows rule result After told none =
-    let G : Result Polled ReadError → Type 0 = λ r. Gives stage all rows r After in
-    subst G (sym (told ∙ ap (λ (r : Option Rule). answer_of (refusal stage given r)) none)) tt
+gives-memory = grind (arith, nat_tests)
 
 -- The text of the line is refused.
 pub text-refused : {R : Type 0} (v : Scores R) (fault : RecordFault)
@@ -139,36 +119,13 @@ text-broken : (stage : ℕ) (f : TextFault) (result : Result Polled ReadError) (
     → result ≡ answer_of (stop_by stage given f) → given ≡ length rows
     → (IsOfText f → score_of all ≡ ahead rows (broken_at (length rows + 1) (text_rule f)))
     → Gives stage all rows result After
-text-broken stage f result given all rows After told count is =
-    let G : Result Polled ReadError → Type 0 = λ r. Gives stage all rows r After in
-    subst G (sym told) (by_fault f is)
-  where
-    line : (rule : Rule) → end_at stage (Some (given + 1, rule)) ≡ end_at stage (Some (length rows + 1, rule))
-    line rule = ap (λ (n : ℕ). end_at stage (Some (n + 1, rule))) count
-
-    by_fault : (f : TextFault)
-        → (IsOfText f → score_of all ≡ ahead rows (broken_at (length rows + 1) (text_rule f)))
-        → Gives stage all rows (answer_of (stop_by stage given f)) After
-    by_fault text.S1 is = denotes-broken stage all rows (length rows + 1) rule.S1 _ (is tt) (line rule.S1)
-    by_fault text.S2 is = denotes-broken stage all rows (length rows + 1) rule.S2 _ (is tt) (line rule.S2)
-    by_fault text.S3 is = denotes-broken stage all rows (length rows + 1) rule.S3 _ (is tt) (line rule.S3)
-    by_fault text.S7 is = denotes-broken stage all rows (length rows + 1) rule.S7 _ (is tt) (line rule.S7)
-    by_fault text.Read is = tt
-    by_fault text.Memory is = tt
+text-broken = grind (arith, common_steps)
 
 -- what the lines have given, as what the reader of scores has
 pub has-line : {R : Type 0} (v w : Scores R) (all : List ℕ) (rows : List Row) (read rest : List ℕ)
     → (h : HasRead v all rows read) → w.lines.limits ≡ v.lines.limits → w.spines.path ≡ v.spines.path
     → Holds w.lines all (h.given ++ w.lines.line ∷ []) rest → HasLine w all rows rest
-has-line v w all rows read rest h limits path holds = record {
-  limits = limits ∙ h.limits;
-  given = h.given;
-  holds = holds;
-  read = h.read;
-  score = h.score;
-  path = path ∙ h.path;
-  as_many = h.as_many;
-}
+has-line = grind (arith, nat_tests)
 
 -- No line is left.
 pub text-ended : {R : Type 0} (v w : Scores R) (all : List ℕ) (rows : List Row) (read rest : List ℕ)

@@ -1,4 +1,6 @@
-use Rattle.std.proofs.Common.{◌≡◌, ◌∙◌, ◌≤◌, ◌+◌, ◌++◌, ℕ, List, Option, length, refl, sym, subst, None, Some, false}
+use Rattle.std.proofs.lemmas.Bool.Decides.{nat_tests}
+use Rattle.std.proofs.Common.{arith}
+use Rattle.std.proofs.Common.{◌≡◌, ◌∙◌, ◌≤◌, ◌+◌, ◌++◌, ℕ, List, Option, length, sym, subst, None, false}
 use Rattle.std.specs.Option.{is_some}
 use Rattle.hum_record.specs.Lines.{IsReadTo}
 use Rattle.hum_score.specs.Row.{Row}
@@ -45,8 +47,7 @@ give_short-requires-in-Ok-clause-ahead g c =
     ahead_to _ _ _ _ _ ahead.next ahead.line ahead.records ahead.bytes c.in-Ok.ensures.line c.self.view_is
 
 none_left : {X : Type 0} (o : Option X) → is_some o ≡ false → o ≡ None
-none_left None none = refl
-none_left (Some x) none = cc
+none_left = grind (arith, nat_tests)
 
 pub next_longer-requires-clause-going : goal.next_longer-requires-clause-going
 next_longer-requires-clause-going g c =
