@@ -2,7 +2,7 @@
 use Rattle.std.proofs.lemmas.Grind.{common_steps}
 use Rattle.std.proofs.lemmas.Bool.Decides.{nat_tests}
 use Rattle.std.proofs.Common.{◌≡◌, ◌∙◌, refl, sym, ap, ℕ, zero, suc, ◌+◌, ◌≤◌, ◌⊎◌, inl, inr}
-use Rattle.std.proofs.Common.{Bool, true, false, ◌||◌, List, [], ◌∷◌, ◌++◌, length}
+use Rattle.std.proofs.Common.{Bool, true, false, List, [], ◌∷◌, ◌++◌, length}
 use Rattle.std.proofs.Common.{arith, length-append, replicate}
 use Rattle.std.specs.Prelude.{Option, None, Some}
 use Rattle.std.specs.List.{list_any}
@@ -70,23 +70,13 @@ none_begins : (going : Bool) (p : Place) (ss : List Source) → is_over p ≡ fa
     → AllSound ss → NoneIn (paths_of ss) → list_any (is_at going p) ss ≡ true → ⊥
 none_begins going p [] o r i n h = let e = h in cc
 none_begins going p (s ∷ ss) o r i n h =
-    (elim (is_at going p s) as (λ b. is_at going p s ≡ b → (b || list_any (is_at going p) ss) ≡ true → ⊥) [
-      | true ↦ λ e w. let v = sym (begins_inside going p s o r i.0 e) ∙ n.0 in cc
-      | false ↦ λ e w. none_begins going p ss o r i.1 n.1 w
-    ]) refl h
+    grind (arith, nat_tests, none_begins going p ss o r i.1 n.1, begins_inside)
 
 pub begins_out : (going : Bool) (p : Place) (ss : List Source) → is_over p ≡ false → rank p ≤ 1
     → AllSound ss → OneIn (paths_of ss) → list_any (is_at going p) ss ≡ true → OthersOut going p ss
 begins_out going p [] o r i n h = tt
 begins_out going p (s ∷ ss) o r i n h =
-    (elim (is_at going p s) as (λ b. is_at going p s ≡ b → (b || list_any (is_at going p) ss) ≡ true
-    → OthersOut going p (s ∷ ss)) [
-      | true ↦ grind (arith, nat_tests, begins_inside)
-      | false ↦ λ e w. elim n [
-        | inl one ↦ inr (e, one.0, begins_out going p ss o r i.1 one.1 w)
-        | inr none ↦ absurd (none_begins going p ss o r i.1 none w)
-      ]
-    ]) refl h
+    grind (arith, nat_tests, begins_out going p ss o r i.1, begins_inside, none_begins)
 
 -- One source alone.
 row_leads : (path : Path) (row : Row) → is_opened path ≡ true → Some Interpretation ≡ spined_of row

@@ -6,7 +6,7 @@ use Rattle.std.proofs.Common.{◌&&◌, ◌||◌, List, [], ◌∷◌, length, t
 use Rattle.std.proofs.Common.{get_or, arith, add-one}
 use Rattle.std.specs.Prelude.{Option, Some, option_map}
 use Rattle.std.specs.List.{list_any, position_from}
-use Rattle.std.proofs.lemmas.Option.{none-some, same_Some}
+use Rattle.std.proofs.lemmas.Option.{none-some}
 use Rattle.hum_score.specs.Row.{Row}
 use Rattle.hum_stage.specs.declared.faults.End.{End}
 use Rattle.hum_assemble.specs.declared.places.Next.TheVariants.{Wants, Over as NothingMore}
@@ -31,12 +31,7 @@ counted_on going i k (s ∷ ss) = grind (arith, nat_tests, counted_on going i (k
 pub found_below : (going : Bool) (i j : ℕ) (ss : List Source)
     → position_from (is_missing going) i ss ≡ Some j → j < i + length ss
 found_below going i j [] h = absurd (none-some j h)
-found_below going i j (s ∷ ss) h =
-    (elim (is_missing going s) as (λ b. cond b (Some i) (position_from (is_missing going) (i + 1) ss) ≡ Some j
-    → j < i + length (s ∷ ss)) [
-      | true ↦ λ e. let f = same_Some _ _ e in omega (arith, f)
-      | false ↦ λ e. let f = found_below going (i + 1) j ss e in omega (arith, f)
-    ]) h
+found_below going i j (s ∷ ss) h = grind (arith, nat_tests, found_below going (i + 1) j ss)
 
 -- The first that is missing, found behind those that are known.
 pub first_behind : (going : Bool) (n : ℕ) (ss : List Source) (o : Option ℕ) → AllKnown going (take n ss)
@@ -59,11 +54,7 @@ known_to : (going : Bool) (i j : ℕ) (ss : List Source) (s s' : Source) (row : 
 known_to going i j [] s s' row h g = tt
 known_to going i zero (x ∷ ss) s s' row h g = (rw g (shows going s row), tt)
 known_to going i (suc j) (x ∷ ss) s s' row h g =
-    (elim (is_missing going x) as (λ b. cond b (Some i) (position_from (is_missing going) (i + 1) ss)
-    ≡ Some (i + suc j) → (b ≡ false) × AllKnown going (take (suc j) (set ss j s'))) [
-      | true ↦ λ e. absurd (let f = same_Some _ _ e in omega (arith, f))
-      | false ↦ λ e. (refl, known_to going (i + 1) j ss s s' row (e ∙ ap Some (omega arith)) g)
-    ]) h
+    grind (arith, nat_tests, known_to going (i + 1) j ss s s' row)
 
 -- None is lost by it.
 none_lost : (going : Bool) (j : ℕ) (ss : List Source) (s s' : Source) (row : Row)
@@ -71,10 +62,7 @@ none_lost : (going : Bool) (j : ℕ) (ss : List Source) (s s' : Source) (row : R
     → list_any (is_lost going) (set ss j s') ≡ false
 none_lost going j [] s s' row g h = refl
 none_lost going zero (x ∷ ss) s s' row g h = grind (arith, nat_tests)
-none_lost going (suc j) (x ∷ ss) s s' row g h =
-    (elim (is_lost going x) as (λ b. (b || list_any (is_lost going) ss) ≡ false
-    → (b || list_any (is_lost going) (set ss j s')) ≡ false)
-    [ true ↦ λ e. cc | false ↦ λ e. none_lost going j ss s s' row g e ]) h
+none_lost going (suc j) (x ∷ ss) s s' row g h = grind (arith, nat_tests, none_lost going j ss s s' row g)
 
 -- Who is due stays so.
 pub same_due : (j : ℕ) (ss : List Source) (s s' : Source) (row : Row) → s ≡ get_or ss j s

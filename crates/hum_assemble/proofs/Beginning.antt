@@ -59,12 +59,7 @@ idle_see k (s ∷ ss) h = (h.0.sees, idle_see k ss h.1)
 see_from : (n : ℕ) (ss : List Source) → n ≤ rank (earliest false ss) → (k : ℕ) → AllSee false k ss
     → AllSee false n ss
 see_from n [] l k h = tt
-see_from n (s ∷ ss) l k h =
-    let a = earlier_left (place_at false s) (earliest false ss) in
-    let b = earlier_right (place_at false s) (earliest false ss) in (
-      record { known = h.0.known; later = omega (arith, l, a); follow = h.0.follow },
-      see_from n ss (omega (arith, l, b)) k h.1,
-    )
+see_from n (s ∷ ss) l k h = grind (arith, nat_tests, see_from n ss)
 
 record Reached (st : ℕ) (p : Place) : Type 0 where
   at : Place

@@ -11,13 +11,12 @@ use lib.Chars.{codes}
 use Rattle.hum_score.specs.Spelling.{is_empty}
 use Rattle.hum_score.specs.declared.spines.Sign.{Sign}
 use Rattle.hum_score.specs.declared.spines.Sign.TheVariants.{Plain}
-use Rattle.hum_score.specs.Sign.{sign_of, is_join, is_exchange, is_exclusive, is_path_indicator}
-use Rattle.hum_score.specs.Rules.{breaks, in_order, has_unnamed, stays_unnamed, has_bare}
+use Rattle.hum_score.specs.Sign.{sign_of, is_join, is_exclusive, is_path_indicator}
+use Rattle.hum_score.specs.Rules.{breaks, in_order, has_unnamed, has_bare}
 use Rattle.hum_score.specs.Rules.{names_and_steers, has_lone_join, is_pair_or_none, has_mixed_join}
 use Rattle.hum_score.specs.Spines.{Spines, exchanges, names_after}
 use Rattle.hum_path.specs.Onward.{beginnings, onward, at_next, put_next, swapped}
 use Rattle.hum_path.specs.Onward.{renamed_each}
-use Rattle.hum_score.proofs.Cases.{by_bool}
 use Rattle.hum_path.proofs.Obeyed.{obeys}
 use Rattle.hum_path.proofs.Onwards.{names_onward, swapped_none, swapped_length}
 use Rattle.hum_path.proofs.Onwards.{each_length}
@@ -49,10 +48,6 @@ pub own_leads : (names tokens : List (List ℕ)) → find (breaks (Spines names)
     → Leads names tokens (names_after (Spines names) tokens)
 own_leads = grind (arith, nat_tests, obeys)
 
--- On the left.
-or_false : (a b : Bool) → (a || b) ≡ false → (a ≡ false) × (b ≡ false)
-or_false = grind (arith, nat_tests)
-
 signs_left : (n : ℕ) (tokens : List (List ℕ))
     → map sign_of (stars n ++ tokens) ≡ plains n ++ map sign_of tokens
 signs_left zero tokens = refl
@@ -62,9 +57,7 @@ unnamed_left : (others names : List (List ℕ)) (signs : List Sign)
     → list_any is_empty others ≡ false
     → has_unnamed (others ++ names) (plains (length others) ++ signs) ≡ has_unnamed names signs
 unnamed_left [] names signs h = refl
-unnamed_left (x ∷ others) names signs h =
-    let b = or_false (is_empty x) (list_any is_empty others) h in
-    rw b.0 (unnamed_left others names signs b.1)
+unnamed_left (x ∷ others) names signs h = grind (arith, nat_tests, unnamed_left others names signs)
 
 bare_left : (n : ℕ) (tokens : List (List ℕ)) → has_bare (stars n ++ tokens) ≡ has_bare tokens
 bare_left zero tokens = refl
@@ -146,9 +139,7 @@ signs_right n (t ∷ tokens) = ap (λ (ss : List Sign). sign_of t ∷ ss) (signs
 plain_unnamed : (others : List (List ℕ)) → list_any is_empty others ≡ false
     → has_unnamed others (plains (length others)) ≡ false
 plain_unnamed [] h = refl
-plain_unnamed (x ∷ others) h =
-    let b = or_false (is_empty x) (list_any is_empty others) h in
-    rw b.0 (plain_unnamed others b.1)
+plain_unnamed (x ∷ others) h = grind (arith, nat_tests, plain_unnamed others)
 
 unnamed_right : (others names : List (List ℕ)) (signs : List Sign) → length names ≡ length signs
     → list_any is_empty others ≡ false → has_unnamed names signs ≡ false
@@ -157,8 +148,7 @@ unnamed_right others [] [] e h u = plain_unnamed others h
 unnamed_right others [] (s ∷ signs) e h u = absurd (omega (arith, e))
 unnamed_right others (n ∷ names) [] e h u = absurd (omega (arith, e))
 unnamed_right others (n ∷ names) (s ∷ signs) e h u =
-    let b = or_false (stays_unnamed n s) (has_unnamed names signs) u in
-    rw b.0 (unnamed_right others names signs (omega (arith, e)) h b.1)
+    grind (arith, nat_tests, unnamed_right others names signs (omega (arith, e)) h)
 
 bare_stars : (n : ℕ) → has_bare (stars n) ≡ false
 bare_stars zero = refl
@@ -218,11 +208,7 @@ swapped_right others [] m [] e = swapped_none 0 (plains m) others (exchanges_pla
 swapped_right others [] m (s ∷ signs) e = absurd (omega (arith, e))
 swapped_right others (x ∷ xs) m [] e = absurd (omega (arith, e))
 swapped_right others (x ∷ xs) m (s ∷ signs) e =
-    let l : length signs ≡ length xs = omega (arith, e) in
-    let a = next_right x others xs m signs l in
-    let p = put_right x others xs m signs l in
-    let ih = swapped_right others xs m signs l in
-    by_bool (is_exchange s) (λ w. rw (w, a, p) refl) (λ w. rw (w, ih) refl)
+    grind (arith, nat_tests, swapped_right others xs m signs, next_right, put_right)
 
 onward_plain : (f : List ℕ → List ℕ) (b : Bool) (others : List (List ℕ))
     → onward f (beginnings b (plains (length others))) (plains (length others)) others ≡ others

@@ -2,7 +2,7 @@
 use Rattle.std.proofs.lemmas.Grind.{common_steps}
 use Rattle.std.proofs.lemmas.Bool.Decides.{nat_tests}
 use Rattle.std.proofs.Common.{◌≡◌, ◌∙◌, refl, Bool, true, arith}
-use Rattle.std.proofs.Common.{false, ◌||◌, cond, List, [], ◌∷◌}
+use Rattle.std.proofs.Common.{false, cond, List, [], ◌∷◌}
 use Rattle.std.proofs.Common.{map}
 use Rattle.std.specs.Prelude.{Option, None, is_some}
 use Rattle.std.specs.List.{list_any}
@@ -116,14 +116,9 @@ module _ {V : Type 0} (going : Bool) (p : Place) (f : V → Option Row) (Q : Sou
   share_on (s ∷ ss) (v ∷ vs) h = (h.0.on, share_on ss vs h.1)
   share_on ss vs h = grind (arith, nat_tests)
 
-  or_false : (a b : Bool) → (a || b) ≡ false → (a ≡ false) × (b ≡ false)
-  or_false = grind (arith, nat_tests)
-
   share_stays : (ss : List Source) (vs : List V) → Share ss vs
       → list_any is_some (map f vs) ≡ false → Both Q ss vs
-  share_stays (s ∷ ss) (v ∷ vs) h n =
-      let b = or_false (is_some (f v)) (list_any is_some (map f vs)) n in
-      (h.0.stays (h.0.at ∙ b.0), share_stays ss vs h.1 b.1)
+  share_stays (s ∷ ss) (v ∷ vs) h n = grind (arith, nat_tests, share_stays ss vs h.1)
   share_stays ss vs h k = grind (arith, nat_tests)
 
   pub does_together : (ss : List Source) (vs : List V) → is_shared p ≡ true → is_over p ≡ false

@@ -16,10 +16,7 @@ use Rattle.hum_assemble.proofs.Calls.{has_room}
 
 few : (n : ℕ) (m : Merge) → length (gives n m) ≤ n
 few zero m = omega arith
-few (suc n) m = elim (doing m) [
-  | Going p e ↦ rw (gives_going n m p e) (let f = few n (given_on p m) in omega (arith, f))
-  | Resting r ↦ rw (gives_resting (suc n) m r) (omega arith)
-]
+few (suc n) m = grind (arith, nat_tests, few n, doing m, gives_going n m, gives_resting (suc n) m)
 
 by_next : (m : Merge) (a : next.Next) → ahead m ≡ a → length (all_given m) ≤ held_in m
 by_next m (Gives p) e = rw e (few (total m.sources) m)

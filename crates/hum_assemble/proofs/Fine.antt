@@ -1,7 +1,7 @@
 -- What is given is a score, as far as it goes.
 use Rattle.std.proofs.lemmas.Bool.Decides.{nat_tests}
 use Rattle.std.proofs.Common.{◌≡◌, ◌∙◌, refl, sym, ap, ℕ, ◌≤◌, ◌<◌, ◌⊎◌, inl, inr}
-use Rattle.std.proofs.Common.{Bool, true, false, ◌||◌, List, [], ◌∷◌, length}
+use Rattle.std.proofs.Common.{Bool, true, false, List, [], ◌∷◌, length}
 use Rattle.std.proofs.Common.{arith}
 use Rattle.std.specs.Prelude.{None, Some}
 use Rattle.std.specs.List.{list_any, find}
@@ -31,7 +31,8 @@ use Rattle.hum_assemble.specs.Merge.{made, spines}
 use Rattle.hum_assemble.proofs.Rounds.{none_inside, all_sound, names_spines}
 use Rattle.hum_assemble.proofs.Quiet.{comment_stays, quiet_text, quiet_tandem, some_names}
 use Rattle.hum_assemble.proofs.Quiet.{tandem_tokens, not_going, opening_path}
-use Rattle.hum_assemble.proofs.Sounding.{leads_sound, opening_sound, text_sound, plain_sound, ends_lead}
+use Rattle.hum_path.proofs.Kept.{opening_sound}
+use Rattle.hum_assemble.proofs.Sounding.{leads_sound, text_sound, plain_sound, ends_lead}
 use Rattle.hum_assemble.proofs.Alone.{paths_of, OneIn, none_one, none_in, others_out}
 use Rattle.hum_assemble.proofs.Alone.{OthersOut, named_of}
 use Rattle.hum_assemble.proofs.Alone.{begins_out, alone_leads, alone_one, names_in, names_are}
@@ -98,21 +99,14 @@ unopened_at : (going : Bool) (p : Place) (ss : List Source) → is_over p ≡ fa
     → AllUnopened ss → list_any (is_at going p) ss ≡ true → (2 ≤ rank p) × (rank p ≤ 3)
 unopened_at going p [] o i u h = cc
 unopened_at going p (s ∷ ss) o i u h =
-    (elim (is_at going p s) as (λ b. is_at going p s ≡ b → (b || list_any (is_at going p) ss) ≡ true
-    → (2 ≤ rank p) × (rank p ≤ 3)) [
-      | true ↦ grind (arith, nat_tests, taker, unopened_rank)
-      | false ↦ λ at w. unopened_at going p ss o i.1 u.1 w
-    ]) refl h
+    grind (arith, nat_tests, unopened_at going p ss o i.1 u.1, taker, unopened_rank)
 
 -- nor is there an opening record once there are spines
 no_opening : (going : Bool) (ss : List Source) → AllSound ss → AllSettled ss
     → list_any (is_at going Opening) ss ≡ true → ⊥
 no_opening going [] i e h = let v = h in cc
 no_opening going (s ∷ ss) i e h =
-    (elim (is_at going Opening s) as (λ b. is_at going Opening s ≡ b → (b || list_any (is_at going Opening) ss) ≡ true → ⊥) [
-      | true ↦ grind (arith, nat_tests, taker, opening_path, opened_taker)
-      | false ↦ λ at w. no_opening going ss i.1 e.1 w
-    ]) refl h
+    grind (arith, nat_tests, no_opening going ss i.1 e.1, taker, opening_path, opened_taker)
 
 -- What a record needs, where it is given.
 pub record Here (going : Bool) (p : Place) (ss : List Source) : Type 0 where
@@ -242,7 +236,7 @@ opening_goes path false ss e f h =
           let o = all_open ss before.1 f.sound h.show in
           let few : length tokens ≤ 4096 =
           let n = few_names false Opening ss h in let e = ap length o.names in omega (arith, n, e) in (
-            rw before.0 (opening_sound tokens o.exclusive o.bare few),
+            rw before.0 (opening_sound tokens (record { exclusive = o.exclusive; bare = o.bare; few = few })),
             record {
               sound = sound_on path false Opening ss f h;
               one = grind (arith, nat_tests, none_one, named_none, names_are, exclusive_named);

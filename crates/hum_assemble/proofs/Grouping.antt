@@ -1,10 +1,9 @@
 -- Group after group, the closing records.
 use Rattle.std.proofs.lemmas.Bool.Decides.{nat_tests}
-use Rattle.std.proofs.lemmas.Bool.{leb-true, leb-false}
 use Rattle.std.proofs.Common.{◌≡◌, ◌∙◌, refl, sym, ap, ℕ, zero, suc, ◌+◌, ◌≤◌, ◌<◌, Bool, true}
-use Rattle.std.proofs.Common.{false, not, ◌&&◌, ◌||◌, cond, List, [], ◌∷◌, length, arith}
+use Rattle.std.proofs.Common.{false, not, ◌||◌, List, [], ◌∷◌, length, arith}
 use Rattle.std.proofs.Common.{map}
-use Rattle.std.specs.Prelude.{Option, None, Some, is_some, ◌==◌, nat_le}
+use Rattle.std.specs.Prelude.{Option, None, Some, is_some, ◌==◌}
 use Rattle.std.specs.List.{list_any, list_all, AllByRecursion}
 use Rattle.hum_score.specs.Row.{Row}
 use Rattle.hum_score.specs.Spines.{Path, Spines}
@@ -34,13 +33,6 @@ use Rattle.hum_assemble.specs.Groups.{is_comment}
 use Rattle.hum_assemble.proofs.Bodies.{looks, calm, body_stands}
 use Rattle.hum_assemble.proofs.Units.{round_does, both_map}
 
--- Sources and what is to come of them, in step.
-or_false : (a b : Bool) → (a || b) ≡ false → (a ≡ false) × (b ≡ false)
-or_false = grind (arith, nat_tests)
-
-and_true : (a b : Bool) → (a && b) ≡ true → (a ≡ true) × (b ≡ true)
-and_true = grind (arith, nat_tests)
-
 module _ {V : Type 0} (R : Source → V → Type 0) where
   pub both_any : (f : Source → Bool) (g : V → Bool) → ((s : Source) (v : V) → R s v → f s ≡ g v)
       → (ss : List Source) (vs : List V) → Both R ss vs → list_any f ss ≡ list_any g vs
@@ -60,14 +52,12 @@ module _ {V : Type 0} (R : Source → V → Type 0) where
 
   pub both_known : (test : V → Bool) (ss : List Source) (vs : List V) → Both R ss vs
       → list_all test vs ≡ true → Both (λ s v. R s v × (test v ≡ true)) ss vs
-  both_known test (s ∷ ss) (v ∷ vs) h k =
-      let p = and_true (test v) (list_all test vs) k in ((h.0, p.0), both_known test ss vs h.1 p.1)
+  both_known test (s ∷ ss) (v ∷ vs) h k = grind (arith, nat_tests, both_known test ss vs h.1)
   both_known test ss vs h k = grind (arith, nat_tests)
 
   pub both_none : (test : V → Bool) (ss : List Source) (vs : List V) → Both R ss vs
       → list_any test vs ≡ false → Both (λ s v. R s v × (test v ≡ false)) ss vs
-  both_none test (s ∷ ss) (v ∷ vs) h k =
-      let p = or_false (test v) (list_any test vs) k in ((h.0, p.0), both_none test ss vs h.1 p.1)
+  both_none test (s ∷ ss) (v ∷ vs) h k = grind (arith, nat_tests, both_none test ss vs h.1)
   both_none test ss vs h k = grind (arith, nat_tests)
 
   pub both_moved : (f : Source → Source) (Q : Source → V → Type 0)
@@ -105,16 +95,7 @@ AllShort size n = AllByRecursion (λ v. size v < n)
 pub most_short : {V : Type 0} (size : V → ℕ) (m : ℕ) (vs : List V) → most (map size vs) ≤ m
     → AllShort size (m + 1) vs
 most_short size m [] h = tt
-most_short size m (v ∷ vs) h =
-    (elim (nat_le (size v) (most (map size vs))) as (λ b. nat_le (size v) (most (map size vs)) ≡ b
-    → cond b (most (map size vs)) (size v) ≤ m → AllShort size (m + 1) (v ∷ vs)) [
-      | true ↦ λ e w.
-          let l = leb-true (size v) (most (map size vs)) e in
-          (omega (arith, l, w), most_short size m vs w)
-      | false ↦ λ e w.
-          let l = leb-false (size v) (most (map size vs)) e in
-          (omega (arith, w), most_short size m vs (omega (arith, l, w)))
-    ]) refl h
+most_short size m (v ∷ vs) h = grind (arith, nat_tests, most_short size m vs)
 
 pub none_short : {V : Type 0} (size : V → ℕ) (R Q : Source → V → Type 0) (ss : List Source)
     (vs : List V) → AllShort size 0 vs → Both R ss vs → Both Q ss vs
@@ -131,11 +112,7 @@ pub some_one : {V : Type 0} (size : V → ℕ) (test : V → Bool) (n : ℕ) (vs
     → ((v : V) → test v ≡ true → 1 ≤ size v) → AllShort size (suc n) vs → list_any test vs ≡ true
     → 1 ≤ n
 some_one size test n [] e l h = cc
-some_one size test n (v ∷ vs) e l h =
-    (elim (test v) as (λ b. test v ≡ b → (b || list_any test vs) ≡ true → 1 ≤ n) [
-      | true ↦ λ a w. let x = e v a in let y = l.0 in omega (arith, x, y)
-      | false ↦ λ a w. some_one size test n vs e l.1 w
-    ]) refl h
+some_one size test n (v ∷ vs) e l h = grind (arith, nat_tests, some_one size test n vs e l.1)
 
 pub all_shorter : {V : Type 0} (size : V → ℕ) (next : V → V) (n : ℕ) (vs : List V)
     → ((v : V) → size v < suc n → size (next v) < n) → AllShort size (suc n) vs

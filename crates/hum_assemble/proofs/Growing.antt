@@ -2,7 +2,7 @@
 use Rattle.std.proofs.lemmas.Bool.Decides.{nat_tests}
 use Rattle.std.proofs.Common.{◌≡◌, ◌∙◌, refl, ap, ℕ, ◌+◌, Bool, true, arith}
 use Rattle.std.proofs.Common.{false, cond, List, [], ◌∷◌, length}
-use Rattle.std.specs.Prelude.{None, Some}
+use Rattle.std.specs.Prelude.{None}
 use Rattle.std.specs.List.{list_any, position_from}
 use Rattle.hum_score.specs.Row.{Row, text_of}
 use Rattle.hum_assemble.specs.declared.places.Place.{Place}
@@ -32,13 +32,7 @@ is_waiting NothingMore = false
 none_missing : (going : Bool) (i : ℕ) (ss : List Source) → position_from (is_missing going) i ss ≡ None
     → AllKnown going ss
 none_missing going i [] h = tt
-none_missing going i (s ∷ ss) h =
-    elim (is_missing going s) as (λ b. cond b (Some i) (position_from (is_missing going) (i + 1) ss) ≡ None →
-    (b ≡ false) × AllKnown going ss) [
-      | true ↦ λ e. cc
-      | false ↦ λ e.
-          (refl, none_missing going (i + 1) ss e)
-    ] h
+none_missing going i (s ∷ ss) h = grind (arith, nat_tests, none_missing going (i + 1) ss)
 
 pub missing_none : (going : Bool) (i : ℕ) (ss : List Source) → AllKnown going ss
     → position_from (is_missing going) i ss ≡ None

@@ -1,7 +1,7 @@
 -- A record given of sources of which one has more to come.
 use Rattle.std.proofs.lemmas.Bool.Decides.{nat_tests}
 use Rattle.std.proofs.Common.{◌≡◌, refl, ap, ℕ, zero, suc, ◌+◌, Bool, true, arith}
-use Rattle.std.proofs.Common.{false, ◌&&◌, ◌||◌, List, [], ◌∷◌}
+use Rattle.std.proofs.Common.{false, ◌&&◌, List, [], ◌∷◌}
 use Rattle.std.specs.Prelude.{Option, None, is_none, is_some, ◌==◌, if◌then◌else◌}
 use Rattle.std.specs.List.{list_any}
 use Rattle.hum_score.specs.Row.{Row}
@@ -151,10 +151,7 @@ pub lost_same : (going : Bool) (j : ℕ) (change : Change) (ss : List Source) �
     → list_any (is_lost going) ss ≡ true → list_any (is_lost going) (changed_at j change ss) ≡ true
 lost_same going j change [] i h = absurd i
 lost_same going zero change (s ∷ ss) i h = grind (arith, nat_tests)
-lost_same going (suc j) change (s ∷ ss) i h =
-    elim (is_lost going s) as (λ b. (b || list_any (is_lost going) ss) ≡ true →
-    (b || list_any (is_lost going) (changed_at j change ss)) ≡ true)
-    [ true ↦ λ e. refl | false ↦ λ e. lost_same going j change ss i e ] h
+lost_same going (suc j) change (s ∷ ss) i h = grind (arith, nat_tests, lost_same going j change ss i)
 
 and_false : (a b c : Bool) → (a && b) ≡ false → (a && (b && c)) ≡ false
 and_false = grind (arith, nat_tests)

@@ -121,9 +121,5 @@ not_going_fields = grind (arith, nat_tests, inside_first, is_long, is_long_first
 pub not_going : (going : Bool) (p : Place) (ss : List Source) → is_over p ≡ false
     → (rank p == 3 || rank p == 9) ≡ true → AllSound ss → list_any (is_at going p) ss ≡ true
     → going ≡ false
-not_going true p (s ∷ ss) o k i h =
-    (elim (is_at true p s) as (λ b. is_at true p s ≡ b → (b || list_any (is_at true p) ss) ≡ true → true ≡ false) [
-      | true ↦ λ at w. absurd (not_going_fields p s.path s.due s.coming s.ended o k i.0 at)
-      | false ↦ λ at w. not_going true p ss o k i.1 w
-    ]) refl h
+not_going true p (s ∷ ss) o k i h = grind (arith, nat_tests, not_going true p ss o k i.1, not_going_fields)
 not_going going p ss h k w e = grind (arith, nat_tests)

@@ -14,8 +14,8 @@ use Rattle.hum_stage.specs.declared.faults.End.TheVariants.{Closed}
 use Rattle.hum_assemble.specs.declared.places.Place.{Place}
 use Rattle.hum_assemble.specs.Source.{Source, is_inside}
 use Rattle.hum_assemble.specs.Head.{is_opened}
-use Rattle.hum_assemble.specs.Places.{rank, kind_at, null_at, is_shared, is_over, earlier}
-use Rattle.hum_assemble.specs.Round.{place_at, takes, still_free, earliest, any_due, AllKnown}
+use Rattle.hum_assemble.specs.Places.{rank, kind_at, null_at, is_shared, is_over}
+use Rattle.hum_assemble.specs.Round.{takes, still_free, earliest, any_due, AllKnown}
 use Rattle.hum_assemble.specs.Merge.{all_moved, part_given, tokens_given}
 use Rattle.hum_assemble.specs.Merge.{tokens_of_first, spines}
 use Rattle.hum_assemble.specs.Taking.{is_at}
@@ -31,16 +31,10 @@ AllShow going p = AllByRecursion (Shows going p)
 abbrev pub NoneInside : List Source → Type 0
 NoneInside = AllByRecursion (λ s. is_inside s.path ≡ false)
 
--- the earliest place is before all
-pub earlier_le : (n : ℕ) (p q : Place) → n ≤ rank (earlier p q) → (n ≤ rank p) × (n ≤ rank q)
-earlier_le = grind (arith, nat_tests)
-
 pub all_show : (going : Bool) (p : Place) (ss : List Source) → AllKnown going ss
     → rank p ≤ rank (earliest going ss) → AllShow going p ss
 all_show going p [] k l = tt
-all_show going p (s ∷ ss) k l =
-    let both = earlier_le (rank p) (place_at going s) (earliest going ss) l in
-    (record { known = k.0; later = both.0 }, all_show going p ss k.1 both.1)
+all_show going p (s ∷ ss) k l = grind (arith, nat_tests, all_show going p ss k.1)
 
 pub none_inside : (going : Bool) (p : Place) (ss : List Source) → AllSound ss → AllShow going p ss
     → 1 < rank p → NoneInside ss

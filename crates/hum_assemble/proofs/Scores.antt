@@ -18,7 +18,7 @@ use Rattle.hum_assemble.specs.Round.{place_at}
 use Rattle.hum_assemble.specs.Merge.{all_moved}
 use Rattle.hum_assemble.proofs.Sides.{IsSound}
 use Rattle.hum_assemble.proofs.Rounds.{AllSound}
-use Rattle.hum_assemble.proofs.Rounds.{names_of, earlier_le}
+use Rattle.hum_assemble.proofs.Rounds.{names_of}
 use Rattle.hum_score.specs.InOrder.{Follow, IsScore, IsClosed, through}
 use Rattle.hum_stage.specs.declared.faults.Rule.{Rule}
 use Rattle.hum_words.specs.declared.commands.Command.TheVariants.{Assemble}
@@ -31,7 +31,7 @@ use Rattle.hum_assemble.specs.Round.{any_due, earliest, is_lost}
 use Rattle.hum_assemble.specs.Merge.{Merge, ahead, given_row, given_on, spines}
 use Rattle.hum_assemble.specs.Merge.{ahead_at, ahead_of}
 use Rattle.hum_assemble.specs.Meaning.{gives, goes_on, total, begun, opening, output, rest, refusal}
-use Rattle.hum_assemble.specs.Meaning.{inputs_end, with_end, ends, AreScores}
+use Rattle.hum_assemble.specs.Meaning.{inputs_end, ends, AreScores}
 use Rattle.hum_assemble.specs.Meaning.{KeepsScores}
 use Rattle.hum_assemble.proofs.Steps.{is_given, giving, lost_given, is_giving, Doing, Going}
 use Rattle.hum_assemble.proofs.Steps.{Resting, doing, gives_going, gives_resting, on_going, on_resting}
@@ -136,14 +136,9 @@ ends_on (suc n) m = elim (doing m) [
 abbrev AllClosed : List Source → Type 0
 AllClosed = AllByRecursion (λ s. s.ended ≡ Some Closed)
 
-both_closed : (a b : Option end.End) → with_end a b ≡ Some Closed
-    → (a ≡ Some Closed) × (b ≡ Some Closed)
-both_closed = grind (arith, nat_tests)
-
 all_closed : (ss : List Source) → inputs_end (map (λ s. s.ended) ss) ≡ Some Closed → AllClosed ss
 all_closed [] h = tt
-all_closed (s ∷ ss) h =
-    let b = both_closed s.ended (inputs_end (map (λ s. s.ended) ss)) h in (b.0, all_closed ss b.1)
+all_closed (s ∷ ss) h = grind (arith, nat_tests, all_closed ss)
 
 never_due : (path : Path) (ended : Option end.End)
     → IsSound (record { path = path; due = true; coming = []; ended = ended }) → ended ≡ Some Closed → ⊥
@@ -163,8 +158,7 @@ AllOver going = AllByRecursion (λ s. 11 ≤ rank (place_at going s))
 
 all_over : (going : Bool) (ss : List Source) → 11 ≤ rank (earliest going ss) → AllOver going ss
 all_over going [] l = tt
-all_over going (s ∷ ss) l =
-    let b = earlier_le 11 (place_at going s) (earliest going ss) l in (b.0, all_over going ss b.1)
+all_over going (s ∷ ss) l = grind (arith, nat_tests, all_over going ss)
 
 pub place_before : (path : Path) (row : Row) → rank (place path row) ≤ 10
 place_before = grind (arith, nat_tests)

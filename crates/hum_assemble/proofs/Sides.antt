@@ -1,7 +1,7 @@
 -- One source of several, where a record is given.
 use Rattle.std.proofs.lemmas.Bool.Decides.{nat_tests}
-use Rattle.std.proofs.Common.{◌≡◌, ◌∙◌, refl, sym, ap, ◌≤◌, ◌<◌, ◌⊎◌, inl, inr, Bool}
-use Rattle.std.proofs.Common.{true, false, ◌&&◌, ◌||◌, List, [], ◌∷◌, arith}
+use Rattle.std.proofs.Common.{◌≡◌, ◌∙◌, refl, sym, ap, ◌≤◌, ◌<◌, ◌⊎◌, Bool}
+use Rattle.std.proofs.Common.{true, false, ◌||◌, List, [], ◌∷◌, arith}
 use Rattle.std.specs.Prelude.{◌==◌, Option, None, Some}
 use Rattle.hum_score.specs.Row.{Row}
 use Rattle.hum_score.specs.Rules.{fault_of, is_unfinished}
@@ -108,11 +108,7 @@ wait_fields : (free going : Bool) (p : Place) (path : Path) (coming : List Row)
     → (is_inside path ≡ true) ⊎ (is_long_first path coming ≡ true)
 wait_fields free going p path [] ended o all n d = grind (arith, nat_tests)
 wait_fields free going p path (row ∷ rows) ended o all n d =
-    elim (same_step p (place path row) o d (λ sh.
-    ap (λ (b : Bool). b && (rank p == rank (place path row))) (sym (all sh)) ∙ n)) [
-      | inl long ↦ inr long
-      | inr early ↦ inl (early_inside path row early)
-    ]
+    grind (arith, nat_tests, same_step p (place path row) o d, early_inside path row)
 
 taken_sound : (path : Path) (due : Bool) (coming : List Row) (ended : Option end.End)
     → IsSound (record { path = path; due = due; coming = coming; ended = ended })

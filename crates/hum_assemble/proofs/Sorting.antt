@@ -1,8 +1,6 @@
 -- What stands behind an opening record: the sort of each record, its place, and the spines after it.
-use Rattle.std.proofs.lemmas.Grind.{common_steps}
-use Rattle.std.proofs.lemmas.Bool.Decides.{nat_tests}
 use Rattle.std.proofs.Common.{◌≡◌, ◌∙◌, refl, sym, ℕ, ◌≤◌, Bool, true}
-use Rattle.std.proofs.Common.{false, not, ◌&&◌, ◌||◌, cond, List, [], ◌∷◌, ◌++◌, length, arith}
+use Rattle.std.proofs.Common.{false, cond, List, [], ◌∷◌, length, arith}
 use Rattle.std.proofs.Common.{map}
 use Rattle.std.specs.Prelude.{None, ◌==◌}
 use Rattle.std.specs.List.{list_any, list_all, find}
@@ -13,22 +11,26 @@ use Rattle.hum_score.specs.Spelling.{is_empty}
 use Rattle.hum_score.specs.declared.spines.Sign.{Sign}
 use Rattle.hum_score.specs.declared.spines.Sign.TheVariants.{End}
 use Rattle.hum_score.specs.declared.spines.Sign.TheVariants.{Exclusive, Plain}
-use Rattle.hum_score.specs.Sign.{sign_of, is_exclusive, is_exchange, is_join, is_plain, all_plain}
+use Rattle.hum_score.specs.Sign.{sign_of, is_exclusive, is_join, is_plain, all_plain}
 use Rattle.hum_score.specs.Sign.{is_path_indicator}
 use Rattle.hum_score.specs.Spines.{Path, Unopened, Spines, after, names_after}
 use Rattle.hum_score.specs.Rules.{fault_of, breaks, breaks_as_text, in_order, has_unnamed}
 use Rattle.hum_score.specs.Rules.{stays_unnamed}
-use Rattle.hum_path.specs.Onward.{beginnings, onward, onward_one, swapped, at_next, put_next}
+use Rattle.hum_path.specs.Onward.{beginnings, onward, swapped, at_next, put_next}
 use Rattle.hum_path.specs.Onward.{renamed_each}
+use Rattle.std.proofs.lemmas.Bool.{or_parts}
+use Rattle.std.proofs.lemmas.Bool.Decides.{nat_tests}
+use Rattle.std.proofs.lemmas.List.Folds.{list_any-append}
 use Rattle.hum_path.proofs.Obeyed.{opens, obeys}
+use Rattle.hum_path.proofs.Kept.{exclusive_filled}
 use Rattle.hum_path.proofs.Onwards.{names_onward, swapped_length, each_length}
 use Rattle.hum_assemble.specs.declared.places.Place.TheVariants.{Tandem, Change, Note, Closing}
 use Rattle.hum_assemble.specs.Source.{place, is_inside, is_end, unit_place}
 use Rattle.hum_assemble.specs.Places.{rank}
 use Rattle.hum_assemble.specs.Groups.{Closes, IsData, Adds, Single, sort_of, adds}
 use Rattle.hum_assemble.specs.Groups.{is_add, is_comment, is_local, is_tandem, is_other}
-use Rattle.hum_assemble.proofs.Sounding.{all_ends}
-use Rattle.hum_assemble.proofs.Turning.{exclusive_filled, exclusive_named}
+use Rattle.hum_assemble.proofs.Sounding.{ends_leave_none}
+use Rattle.hum_assemble.proofs.Turning.{exclusive_named}
 
 -- there are spines
 abbrev pub stands : Path → Bool
@@ -36,91 +38,48 @@ stands Unopened = false
 stands (Spines []) = false
 stands (Spines (n ∷ ns)) = true
 
--- What comes of names under signs.
-any_or : (xs ys : List (List ℕ)) → list_any is_empty xs ≡ false → list_any is_empty ys ≡ false
-    → list_any is_empty (xs ++ ys) ≡ false
-any_or = grind (arith, common_steps)
-
-or_parts : (a b : Bool) → (a || b) ≡ false → (a ≡ false) × (b ≡ false)
-or_parts = grind (arith, nat_tests)
-
-one_named : (b : Bool) (sign : Sign) (x : List ℕ) → is_empty x ≡ false → is_add sign ≡ false
-    → list_any is_empty (onward_one (λ _. []) b sign x) ≡ false
-one_named = grind (arith, nat_tests)
-
 onward_named : (b : Bool) (signs : List Sign) (xs : List (List ℕ)) → list_any is_empty xs ≡ false
     → list_any is_add signs ≡ false
     → list_any is_empty (onward (λ _. []) (beginnings b signs) signs xs) ≡ false
-onward_named b (s ∷ signs) (x ∷ xs) h a =
-    let p = or_parts (is_empty x) (list_any is_empty xs) h in
-    let q = or_parts (is_add s) (list_any is_add signs) a in
-    any_or (onward_one (λ _. []) (is_join s && not b) s x)
-    (onward (λ _. []) (beginnings (is_join s) signs) signs xs)
-    (one_named (is_join s && not b) s x p.0 q.0) (onward_named (is_join s) signs xs p.1 q.1)
-onward_named b signs xs h k = grind (arith, nat_tests)
+onward_named b (s ∷ signs) (x ∷ xs) h a = grind (arith, nat_tests, onward_named (is_join s) signs xs)
+onward_named b signs xs h a = grind (arith, nat_tests)
 
 onward_added : (b : Bool) (signs : List Sign) (xs : List (List ℕ)) → length xs ≡ length signs
     → list_any is_add signs ≡ true
     → list_any is_empty (onward (λ _. []) (beginnings b signs) signs xs) ≡ true
 onward_added b (s ∷ signs) (x ∷ xs) l a =
-    grind (arith, nat_tests, onward_added (is_join s) signs xs (omega (arith, l)))
-onward_added b signs xs h k = grind (arith, nat_tests)
+    grind (arith, nat_tests, list_any-append is_empty, onward_added (is_join s) signs xs (omega (arith, l)))
+onward_added b signs xs l a = grind (arith, nat_tests)
 
 onward_stands : (signs : List Sign) (xs : List (List ℕ)) → length xs ≡ length signs
     → list_all is_end signs ≡ false
     → stands (Spines (onward (λ _. []) (beginnings false signs) signs xs)) ≡ true
 onward_stands (End ∷ signs) (x ∷ xs) l h = onward_stands signs xs (omega (arith, l)) h
-onward_stands signs xs h k = grind (arith, nat_tests)
+onward_stands signs xs l h = grind (arith, nat_tests)
 
 -- Exchanged names aren't empty where none was.
 next_named : (other : List ℕ) (signs : List Sign) (xs : List (List ℕ)) → is_empty other ≡ false
     → list_any is_empty xs ≡ false → is_empty (at_next other signs xs) ≡ false
-next_named other (s ∷ signs) (x ∷ xs) o h =
-    let p = or_parts (is_empty x) (list_any is_empty xs) h in
-    elim (is_exchange s) as (λ b. is_empty (cond b x (at_next other signs xs)) ≡ false) [
-      | true ↦ p.0
-      | false ↦ next_named other signs xs o p.1
-    ]
-next_named other signs xs h k = grind (arith, nat_tests)
+next_named other (s ∷ signs) (x ∷ xs) o h = grind (arith, nat_tests, next_named other signs xs o)
+next_named other signs xs o h = grind (arith, nat_tests)
 
 put_named : (other : List ℕ) (signs : List Sign) (xs : List (List ℕ)) → is_empty other ≡ false
     → list_any is_empty xs ≡ false → list_any is_empty (put_next other signs xs) ≡ false
-put_named other (s ∷ signs) (x ∷ xs) o h =
-    let p = or_parts (is_empty x) (list_any is_empty xs) h in
-    elim (is_exchange s) as (λ b. list_any is_empty (cond b (other ∷ xs) (x ∷ put_next other signs xs)) ≡ false) [
-      | true ↦ rw (o, p.1) refl
-      | false ↦ rw p.0 (put_named other signs xs o p.1)
-    ]
-put_named other signs xs h k = grind (arith, nat_tests)
+put_named other (s ∷ signs) (x ∷ xs) o h = grind (arith, nat_tests, put_named other signs xs o)
+put_named other signs xs o h = grind (arith, nat_tests)
 
 swapped_named : (signs : List Sign) (xs : List (List ℕ)) → list_any is_empty xs ≡ false
     → list_any is_empty (swapped signs xs) ≡ false
 swapped_named (s ∷ signs) (x ∷ xs) h =
-    let p = or_parts (is_empty x) (list_any is_empty xs) h in
-    elim (is_exchange s) as (λ b. list_any is_empty (cond b (at_next x signs xs ∷ put_next x signs xs) (x ∷ swapped signs xs)) ≡ false) [
-      | true ↦ rw (next_named x signs xs p.0 p.1) (put_named x signs xs p.0 p.1)
-      | false ↦ rw p.0 (swapped_named signs xs p.1)
-    ]
+    grind (arith, nat_tests, swapped_named signs xs, or_parts, next_named, put_named)
 swapped_named signs xs h = grind (arith, nat_tests)
 
 -- A name that waits gets its exclusive interpretation.
-renamed_one : (name token : List ℕ) → stays_unnamed name (sign_of token) ≡ false
-    → is_empty (cond (is_exclusive (sign_of token)) token name) ≡ false
-renamed_one name token h =
-    (elim (is_exclusive (sign_of token)) as (λ b. is_exclusive (sign_of token) ≡ b
-    → ((length name == 0) && not b) ≡ false → is_empty (cond b token name) ≡ false) [
-      | true ↦ λ e w. exclusive_filled token e
-      | false ↦ λ e w. by_test (length name == 0) w
-    ]) refl h
-  where
-    by_test : (b : Bool) → (b && true) ≡ false → b ≡ false
-    by_test = grind (arith, nat_tests)
-
 renamed_named : (names tokens : List (List ℕ)) → has_unnamed names (map sign_of tokens) ≡ false
     → list_any is_empty (renamed_each names tokens) ≡ false
 renamed_named (n ∷ names) (t ∷ tokens) h =
     let p = or_parts (stays_unnamed n (sign_of t)) (has_unnamed names (map sign_of tokens)) h in
-    rw (renamed_one n t p.0) (renamed_named names tokens p.1)
+    grind (arith, nat_tests, p.0, exclusive_filled t, renamed_named names tokens p.1)
 renamed_named names tokens h = grind (arith, nat_tests)
 
 -- The names after an interpretation.
@@ -146,29 +105,25 @@ added_inside : (names tokens : List (List ℕ)) → find (breaks (Spines names) 
     → list_any is_add (map sign_of tokens) ≡ true
     → list_any is_empty (names_after (Spines names) tokens) ≡ true
 added_inside names tokens h a =
-    let n = names_of names tokens h in
-    rw n.are (onward_added false (map sign_of tokens) n.xs n.wide a)
+    grind (arith, nat_tests, names_of names tokens h, onward_added false (map sign_of tokens))
 
 all_named : (names tokens : List (List ℕ)) → find (breaks (Spines names) tokens) in_order ≡ None
     → list_any is_add (map sign_of tokens) ≡ false
     → list_any is_empty (names_after (Spines names) tokens) ≡ false
 all_named names tokens h a =
-    let n = names_of names tokens h in
-    rw n.are (onward_named false (map sign_of tokens) n.xs n.named a)
+    grind (arith, nat_tests, names_of names tokens h, onward_named false (map sign_of tokens))
 
 still_stands : (names tokens : List (List ℕ)) → find (breaks (Spines names) tokens) in_order ≡ None
     → list_all is_end (map sign_of tokens) ≡ false
     → stands (Spines (names_after (Spines names) tokens)) ≡ true
 still_stands names tokens h e =
-    let n = names_of names tokens h in
-    rw n.are (onward_stands (map sign_of tokens) n.xs n.wide e)
+    grind (arith, nat_tests, names_of names tokens h, onward_stands (map sign_of tokens))
 
 all_ended : (names tokens : List (List ℕ)) → find (breaks (Spines names) tokens) in_order ≡ None
     → list_all is_end (map sign_of tokens) ≡ true → names_after (Spines names) tokens ≡ []
 all_ended names tokens h e =
     let o = obeys names tokens h in
-    let a = all_ends (map sign_of tokens) e in
-    names_onward names tokens o.wide o.pair ∙ a.none (λ _. []) false _
+    names_onward names tokens o.wide o.pair ∙ ends_leave_none false (map sign_of tokens) _ e
 
 empty_stands : (names : List (List ℕ)) → list_any is_empty names ≡ true
     → stands (Spines names) ≡ true
@@ -190,22 +145,12 @@ exclusive_goes : (signs : List Sign) → list_any is_exclusive signs ≡ true
 exclusive_goes (End ∷ signs) h = exclusive_goes signs h
 exclusive_goes signs h = grind (arith, nat_tests)
 
-by_unnamed : (empty : Bool) (s : Sign) (rest any : Bool) → (empty || rest) ≡ true
-    → (empty && not (is_exclusive s)) ≡ false → (rest ≡ true → any ≡ true)
-    → (is_exclusive s || any) ≡ true
-by_unnamed = grind (arith, nat_tests)
-
 some_exclusive : (names : List (List ℕ)) (signs : List Sign) → length names ≡ length signs
     → list_any is_empty names ≡ true → has_unnamed names signs ≡ false
     → list_any is_exclusive signs ≡ true
 some_exclusive (n ∷ names) (s ∷ signs) l h k =
-    let p = or_parts (stays_unnamed n s) (has_unnamed names signs) k in
-    by_unnamed (is_empty n) s (list_any is_empty names) (list_any is_exclusive signs) h p.0
-    (λ e. some_exclusive names signs (omega (arith, l)) e p.1)
-some_exclusive names signs h k w = grind (arith, nat_tests)
-
-and_false : (a b : Bool) → a ≡ true → (a && b) ≡ false → b ≡ false
-and_false = grind (arith, nat_tests)
+    grind (arith, nat_tests, some_exclusive names signs (omega (arith, l)))
+some_exclusive names signs l h k = grind (arith, nat_tests)
 
 -- Inside a unit: the record that begins the added spines.
 pub record Begun (path : Path) (row : Row) : Type 0 where
@@ -224,7 +169,7 @@ begins names (Spined Values tokens) i c h = absurd (text_out names tokens i h)
 begins names (Spined Interpretation tokens) i c h =
     let o = obeys names tokens h in
     let x = some_exclusive names (map sign_of tokens) (o.wide ∙ sym (length-map tokens sign_of)) i o.unnamed in
-    let p = and_false (list_any is_exclusive (map sign_of tokens)) _ x o.steers in
+    let p : list_any is_path_indicator (map sign_of tokens) ≡ false = rw x at o.steers in
     record {
       stand = still_stands names tokens h (exclusive_goes (map sign_of tokens) x);
       out = all_named names tokens h (unsteered (map sign_of tokens) p);
@@ -275,6 +220,7 @@ module _ (n : List ℕ) (ns : List (List ℕ)) (out : is_inside (Spines (n ∷ n
   pub sorted : (row : Row) → fault_of (Spines (n ∷ ns)) row ≡ None → Sorted (Spines (n ∷ ns)) row
   sorted = grind (arith, nat_tests, unit_at, by_ends)
 
+-- Behind the last spine there are only global comments.
 pub record IsRemark (row : Row) : Type 0 where
   pub text : List ℕ
   pub is : row ≡ Comment text

@@ -1,10 +1,8 @@
 -- Records given one after another.
 use Rattle.std.proofs.lemmas.Bool.Decides.{nat_tests}
-use Rattle.std.proofs.lemmas.Bool.{eq-eqb}
 use Rattle.std.proofs.Common.{◌≡◌, ◌∙◌, refl, sym, ap, ℕ, zero, suc, ◌+◌, ◌≤◌, Bool, true}
-use Rattle.std.proofs.Common.{false, not, ◌||◌, cond, List, [], ◌∷◌, length, arith, map}
-use Rattle.std.specs.Prelude.{Option, ◌==◌}
-use Rattle.std.specs.Prelude.{nat_le}
+use Rattle.std.proofs.Common.{false, cond, List, [], ◌∷◌, length, arith, map}
+use Rattle.std.specs.Prelude.{Option}
 use Rattle.std.specs.List.{list_any, position_from}
 use Rattle.hum_score.specs.Row.{Row, text_of}
 use Rattle.hum_score.specs.Spines.{Path}
@@ -18,8 +16,8 @@ use Rattle.hum_assemble.specs.Change.{IsOpenAt}
 use Rattle.hum_assemble.specs.Merge.{Merge, moved, all_moved, made}
 use Rattle.hum_assemble.specs.Merge.{unless_missing, ahead, ahead_at, ahead_of}
 use Rattle.hum_assemble.specs.Merge.{given_row, given_on, advanced}
-use Rattle.hum_assemble.specs.Places.{rank, is_over, is_shared}
-use Rattle.hum_assemble.specs.Round.{is_missing, is_lost, place_at, earliest, any_due}
+use Rattle.hum_assemble.specs.Places.{is_over}
+use Rattle.hum_assemble.specs.Round.{is_missing, is_lost, earliest, any_due}
 use Rattle.hum_assemble.specs.Round.{takes, still_free, AllKnown}
 use Rattle.hum_assemble.specs.Meaning.{gives, goes_on, total, all_given, rest}
 use Rattle.hum_assemble.specs.Taking.{is_at, IsGiving}
@@ -118,27 +116,12 @@ pub total_less : (going : Bool) (p : Place) (ss : List Source) → is_over p ≡
     → list_any (is_at going p) ss ≡ true → total (all_moved true going p ss) + 1 ≤ total ss
 total_less going p [] o h = cc
 total_less going p (s ∷ ss) o h =
-    (elim (is_at going p s) as (λ b. is_at going p s ≡ b → (b || list_any (is_at going p) ss) ≡ true →
-    length (moved b going p s).coming + total (all_moved (is_shared p || not b) going p ss) + 1 ≤ length
-    s.coming + total ss) [
-      | true ↦ λ e w. let l = one_less going p s.path s.due s.coming s.ended o e in omega (arith, l, total_le (is_shared p || false) going p ss)
-      | false ↦ λ e w. rw (or_not_false (is_shared p)) (let t = total_less going p ss o w in omega (arith, t))
-    ]) refl h
-
-self_at : (n : ℕ) → (n == n) ≡ true
-self_at n = eq-eqb n n refl
+    grind (arith, nat_tests, total_less going p ss o, one_less, total_le, or_not_false)
 
 pub earliest_at : (going : Bool) (ss : List Source) → is_over (earliest going ss) ≡ false
     → list_any (is_at going (earliest going ss)) ss ≡ true
 earliest_at going [] h = cc
-earliest_at going (s ∷ ss) h =
-    (elim (nat_le (rank (place_at going s)) (rank (earliest going ss))) as
-    (λ b. is_over (cond b (place_at going s) (earliest going ss)) ≡ false →
-    (is_at going (cond b (place_at going s) (earliest going ss)) s || list_any
-    (is_at going (cond b (place_at going s) (earliest going ss))) ss) ≡ true) [
-      | true ↦ λ o. rw (self_at (rank (place_at going s))) refl
-      | false ↦ λ o. rw (earliest_at going ss o) (or_not_false (is_at going (earliest going ss) s))
-    ]) h
+earliest_at going (s ∷ ss) h = grind (arith, nat_tests, earliest_at going ss)
 
 pub takes_one : (m : Merge) (p : Place) → ahead m ≡ Gives p
     → total (given_on p m).sources + 1 ≤ total m.sources
@@ -229,11 +212,7 @@ all_resting m h = (gives_resting (total m.sources) m h, on_resting (total m.sour
 pub giving : (ss : List Source) (given : ℕ) (p : Place)
     → ahead (record { sources = ss; given = given }) ≡ Gives p → IsGiving (any_due ss) p ss
 giving ss given p h =
-    let g = is_given (any_due ss) ss given p h in
-    record {
-      some = g.some;
-      at = rw g.place (earliest_at (any_due ss) ss (rw g.place at g.some));
-    }
+    grind (arith, nat_tests, is_given (any_due ss) ss given p h, earliest_at (any_due ss) ss)
 
 at_fits : (going : Bool) (q p : Place) (ss : List Source) (given : ℕ) → ahead_at going q ss given ≡ Gives p
     → length (text_of (made going q ss)) ≤ 1048576

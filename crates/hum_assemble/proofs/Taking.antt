@@ -112,13 +112,7 @@ taken_comment : (going : Bool) (p : Place) (ss : List Source) (row : Row) → is
     → Some row ≡ row_taken None true going p ss → row ≡ Comment (comment_given going p ss)
 taken_comment going p [] row o k l a h = cc
 taken_comment going p (s ∷ ss) row o k l a h =
-    (elim (is_at going p s) as (λ b. is_at going p s ≡ b
-    → Some row ≡ row_taken (later None (cond b (first_of s.coming) None)) (is_shared p || not b) going p ss
-    → row ≡ Comment (cond b (text_of_first s.coming) (comment_given going p ss))) [
-      | true ↦ grind (arith, nat_tests, has_there, none_taken)
-      | false ↦ λ e w. taken_comment going p ss row o k l.1 a
-          (w ∙ ap (λ (f : Bool). row_taken None (f || true) going p ss) a)
-    ]) refl h
+    grind (arith, nat_tests, taken_comment going p ss row o k l.1 a, has_there, none_taken)
 
 -- The tokens of one source, without null tokens.
 no_nulls : (p : Place) (w : ℕ) (token : List ℕ) → not (w == 0) ≡ false

@@ -2,13 +2,13 @@
 use Rattle.std.proofs.lemmas.Grind.{common_steps}
 use Rattle.std.proofs.Common.{◌≡◌, ◌∙◌, refl, ap, ℕ, ◌≤◌, ◌<◌, inl}
 use Rattle.std.proofs.lemmas.Bool.{eqb-false}
-use Rattle.std.proofs.Common.{Bool, true, false, ◌&&◌, List, [], ◌∷◌, ◌++◌}
+use Rattle.std.proofs.Common.{Bool, true, false, List, [], ◌∷◌, ◌++◌}
 use Rattle.std.proofs.Common.{arith, map}
 use Rattle.std.specs.Prelude.{◌==◌, Option, None, Some}
 use Rattle.std.specs.List.{list_any, list_all, AllByRecursion}
 use Rattle.std.proofs.lemmas.Bool.Decides.{nat_tests}
-use Rattle.hum_score.specs.declared.records.SpinedKind.TheVariants.{Local, Interpretation, Values}
-use Rattle.hum_score.specs.Row.{Row, Comment, Spined, tokens_of}
+use Rattle.hum_score.specs.declared.records.SpinedKind.TheVariants.{Interpretation}
+use Rattle.hum_score.specs.Row.{Row, Spined, tokens_of}
 use Rattle.hum_score.specs.declared.spines.Sign.{Sign}
 use Rattle.hum_score.specs.Sign.{sign_of, is_exclusive}
 use Rattle.hum_score.specs.Rules.{fault_of, has_bare, is_unfinished}
@@ -32,7 +32,8 @@ use Rattle.hum_assemble.proofs.Rounds.{names_of, opened_taker}
 use Rattle.hum_score.specs.Spelling.{is_empty}
 use Rattle.hum_path.proofs.Onwards.{names_onward}
 use Rattle.hum_assemble.proofs.Quiet.{closing_ends}
-use Rattle.hum_assemble.proofs.Sounding.{all_ends}
+use Rattle.hum_path.proofs.Kept.{exclusive_filled}
+use Rattle.hum_assemble.proofs.Sounding.{ends_leave_none}
 use Rattle.hum_assemble.proofs.Alone.{NoneIn, names_in}
 
 -- two lists side by side
@@ -117,18 +118,13 @@ record Closed_by (path : Path) (row : Row) : Type 0 where
 closed_by : (path : Path) (row : Row) → is_opened path ≡ true → Some Interpretation ≡ spined_of row
     → fault_of path row ≡ None → list_all is_end (map sign_of (tokens_of row)) ≡ true
     → Closed_by path row
-closed_by Unopened row o k h e = cc
-closed_by (Spines names) (Comment text) o k h e = cc
-closed_by (Spines names) (Spined Local tokens) o k h e = cc
-closed_by (Spines names) (Spined Values tokens) o k h e = cc
 closed_by (Spines names) (Spined Interpretation tokens) o k h e =
-    let b = obeys names tokens h in
-    let a = all_ends (map sign_of tokens) e in
-    record {
+    let b = obeys names tokens h in record {
       ends = e;
       bare = b.bare;
-      none = names_onward names tokens b.wide b.pair ∙ a.none (λ _. []) false _;
+      none = names_onward names tokens b.wide b.pair ∙ ends_leave_none false (map sign_of tokens) _ e;
     }
+closed_by path row o k h e = grind (arith, nat_tests)
 
 pub record Closes (ss : List Source) : Type 0 where
   pub ends : list_all is_end (map sign_of (tokens_given true false Closing ss)) ≡ true
@@ -160,24 +156,11 @@ all_close (s ∷ ss) i e k =
           }
     ]) refl
 
-any_parts : (xs ys : List (List ℕ)) → list_any is_empty (xs ++ ys) ≡ false
-    → (list_any is_empty xs ≡ false) × (list_any is_empty ys ≡ false)
-any_parts = grind (arith, common_steps)
-
 pub named_none : (paths : List Path) → list_any is_empty (names_in paths) ≡ false → NoneIn paths
 named_none [] h = tt
-named_none (path ∷ paths) h =
-    let b = any_parts (exclusives path) (names_in paths) h in (b.0, named_none paths b.1)
-
-pub exclusive_filled : (token : List ℕ) → is_exclusive (sign_of token) ≡ true → is_empty token ≡ false
-exclusive_filled = grind (arith, nat_tests)
+named_none (path ∷ paths) h = grind (arith, common_steps, named_none paths)
 
 pub exclusive_named : (tokens : List (List ℕ)) → list_all is_exclusive (map sign_of tokens) ≡ true
     → list_any is_empty tokens ≡ false
-exclusive_named [] h = refl
-exclusive_named (t ∷ tokens) h =
-    (elim (is_exclusive (sign_of t)) as (λ b. is_exclusive (sign_of t) ≡ b → (b && list_all is_exclusive (map sign_of tokens)) ≡ true
-    → list_any is_empty (t ∷ tokens) ≡ false) [
-      | true ↦ λ e w. rw (exclusive_filled t e) (exclusive_named tokens w)
-      | false ↦ λ e w. cc
-    ]) refl h
+exclusive_named (t ∷ tokens) h = grind (arith, nat_tests, exclusive_filled t, exclusive_named tokens)
+exclusive_named tokens h = grind (arith, nat_tests)

@@ -2,7 +2,7 @@
 use Rattle.std.proofs.lemmas.Bool.Decides.{nat_tests}
 use Rattle.std.proofs.lemmas.Bool.{eqb-false}
 use Rattle.std.proofs.Common.{◌≡◌, ◌∙◌, refl, sym, ap, ℕ, suc, ◌≤◌, ◌<◌, Bool, true}
-use Rattle.std.proofs.Common.{false, not, ◌||◌, List, [], ◌∷◌, ◌++◌, length, arith}
+use Rattle.std.proofs.Common.{false, not, List, [], ◌∷◌, ◌++◌, length, arith}
 use Rattle.std.proofs.Common.{map}
 use Rattle.std.specs.Prelude.{Option, None, Some, ◌==◌}
 use Rattle.std.specs.List.{list_any}
@@ -158,22 +158,10 @@ module _ (k : ℕ) (t : Row → Bool) (p : Place) (ts : Tests t k) (pk : rank p 
       → Mine s b
   gives = grind (arith, nat_tests, row_gives, sorted, gone_gives)
 
-at_due : (p : Place) (path : Path) (due : Bool) (coming : List Row) (ended : Option end.End)
-    → is_over p ≡ false
-    → is_at true p (record { path = path; due = due; coming = coming; ended = ended }) ≡ true
-    → due ≡ true
-at_due = grind (arith, nat_tests)
-
 pub some_due : (p : Place) (ss : List Source) → is_over p ≡ false
     → list_any (is_at true p) ss ≡ true → any_due ss ≡ true
 some_due p [] o h = cc
-some_due p (s ∷ ss) o h =
-    (elim (is_at true p s) as (λ b. is_at true p s ≡ b → (b || list_any (is_at true p) ss) ≡ true
-    → (s.due || any_due ss) ≡ true) [
-      | true ↦ λ e w. rw (at_due p s.path s.due s.coming s.ended o e) refl
-      | false ↦ λ e w.
-          rw (some_due p ss o w) (elim s.due as (λ b. (b || true) ≡ true) [ true ↦ refl | false ↦ refl ])
-    ]) refl h
+some_due p (s ∷ ss) o h = grind (arith, nat_tests, some_due p ss o)
 
 module _ (k : ℕ) (t : Row → Bool) (p : Place) (ts : Tests t k) (pk : rank p ≡ k) (low : 4 ≤ k)
     (high : k ≤ 6) (ov : is_over p ≡ false) where

@@ -32,7 +32,7 @@ use Rattle.hum_assemble.proofs.Steps.{all_going, all_resting, is_giving}
 use Rattle.hum_assemble.proofs.Sides.{Takes, takes_fields}
 use Rattle.hum_assemble.proofs.Alone.{paths_of}
 use Rattle.hum_assemble.proofs.Fitting.{spined_of}
-use Rattle.hum_assemble.proofs.Taking.{or_not_false, same_rank}
+use Rattle.hum_assemble.proofs.Taking.{or_not_false}
 use Rattle.hum_assemble.specs.declared.places.Place.TheVariants.{Aside, Begins, Front, Opening}
 use Rattle.hum_assemble.specs.declared.places.Place.TheVariants.{Remark, Local as LocalPlace}
 use Rattle.hum_assemble.specs.declared.places.Place.TheVariants.{Tandem, Change, Note, Closing}
@@ -134,14 +134,7 @@ least going n (s ∷ ss) l h = grind (arith, nat_tests, least going n ss l h.1)
 reached : (going : Bool) (p : Place) (ss : List Source) → list_any (is_at going p) ss ≡ true
     → rank (earliest going ss) ≤ rank p
 reached going p [] h = cc
-reached going p (s ∷ ss) h =
-    let a = earlier_left (place_at going s) (earliest going ss) in
-    let b = earlier_right (place_at going s) (earliest going ss) in
-    (elim (is_at going p s) as (λ b. is_at going p s ≡ b → (b || list_any (is_at going p) ss) ≡ true
-    → rank (earliest going (s ∷ ss)) ≤ rank p) [
-      | true ↦ λ e w. let r = same_rank (rank p) (rank (place_at going s)) e in omega (arith, a, r)
-      | false ↦ λ e w. let r = reached going p ss w in omega (arith, b, r)
-    ]) refl h
+reached going p (s ∷ ss) h = grind (arith, nat_tests, reached going p ss)
 
 pub earliest_is : (going : Bool) (p : Place) (ss : List Source) → AllSee going (rank p) ss
     → list_any (is_at going p) ss ≡ true → earliest going ss ≡ p
