@@ -1,6 +1,6 @@
 -- One record of pieces breaks no rule, where no join touches another.
-use Rattle.std.proofs.Common.{◌≡◌, refl, ap, ℕ, suc, ◌≤◌, Bool, true, false, not, ◌&&◌, ◌||◌}
-use Rattle.std.proofs.Common.{List, [], ◌∷◌, length, map, arith, None}
+use Rattle.std.proofs.Common.{◌≡◌, refl, ℕ, suc, ◌≤◌, Bool, true, false, not, ◌&&◌, ◌||◌}
+use Rattle.std.proofs.Common.{List, [], ◌∷◌, length, arith, None}
 use Rattle.std.specs.List.{find}
 use Rattle.std.specs.Str.{bytes_eq}
 use Rattle.std.proofs.lemmas.Bool.{and_parts, or_parts, or_from, false≢true}
@@ -32,14 +32,6 @@ pub record Fits (pieces : List JoinedToken) (names : List (List ℕ)) : Type 0 w
   pub bare : has_bare (tokens_in pieces) ≡ false
   pub steers : names_and_steers (signs_in pieces) ≡ false
   pub pair : is_pair_or_none (exchanges 0 (signs_in pieces)) ≡ true
-
--- The rules one by one.
-pub sound_by_rules : (names tokens : List (List ℕ)) (k : ℕ) → length tokens ≡ suc k → length tokens ≡ length names
-    → has_unnamed names (map sign_of tokens) ≡ false
-    → has_bare tokens ≡ false → names_and_steers (map sign_of tokens) ≡ false → has_lone_join false (map sign_of tokens) ≡ false
-    → is_pair_or_none (exchanges 0 (map sign_of tokens)) ≡ true → has_mixed_join names (map sign_of tokens) ≡ false
-    → length (names_after (Spines names) tokens) ≤ 4096 → find (breaks (Spines names) tokens) in_order ≡ None
-sound_by_rules = grind (arith, nat_tests, length-map)
 
 pub pieces_size : (ps : List JoinedToken) → length (tokens_in ps) ≡ length ps
 pieces_size ps = length-map ps (λ p. p.token)
@@ -103,12 +95,7 @@ one_comes = grind (arith, nat_tests, formed_length, pieces_size, names_onward, s
 pub one_sound : (ps : List JoinedToken) (ns : List (List ℕ)) (k : ℕ) → length ps ≡ suc k → Fits ps ns → touches false ps ≡ false
     → length (come_to ps ns) ≤ 4096
     → find (breaks (Spines ns) (tokens_in ps)) in_order ≡ None
-one_sound ps ns k some fits t few =
-    let size = pieces_size ps in
-    let len = formed_length false [] ps ns fits.formed in
-    let same = ap length (one_comes ps ns fits t) in
-    sound_by_rules ns (tokens_in ps) k (omega (arith, size, some)) (omega (arith, size, len)) fits.unnamed fits.bare fits.steers
-    (formed_lone false [] ps ns fits.formed) fits.pair (mixed_first ps ns fits.formed t) (omega (arith, same, few))
+one_sound = grind (arith, nat_tests, length-map, pieces_size, formed_length, one_comes, formed_lone, mixed_first)
 
 -- one record more
 pub one_more : (names tokens end : List (List ℕ)) (rows : List (List (List ℕ))) (k : ℕ) → length tokens ≡ suc k

@@ -15,6 +15,7 @@ use Rattle.hum_score.specs.Rules.{breaks, breaks_as_text, in_order, is_unfinishe
 use Rattle.hum_score.specs.Score.{IsOpen, path_after, Lead}
 use Rattle.hum_path.specs.Chains.{origins}
 use Rattle.hum_path.proofs.Widths.{origins_width}
+use Rattle.hum_path.proofs.Kept.{opening_sound}
 use Rattle.hum_path.proofs.Obeyed.{Opens, opens, Obeys, obeys, narrow}
 use Rattle.hum_score.specs.InOrder.{through, Follow}
 use Rattle.hum_stage.specs.Meaning.{KeepsScore}
@@ -53,9 +54,6 @@ pub text_parts : (names tokens : List (List ℕ)) → find (breaks_as_text (Spin
 text_parts = grind (arith, nat_tests)
 
 -- an opening record
-opening_sound : (tokens : List (List ℕ)) → Opens tokens → find (breaks Unopened tokens) in_order ≡ None
-opening_sound = grind (arith, nat_tests)
-
 pub opening_reaches : (tokens : List (List ℕ)) → Opens tokens → Reach Unopened (Spined Interpretation tokens ∷ []) (Spines tokens)
 opening_reaches tokens h = ((opening_sound tokens h, tt), refl)
 

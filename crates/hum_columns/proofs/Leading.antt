@@ -5,6 +5,7 @@ use Rattle.std.proofs.Common.{List, [], ◌∷◌, length, map, cond, arith, Non
 use Rattle.std.specs.List.{list_any, find}
 use Rattle.std.specs.Str.{bytes_eq}
 use Rattle.std.proofs.lemmas.Bool.{or_parts, or_from}
+use Rattle.std.proofs.lemmas.List.{length-map}
 use lib.Chars.{codes}
 use Rattle.hum_score.specs.declared.records.SpinedKind.TheVariants.{Interpretation}
 use Rattle.hum_score.specs.declared.spines.Sign.{Sign}
@@ -20,7 +21,7 @@ use Rattle.hum_columns.specs.Spread.{first_done, one_by_one, spread, filled}
 use Rattle.hum_columns.proofs.Spreading.{marks, signs_in, Formed, formed_length, merged}
 use Rattle.hum_columns.proofs.Spreading.{first_onward, done_onward, done_formed, done_joins}
 use Rattle.hum_columns.proofs.Spreading.{done_swapped, is_join_at}
-use Rattle.hum_columns.proofs.Fitting.{come_to, Fits, sound_by_rules, pieces_size, one_more, one_leads}
+use Rattle.hum_columns.proofs.Fitting.{come_to, Fits, pieces_size, one_more, one_leads}
 use Rattle.hum_columns.proofs.FirstJoin.{first_size, first_none, done_none, merged_none, merged_fewer, first_lone, first_unmixed}
 use Rattle.hum_columns.proofs.FirstJoin.{first_exchange, done_exchanges}
 
@@ -85,16 +86,12 @@ first_comes ps ns h =
 first_sound : (ps : List JoinedToken) (ns : List (List ℕ)) (k : ℕ) → length ps ≡ suc k → Steady ps ns → length ns ≤ 4096
     → find (breaks (Spines ns) (first_alone ps)) in_order ≡ None
 first_sound ps ns k some h few =
-    let size = first_size ps in
-    let len = formed_length false [] ps ns h.formed in
-    let same = ap length (first_comes ps ns h) in
-    let fewer = merged_fewer ps ns in
     let none = first_exchange 0 false [] ps ns h.formed in
     let stay = first_none (λ t. is_exclusive (sign_of t)) ps refl h.stay in
-    sound_by_rules ns (first_alone ps) k (omega (arith, size, some)) (omega (arith, size, len))
-    (none_unnamed ns (map sign_of (first_alone ps)) h.named)
-    (first_none (bytes_eq (codes "**")) ps refl h.bare) (steady_steers (first_alone ps) stay)
-    (first_lone false [] ps ns h.formed) (rw none refl) (first_unmixed ps ns h.formed) (omega (arith, same, few, fewer))
+    let bare = first_none (bytes_eq (codes "**")) ps refl h.bare in
+    grind (arith, nat_tests, length-map, first_size ps, formed_length false [] ps ns h.formed, first_comes ps ns h, merged_fewer ps ns, none, bare,
+    none_unnamed ns (map sign_of (first_alone ps)) h.named, steady_steers (first_alone ps) stay, first_lone false [] ps ns h.formed,
+    first_unmixed ps ns h.formed)
 
 left_comes : (ps : List JoinedToken) (ns : List (List ℕ)) → Steady ps ns → come_to (first_done ps) (merged ps ns) ≡ come_to ps ns
 left_comes = grind (arith, nat_tests, steady_comes, merged, done_steady, done_swapped, done_onward, signs_in)
