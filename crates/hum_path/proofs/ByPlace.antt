@@ -1,10 +1,11 @@
 -- What a loop over places goes by: what is told of a list from a place on, at the place and behind it.
-use Rattle.std.proofs.Common.{◌≡◌, ◌∙◌, ◌+◌, ◌<◌, ◌≤◌, ◌||◌, if◌then◌else◌, ℕ, Bool, false, List, ◌∷◌}
-use Rattle.std.proofs.Common.{length, drop, get_or, refl, sym, ap, arith}
+use Rattle.std.proofs.lemmas.Grind.{common_steps}
+use Rattle.std.proofs.Common.{◌≡◌, ◌+◌, ◌<◌, ◌≤◌, ◌||◌, if◌then◌else◌, ℕ, Bool, false, List, ◌∷◌}
+use Rattle.std.proofs.Common.{length, drop, get_or, refl, arith}
 use Rattle.std.specs.declared.vec.Vec.{Vec}
 use Rattle.std.specs.declared.alloc.Global.{Global}
 use Rattle.std.specs.List.{list_any}
-use Rattle.std.proofs.lemmas.List.{at_drop_more, drop_all}
+use Rattle.std.proofs.lemmas.List.{drop_all}
 use Rattle.hum_score.specs.Spelling.{is_empty}
 use Rattle.hum_score.specs.declared.spines.Sign.{Sign}
 use Rattle.hum_score.specs.Sign.{is_exchange}
@@ -16,21 +17,12 @@ use Rattle.hum_score.specs.Rules.{stays_unnamed, has_unnamed}
 pub nameless_at : (names : List (Vec ℕ Global)) (j : ℕ) (name : Vec ℕ Global) {b : Bool}
     → j < length names → name ≡ get_or names j name → is_empty name.items ≡ b
     → list_any is_empty (texts (drop j names)) ≡ (b || list_any is_empty (texts (drop (j + 1) names)))
-nameless_at names j name within is test =
-    let rest = list_any is_empty (texts (drop (j + 1) names)) in
-    at_drop_more (λ vs. list_any is_empty (texts vs)) names j name within
-    ∙ ap (λ (v : Vec ℕ Global). is_empty v.items || rest) (sym is)
-    ∙ ap (λ t. t || rest) test
+nameless_at = grind (arith, common_steps)
 
 pub unnamed_at : (names : List (Vec ℕ Global)) (signs : List Sign) (j : ℕ) (name : Vec ℕ Global) (d : Sign) {b : Bool}
     → length names ≡ length signs → j < length signs → name ≡ get_or names j name → stays_unnamed name.items (get_or signs j d) ≡ b
     → has_unnamed (texts (drop j names)) (drop j signs) ≡ (b || has_unnamed (texts (drop (j + 1) names)) (drop (j + 1) signs))
-unnamed_at names signs j name d same within is test =
-    let rest = has_unnamed (texts (drop (j + 1) names)) (drop (j + 1) signs) in
-    at_drop_more (λ vs. has_unnamed (texts vs) (drop j signs)) names j name (omega (arith, same, within))
-    ∙ at_drop_more (λ ss. has_unnamed (texts (get_or names j name ∷ drop (j + 1) names)) ss) signs j d within
-    ∙ ap (λ (v : Vec ℕ Global). stays_unnamed v.items (get_or signs j d) || rest) (sym is)
-    ∙ ap (λ t. t || rest) test
+unnamed_at = grind (arith, common_steps)
 
 pub none_unnamed : (names : List (Vec ℕ Global)) (signs : List Sign) (j : ℕ) → length names ≡ length signs → length signs ≤ j
     → has_unnamed (texts (drop j names)) (drop j signs) ≡ false
@@ -40,6 +32,4 @@ none_unnamed names signs j same past = rw (drop_all j names (omega (arith, same,
 pub exchanges_at : (signs : List Sign) (j : ℕ) (d : Sign) {b : Bool} → j < length signs → is_exchange (get_or signs j d) ≡ b
     → exchanges j (drop j signs)
     ≡ (if b then j ∷ exchanges (j + 1) (drop (j + 1) signs) else exchanges (j + 1) (drop (j + 1) signs))
-exchanges_at signs j d within test =
-    let rest = exchanges (j + 1) (drop (j + 1) signs) in
-    at_drop_more (exchanges j) signs j d within ∙ ap (λ t. if t then j ∷ rest else rest) test
+exchanges_at = grind (arith, common_steps)

@@ -1,12 +1,13 @@
 -- Memories go on along the columns.
+use Rattle.std.proofs.lemmas.Grind.{common_steps}
 use Rattle.std.proofs.Common.{◌≡◌, ◌∙◌, ◌+◌, ◌<◌, ◌≤◌, ◌++◌, ℕ, zero, suc, List, [], ◌∷◌, Some, length, map, drop, take}
 use Rattle.std.proofs.Common.{◌⊎◌, inl, inr, refl, sym, ap, arith, get_or, slice_get, append_assoc, append-nil, add-one}
 use Rattle.std.proofs.lemmas.Bool.Decides.{nat_tests}
-use Rattle.std.specs.Prelude.{slice_set, Result, Ok, Err, OnOk}
+use Rattle.std.specs.Prelude.{slice_set, Result, OnOk}
 use Rattle.std.specs.List.{AllByRecursion}
 use Rattle.std.proofs.lemmas.List.{drop_all, take_all, take-append-drop}
 use Rattle.std.proofs.Math.ListN.{get_or-map}
-use Rattle.hum_score.specs.declared.records.Kind.TheVariants.{Global, Interpretation as AnyInterpretation}
+use Rattle.hum_score.specs.declared.records.Kind.TheVariants.{Interpretation as AnyInterpretation}
 use Rattle.hum_score.specs.declared.records.SpinedKind.TheVariants.{Local, Interpretation, Values}
 use Rattle.hum_score.specs.Row.{Row, Comment, Spined, kind_of, tokens_of}
 use Rattle.hum_score.specs.declared.spines.Move.{Move}
@@ -23,10 +24,8 @@ pub map_more : {X Y : Type 0} (f : X → Y) (ys : List Y) (xs : List X) (i : ℕ
 map_more f ys xs i x h = rw (append_assoc, add-one) (ap (λ zs. ys ++ zs) (sym (at xs i h)))
   where
     at : (xs : List _) (i : ℕ) → slice_get xs i ≡ Some x → map f (drop i xs) ≡ f x ∷ map f (drop (suc i) xs)
-    at [] zero h = cc
-    at [] (suc i) h = cc
-    at (z ∷ zs) zero h = let e : z ≡ x = cc in cc
     at (z ∷ zs) (suc i) h = at zs i h
+    at xs i h = grind (arith, nat_tests)
 
 module _ {M : Type 0} (see : List ℕ → M → M) (fresh : M) where
   memory_goes_on : (tokens : List (List ℕ)) (above : List (List (List ℕ))) (from : Move)
@@ -49,35 +48,28 @@ module _ {M : Type 0} (see : List ℕ → M → M) (fresh : M) where
   pub follows_on : (row : Row) (past : List Row) (old new : List M) (found : List Move)
       → kind_of row ≡ AnyInterpretation → new ≡ map (memory_of see fresh (tokens_of row) old) found
       → Remember see fresh past old → found ≡ moves (path_after past) row → Remember see fresh (row ∷ past) new
-  follows_on (Comment text) past old new found k is remember told = absurd (global k)
-    where
-      global : Global ≡ AnyInterpretation → ⊥
-      global e = cc
+  follows_on (Comment text) past old new found k is remember told = grind (arith, nat_tests)
   follows_on (Spined Interpretation tokens) past old new found k is remember told =
       is ∙ rw (remember, told) (memories_go_on tokens (columns past) (moves_at (path_after past) tokens))
   follows_on row past old new found h k w e = grind (arith, nat_tests)
 
   seen_longer : (tokens : List (List ℕ)) (above : List (List (List ℕ)))
       → seen_each see tokens (map (remembered see fresh) above) ≡ map (remembered see fresh) (longer tokens above)
-  seen_longer (token ∷ tokens) (chain ∷ above) =
-      ap (λ ms. see token (remembered see fresh chain) ∷ ms) (seen_longer tokens above)
+  seen_longer (token ∷ tokens) (chain ∷ above) = grind (arith, nat_tests, seen_longer tokens above)
   seen_longer tokens above = grind (arith, nat_tests)
 
   shifted : (t : List ℕ) (ts : List (List ℕ)) (m : M) (ms : List M) (j k n : ℕ) → k ≡ suc j
       → map (memory_of see fresh (t ∷ ts) (m ∷ ms)) (same_upto k n) ≡ map (memory_of see fresh ts ms) (same_upto j n)
   shifted t ts m ms j k zero e = refl
   shifted t ts m ms j k (suc n) e =
-      let first : memory_of see fresh (t ∷ ts) (m ∷ ms) (Same k) ≡ memory_of see fresh ts ms (Same j) = rw e refl in
-      let rest = shifted t ts m ms (j + 1) (k + 1) n (omega (arith, e)) in
-      cc
+      grind (arith, nat_tests, shifted t ts m ms (j + 1) (k + 1) n (omega (arith, e)))
 
   -- where each spine stays, each memory sees the token under it
   seen_same : (tokens : List (List ℕ)) (ms : List M) → length ms ≤ length tokens
       → seen_each see tokens ms ≡ map (memory_of see fresh tokens ms) (same_upto 0 (length ms))
-  seen_same [] [] few = refl
   seen_same (t ∷ ts) (m ∷ ms) few =
       ap (λ rest. see t m ∷ rest) (seen_same ts ms (omega (arith, few)) ∙ sym (shifted t ts m ms 0 1 (length ms) refl))
-  seen_same tokens ms h = grind (arith, nat_tests)
+  seen_same tokens ms h = grind (arith, common_steps)
 
   -- under a record that moves none
   pub sees_on : (row : Row) (past : List Row) (old new : List M) (found : List Move) → ComeFrom row found
@@ -92,39 +84,22 @@ module _ {M : Type 0} (see : List ℕ → M → M) (fresh : M) where
     where
       last : (j n : ℕ) → AllByRecursion (λ move. source move < length tokens) (same_upto j n) → (n ≡ 0) ⊎ (j + n ≤ length tokens)
       last j zero h = inl refl
-      last j (suc n) h = elim (last (j + 1) n h.1) [
-        | inl end ↦ inr (let inside = h.0 in omega (arith, inside, end))
-        | inr more ↦ inr (omega (arith, more))
-      ]
+      last j (suc n) h = grind (arith, nat_tests, last (j + 1) n h.1)
 
       few : (n : ℕ) → AllByRecursion (λ move. source move < length tokens) (same_upto 0 n) → n ≤ length tokens
-      few n h = elim (last 0 n h) [
-        | inl end ↦ omega (arith, end)
-        | inr more ↦ omega (arith, more)
-      ]
+      few = grind (arith, nat_tests, last)
 
 -- what is got of a list is what stands there
 pub got : {X : Type 0} (xs : List X) (j : ℕ) (x d : X) → slice_get xs j ≡ Some x → get_or xs j d ≡ x
-got [] j x d h = cc
-got (y ∷ xs) zero x d h = let e : y ≡ x = cc in e
 got (y ∷ xs) (suc j) x d h = got xs j x d h
+got xs j x d h = grind (arith, nat_tests)
 
 -- one memory more has seen its token
 pub see_more : {M : Type 0} (see : List ℕ → M → M) (tokens : List (List ℕ)) (ms : List M) (j : ℕ) (m x : M)
     → j < length tokens → j < length ms → m ≡ get_or ms j m → x ≡ see (get_or tokens j []) m
     → take (j + 1) (slice_set ms j x) ++ seen_each see (drop (j + 1) tokens) (drop (j + 1) (slice_set ms j x))
     ≡ take j ms ++ seen_each see (drop j tokens) (drop j ms)
-see_more see tokens ms j m x a b here is = rw add-one (further see tokens ms j m x a b here is)
-  where
-    further : {M : Type 0} (see : List ℕ → M → M) (tokens : List (List ℕ)) (ms : List M) (j : ℕ) (m x : M)
-        → j < length tokens → j < length ms → m ≡ get_or ms j m → x ≡ see (get_or tokens j []) m
-        → take (suc j) (slice_set ms j x) ++ seen_each see (drop (suc j) tokens) (drop (suc j) (slice_set ms j x))
-        ≡ take j ms ++ seen_each see (drop j tokens) (drop j ms)
-    further see [] ms j m x a b here is = absurd (omega arith)
-    further see (t ∷ ts) [] j m x a b here is = absurd (omega arith)
-    further see (t ∷ ts) (n ∷ ms) zero m x a b here is = ap (λ y. y ∷ seen_each see ts ms) (is ∙ ap (see t) here)
-    further see (t ∷ ts) (n ∷ ms) (suc j) m x a b here is =
-        ap (λ ys. n ∷ ys) (further see ts ms j m x (omega arith) (omega arith) here is)
+see_more = grind (arith, common_steps)
 
 -- all memories have seen theirs
 pub seen_all : {M : Type 0} (see : List ℕ → M → M) (tokens : List (List ℕ)) (ms all : List M) (j : ℕ)
@@ -137,5 +112,4 @@ seen_all see tokens ms all j (inl past) h = rw (drop_all j ms past, take_all j m
 seen_all see tokens ms all j (inr past) h = sym (take-append-drop j ms) ∙ rw (drop_all j tokens past) at h
 
 pub on_ok : {A E : Type 0} {P Q : Type 0} (result : Result A E) → (P → Q) → OnOk result P → OnOk result Q
-on_ok (Ok x) f h = f h
-on_ok (Err e) f h = tt
+on_ok = grind (arith, nat_tests)

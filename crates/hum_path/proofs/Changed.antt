@@ -1,5 +1,6 @@
 -- Names and tokens that are changed one by one, where each keeps its sign and stays empty or filled, keep the path rules.
-use Rattle.std.proofs.Common.{◌≡◌, refl, sym, ap, ℕ, zero, suc, Bool, true, false, not, ◌&&◌, List, [], ◌∷◌, map, cond, get_or, arith, None}
+use Rattle.std.proofs.lemmas.Grind.{common_steps}
+use Rattle.std.proofs.Common.{◌≡◌, refl, sym, ℕ, suc, Bool, false, not, ◌&&◌, List, [], ◌∷◌, map, cond, get_or, arith, None}
 use Rattle.std.specs.List.{list_any, find}
 use Rattle.std.specs.Str.{bytes_eq}
 use Rattle.std.proofs.lemmas.Bool.{or_parts, or_from, not-false}
@@ -11,7 +12,7 @@ use Rattle.hum_score.specs.Spelling.{is_empty}
 use Rattle.hum_score.specs.declared.spines.Sign.{Sign}
 use Rattle.hum_score.specs.declared.spines.Move.{Move}
 use Rattle.hum_score.specs.declared.spines.Move.TheVariants.{Same, Left, Right, Join as Joined, Added}
-use Rattle.hum_score.specs.Sign.{sign_of, is_join, is_exclusive}
+use Rattle.hum_score.specs.Sign.{sign_of, is_exclusive}
 use Rattle.hum_score.specs.Spines.{Path, Unopened, Spines, moves_under, renamed, names_after}
 use Rattle.hum_score.specs.Rules.{breaks, in_order, has_bare, has_unnamed, has_mixed_join, mixes_join}
 use Rattle.hum_path.proofs.Obeyed.{Opens, Obeys, opens, obeys}
@@ -36,47 +37,37 @@ module _ (new : List ℕ → List ℕ) (keeps : KeepsToken new) where
 
   bare : (ts : List (List ℕ)) → has_bare ts ≡ false → has_bare (map new ts) ≡ false
   bare [] h = refl
-  bare (t ∷ ts) h =
-      let both = or_parts (bytes_eq (codes "**") t) (has_bare ts) h in
-      or_from (bytes_eq (codes "**") (new t)) (has_bare (map new ts)) (keeps.bare t both.0) (bare ts both.1)
+  bare (t ∷ ts) h = grind (arith, common_steps, bare ts)
 
   unnamed : (names : List (List ℕ)) (ss : List Sign) → has_unnamed (map new names) ss ≡ has_unnamed names ss
-  unnamed [] ss = refl
-  unnamed (n ∷ ns) [] = refl
   unnamed (n ∷ ns) (s ∷ ss) = let a = keeps.empty n in let b = unnamed ns ss in cc
+  unnamed names ss = grind (arith, nat_tests)
 
   pub changed_empty : (names : List (List ℕ)) → list_any is_empty (map new names) ≡ list_any is_empty names
   changed_empty [] = refl
   changed_empty (n ∷ ns) = let a = keeps.empty n in let b = changed_empty ns in cc
 
   apart : (a b : List ℕ) → not (bytes_eq a b) ≡ false → not (bytes_eq (new a) (new b)) ≡ false
-  apart a b h =
-      let same : a ≡ b = (bytes_eq-Decides a b).0 (not-false (bytes_eq a b) h) in
-      let own : bytes_eq (new a) (new b) ≡ true = (bytes_eq-Decides (new a) (new b)).1 (ap new same) in
-      rw own refl
+  apart = grind (arith, nat_tests, bytes_eq-Decides, not-false)
 
   weaker : (a b c d : Bool) → (c ≡ false → d ≡ false) → (a && (b && c)) ≡ false → (a && (b && d)) ≡ false
   weaker = grind (arith, nat_tests)
 
   mixes : (names : List (List ℕ)) (ss : List Sign) → mixes_join names ss ≡ false → mixes_join (map new names) ss ≡ false
-  mixes (n ∷ m ∷ ns) (s ∷ t ∷ ss) h = weaker (is_join s) (is_join t) _ _ (apart n m) h
-  mixes names ss h = grind (arith, nat_tests)
+  mixes = grind (arith, nat_tests, weaker, apart)
 
   mixed : (names : List (List ℕ)) (ss : List Sign) → has_mixed_join names ss ≡ false → has_mixed_join (map new names) ss ≡ false
-  mixed [] ss h = refl
-  mixed (n ∷ ns) [] h = refl
   mixed (n ∷ ns) (s ∷ ss) h =
       let both = or_parts (mixes_join (n ∷ ns) (s ∷ ss)) (has_mixed_join ns ss) h in
       or_from _ _ (mixes (n ∷ ns) (s ∷ ss) both.0) (mixed ns ss both.1)
+  mixed names ss h = grind (arith, nat_tests)
 
   chosen : (b : Bool) (x y : List ℕ) → cond b (new x) (new y) ≡ new (cond b x y)
-  chosen true x y = refl
-  chosen false x y = refl
+  chosen = grind (arith, nat_tests)
 
   at_place : (xs : List (List ℕ)) (j : ℕ) → get_or (map new xs) j [] ≡ new (get_or xs j [])
-  at_place [] j = sym keeps.nothing
-  at_place (x ∷ xs) zero = refl
   at_place (x ∷ xs) (suc j) = at_place xs j
+  at_place xs j = grind (arith, nat_tests)
 
   one_renamed : (names tokens : List (List ℕ)) (m : Move) → renamed (map new names) (map new tokens) m ≡ new (renamed names tokens m)
   one_renamed names tokens (Added j) = sym keeps.nothing
@@ -96,23 +87,10 @@ module _ (new : List ℕ → List ℕ) (keeps : KeepsToken new) where
   changed_names (Spines names) tokens = rw (signs tokens) (all_renamed names tokens (moves_under (map sign_of tokens)))
 
   obeys_still : (names tokens : List (List ℕ)) → Obeys names tokens → Obeys (map new names) (map new tokens)
-  obeys_still names tokens o = record {
-    wide = rw (length-map names new, length-map tokens new) o.wide;
-    unnamed = rw (signs tokens, unnamed names (map sign_of tokens)) o.unnamed;
-    bare = bare tokens o.bare;
-    steers = rw (signs tokens) o.steers;
-    lone = rw (signs tokens) o.lone;
-    pair = rw (signs tokens) o.pair;
-    mixed = rw (signs tokens) (mixed names (map sign_of tokens) o.mixed);
-    few = rw (changed_names (Spines names) tokens, length-map (names_after (Spines names) tokens) new) o.few;
-  }
+  obeys_still = grind (arith, nat_tests, length-map, unnamed, signs, bare, mixed, changed_names)
 
   opens_still : (tokens : List (List ℕ)) → Opens tokens → Opens (map new tokens)
-  opens_still tokens o = record {
-    exclusive = rw (signs tokens) o.exclusive;
-    bare = bare tokens o.bare;
-    few = rw (length-map tokens new) o.few;
-  }
+  opens_still = grind (arith, nat_tests, signs, bare, length-map)
 
   -- The changed record breaks no rule where the record broke none.
   pub changed_sound : (path : Path) (tokens : List (List ℕ)) → find (breaks path tokens) in_order ≡ None

@@ -1,13 +1,13 @@
 -- Origins by going up, record by record.
-use Rattle.std.proofs.Common.{◌≡◌, ◌∙◌, ℕ, zero, suc, ◌<◌, List, [], ◌∷◌, length, map, Some, slice_get, get_or, refl, sym, ap, arith, subst}
+use Rattle.std.proofs.lemmas.Grind.{common_steps}
+use Rattle.std.proofs.Common.{◌≡◌, ◌∙◌, ℕ, zero, suc, ◌<◌, List, [], ◌∷◌, length, map, Some, slice_get, get_or, refl, sym, ap, arith}
 use Rattle.std.proofs.lemmas.Bool.Decides.{nat_tests}
 use Rattle.std.specs.List.{AllByRecursion}
 use Rattle.std.proofs.lemmas.List.{length-map}
-use Rattle.hum_score.specs.declared.records.Kind.TheVariants.{Global, Interpretation as AnyInterpretation}
+use Rattle.hum_score.specs.declared.records.Kind.TheVariants.{Interpretation as AnyInterpretation}
 use Rattle.hum_score.specs.declared.records.SpinedKind.TheVariants.{Local, Interpretation, Values}
 use Rattle.hum_score.specs.Row.{Row, Comment, Spined, kind_of}
 use Rattle.hum_score.specs.declared.spines.Move.{Move}
-use Rattle.hum_score.specs.declared.spines.Move.TheVariants.{Same}
 use Rattle.hum_score.specs.Spines.{Path, Unopened, Spines, width, moves, moves_at, source, same_upto}
 use Rattle.hum_score.specs.Score.{IsOpen, path_after}
 use Rattle.hum_path.specs.Chains.{origin_of, origins}
@@ -30,22 +30,19 @@ there (z ∷ zs) zero h = (z, refl)
 there (z ∷ zs) (suc j) h = there zs j (omega (arith, h))
 
 pub mapped : {X Y : Type 0} (f : X → Y) (xs : List X) (j : ℕ) (x : X) → slice_get xs j ≡ Some x → slice_get (map f xs) j ≡ Some (f x)
-mapped f [] j x e = cc
-mapped f (z ∷ zs) zero x e = let same : z ≡ x = cc in ap (λ w. Some (f w)) same
 mapped f (z ∷ zs) (suc j) x e = mapped f zs j x e
+mapped f xs j x h = grind (arith, nat_tests)
 
 stands : (xs : List ℕ) (j d x : ℕ) → slice_get xs j ≡ Some x → get_or xs j d ≡ x
 stands (z ∷ zs) (suc j) d x e = stands zs j d x e
 stands xs j d x h = grind (arith, nat_tests)
 
 holds : {X : Type 0} (P : X → Type 0) (xs : List X) (j : ℕ) (x : X) → AllByRecursion P xs → slice_get xs j ≡ Some x → P x
-holds P [] j x h e = cc
-holds P (z ∷ zs) zero x h e = let same : z ≡ x = cc in subst P same h.0
 holds P (z ∷ zs) (suc j) x h e = holds P zs j x h.1 e
+holds P xs j x h k = grind (arith, nat_tests)
 
 empty : (os : List ℕ) → length os ≡ 0 → os ≡ []
-empty [] h = refl
-empty (o ∷ os) h = absurd (omega (arith, h))
+empty = grind (arith, common_steps)
 
 module _ (past : List Row) (tokens : List (List ℕ)) (each : List ℕ) (sound : IsOpen (Spined Interpretation tokens ∷ past))
     (h : AreOrigins past each) where
@@ -55,8 +52,7 @@ module _ (past : List Row) (tokens : List (List ℕ)) (each : List ℕ) (sound :
   goes_up j move e = by_path (path_after past) refl
     where
       by_path : (path : Path) → path_after past ≡ path → origin_of each move ≡ origin past (source move)
-      by_path Unopened at =
-          rw (empty each (h.width ∙ ap width at)) (sym (unopened past (source move) at))
+      by_path Unopened at = grind (arith, nat_tests, empty, unopened)
       by_path (Spines names) at =
           let below = holds (λ m. source m < length tokens) (moves_at (path_after past) tokens) j move (moves_below (path_after past) tokens) e in
           let wide = sound_width names tokens (rw at at sound.1) ∙ sym (h.width ∙ ap width at) in
@@ -78,13 +74,7 @@ module _ (past : List Row) (tokens : List (List ℕ)) (each : List ℕ) (sound :
 -- Where each spine stays, so does its origin.
 stays : (past : List Row) (tokens : List (List ℕ)) (each : List ℕ) → AreOrigins past each
     → moves_at (path_after past) tokens ≡ same_upto 0 (length each) → AreOrigins (Spined Interpretation tokens ∷ past) each
-stays past tokens each h stay = record {
-  width = sym (same_upto_length 0 (length each)) ∙ ap length (sym stay) ∙ moves_width (path_after past) tokens;
-  at = λ j below.
-      let same : slice_get (moves_at (path_after past) tokens) j ≡ Some (Same j) =
-      ap (λ (ms : List Move). slice_get ms j) stay ∙ get-same_upto_first (length each) j below in
-      h.at j below ∙ ap (λ o. Some (origin past (up o j))) (sym same);
-}
+stays = grind (arith, nat_tests, same_upto_length, moves_width, slice_get, get-same_upto_first)
 
 -- under a record that moves no spine
 pub unmoved : (row : Row) (past : List Row) (each : List ℕ) (found : List Move)
@@ -99,13 +89,7 @@ unmoved (Spined Interpretation tokens) past each found stay h told = stays past 
 pub steered : (row : Row) (past : List Row) (each next : List ℕ) (found : List Move) → kind_of row ≡ AnyInterpretation
     → next ≡ map (origin_of each) found → AreOrigins past each → IsOpen (row ∷ past) → found ≡ moves (path_after past) row
     → AreOrigins (row ∷ past) next
-steered (Comment text) past each next found k is h sound told = absurd (global k)
-  where
-    global : Global ≡ AnyInterpretation → ⊥
-    global e = cc
-steered (Spined Interpretation tokens) past each next found k is h sound told =
-    subst (AreOrigins (Spined Interpretation tokens ∷ past)) (sym (is ∙ ap (map (origin_of each)) told)) (moved past tokens each sound h)
-steered row past each next found h k w e m = grind (arith, nat_tests)
+steered = grind (arith, nat_tests, moved)
 
 pub climbing : (past : List Row) → IsOpen past → AreOrigins past (origins past)
 climbing [] h = record { width = refl; at = λ j below. absurd (omega (arith, below)) }

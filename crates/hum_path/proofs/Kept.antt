@@ -1,9 +1,10 @@
 -- What keeps the path rules: the rules one by one, records with exclusive interpretations, and what stands behind these.
+use Rattle.std.proofs.lemmas.Grind.{common_steps}
 use Rattle.std.proofs.Common.{◌≡◌, ◌≢◌, ◌∙◌, refl, sym, ap, ℕ, ◌+◌, ◌≤◌, ◌==◌, Bool, true, false, not, ◌&&◌}
 use Rattle.std.proofs.Common.{List, [], ◌∷◌, length, map, arith, None}
 use Rattle.std.specs.Prelude.{if◌then◌else◌}
 use Rattle.std.specs.List.{list_any, list_all, find}
-use Rattle.std.proofs.lemmas.Bool.{and_parts, or_parts}
+use Rattle.std.proofs.lemmas.Bool.{or_parts}
 use Rattle.std.proofs.lemmas.Bool.Decides.{nat_tests}
 use Rattle.std.proofs.lemmas.List.{length-map}
 use Rattle.hum_score.specs.Spelling.{is_empty}
@@ -48,8 +49,7 @@ fills_some = grind (arith, nat_tests)
 -- the rules ask only how many tokens there are
 pub text_alike : (path : Path) (old new : List (List ℕ)) → length new ≡ length old
     → find (breaks_as_text path new) in_order ≡ find (breaks_as_text path old) in_order
-text_alike Unopened old new h = refl
-text_alike (Spines names) old new h = rw h refl
+text_alike = grind (arith, nat_tests)
 
 -- ---- a record with an exclusive interpretation, which has no path indicator
 
@@ -60,11 +60,8 @@ quiet_exchanges j (s ∷ ss) h =
 
 quiet_onward : (added : List ℕ → List ℕ) (after_join : Bool) (signs : List Sign) (xs : List (List ℕ)) → list_any is_path_indicator signs ≡ false
     → length signs ≡ length xs → onward added (beginnings after_join signs) signs xs ≡ xs
-quiet_onward added b [] [] h e = refl
-quiet_onward added b (s ∷ ss) (x ∷ xs) h e =
-    let more = or_parts (is_path_indicator s) (list_any is_path_indicator ss) h in
-    grind (arith, nat_tests, more.0, quiet_onward added (is_join s) ss xs more.1 (omega (arith, e)))
-quiet_onward added b signs xs h e = absurd (omega (arith, e))
+quiet_onward added b (s ∷ ss) (x ∷ xs) h e = grind (arith, nat_tests, quiet_onward added (is_join s) ss xs)
+quiet_onward added after_join signs xs h k = grind (arith, common_steps)
 
 pub exclusive_filled : (token : List ℕ) → is_exclusive (sign_of token) ≡ true → is_empty token ≡ false
 exclusive_filled = grind (arith, nat_tests)
@@ -77,15 +74,12 @@ own_filled name token h = go (is_exclusive (sign_of token)) refl h
 
 each_named : (names tokens : List (List ℕ)) → has_unnamed names (map sign_of tokens) ≡ false → list_any is_empty (renamed_each names tokens) ≡ false
 each_named (name ∷ names) (token ∷ tokens) h =
-    let p = or_parts (stays_unnamed name (sign_of token)) (has_unnamed names (map sign_of tokens)) h in
-    rw (own_filled name token p.0) (each_named names tokens p.1)
+    grind (arith, nat_tests, each_named names tokens, or_parts, own_filled)
 each_named names tokens h = grind (arith, nat_tests)
 
 all_named : (tokens : List (List ℕ)) → list_all is_exclusive (map sign_of tokens) ≡ true → list_any is_empty tokens ≡ false
 all_named [] h = refl
-all_named (token ∷ tokens) h =
-    let p = and_parts (is_exclusive (sign_of token)) (list_all is_exclusive (map sign_of tokens)) h in
-    rw (exclusive_filled token p.0) (all_named tokens p.1)
+all_named (token ∷ tokens) h = grind (arith, nat_tests, all_named tokens)
 
 -- After it there are as many spines as tokens, each with a name.
 pub record AreNamed (names tokens : List (List ℕ)) : Type 0 where
@@ -95,8 +89,7 @@ pub record AreNamed (names tokens : List (List ℕ)) : Type 0 where
 
 pub named_after : (path : Path) (tokens : List (List ℕ)) → list_any is_exclusive (map sign_of tokens) ≡ true
     → find (breaks path tokens) in_order ≡ None → AreNamed (names_after path tokens) tokens
-named_after Unopened tokens some h =
-    let k = opens tokens h in record { wide = refl; filled = all_named tokens k.exclusive; few = k.few }
+named_after Unopened tokens some h = grind (arith, nat_tests, opens, all_named)
 named_after (Spines names) tokens some h =
     let k = obeys names tokens h in
     let signs = map sign_of tokens in
@@ -110,8 +103,7 @@ named_after (Spines names) tokens some h =
     record { wide = ap length is ∙ size; filled = rw is (each_named names tokens k.unnamed); few = k.few }
 
 any_some : (tokens : List (List ℕ)) → list_any is_exclusive (map sign_of tokens) ≡ true → (length tokens == 0) ≡ false
-any_some [] h = cc
-any_some (t ∷ ts) h = grind (arith, nat_tests)
+any_some = grind (arith, common_steps)
 
 -- A record behind it that asks nothing breaks no rule, and changes nothing.
 pub plain_behind : (path : Path) (tokens below : List (List ℕ)) → list_any is_exclusive (map sign_of tokens) ≡ true

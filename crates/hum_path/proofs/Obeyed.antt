@@ -42,6 +42,5 @@ narrow (Comment text ∷ past) h = narrow past h.0
 narrow (Spined Interpretation tokens ∷ past) h = by_path (path_after past) h.1
   where
     by_path : (path : Path) → find (breaks path tokens) in_order ≡ None → length (names_after path tokens) ≤ 4096
-    by_path Unopened h = (opens tokens h).few
-    by_path (Spines names) h = (obeys names tokens h).few
+    by_path = grind (arith, nat_tests, opens, obeys)
 narrow (Spined kind tokens ∷ past) h = narrow past h.0

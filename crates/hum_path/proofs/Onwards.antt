@@ -1,23 +1,23 @@
 -- Moves by place, and what they carry on.
+use Rattle.std.proofs.lemmas.Grind.{common_steps}
 use Rattle.std.proofs.Common.{◌≡◌, ◌∙◌, refl, sym, ap, ℕ, suc, ◌+◌, ◌<◌, ◌≤◌, ◌==◌, Bool, true, false}
 use Rattle.std.proofs.Common.{List, [], ◌∷◌, map, length, get_or, cond, arith, ◌||◌}
 use Rattle.std.specs.List.{AllByRecursion}
 use Rattle.std.proofs.lemmas.Bool.Decides.{nat_tests}
 use Rattle.std.proofs.lemmas.List.{length-map}
 use Rattle.hum_score.specs.declared.spines.Sign.{Sign}
-use Rattle.hum_score.specs.declared.spines.Sign.TheVariants.{Split, Join, Exchange, Add, End}
+use Rattle.hum_score.specs.declared.spines.Sign.TheVariants.{Split, Join, Add, End}
 use Rattle.hum_score.specs.declared.spines.Move.{Move}
 use Rattle.hum_score.specs.Sign.{sign_of, is_join, is_exchange, is_exclusive}
 use Rattle.hum_score.specs.Spines.{Spines, exchanges, partner, heirs_from, moves_under, renamed, names_after, source}
 use Rattle.hum_score.specs.Rules.{is_pair_or_none}
 use Rattle.hum_path.specs.Onward.{beginnings, onward, at_next, put_next, swapped, renamed_each, AgreesAt, Agrees, from_places}
-use Rattle.hum_path.proofs.Within.{exchanged_below, partner_below}
+use Rattle.hum_path.proofs.Within.{exchanged_below}
 use Rattle.hum_score.proofs.Cases.{by_bool}
 
 -- what a function makes of all moves
 pub onward_by_moves : {X : Type 0} (f : Move → X) (added : X → X) (pair : List ℕ) (j : ℕ) (b : Bool) (signs : List Sign) (xs : List X)
     → Agrees f added pair j signs xs → map f (heirs_from pair j b signs) ≡ onward added (beginnings b signs) signs xs
-onward_by_moves f added pair j b [] [] h = refl
 onward_by_moves f added pair j b (Split ∷ ss) (x ∷ xs) h =
     let ih = onward_by_moves f added pair (j + 1) false ss xs h.1 in let a = h.0.0 in let c = h.0.1 in rw (a, c, ih) refl
 onward_by_moves f added pair j true (Join ∷ ss) (x ∷ xs) h = onward_by_moves f added pair (j + 1) true ss xs h.1
@@ -48,22 +48,18 @@ parts : {i j : ℕ} {is js : List ℕ} → i ∷ is ≡ j ∷ js → (i ≡ j) �
 parts e = (cc, cc)
 
 filled_is : {X : Type 0} {i : ℕ} {is : List ℕ} → i ∷ is ≡ [] → X
-filled_is e = absurd (none e)
-  where
-    none : {i : ℕ} {is : List ℕ} → i ∷ is ≡ [] → ⊥
-    none e = cc
+filled_is = grind (arith, nat_tests)
 
 -- By place and by lists: without exchange,
 from_own : {X : Type 0} (none : X) (pair : List ℕ) (vs : List X) (j : ℕ) (ss : List Sign) (xs : List X) → length ss ≡ length xs
     → exchanges j ss ≡ [] → StandFrom none vs j xs → from_places none pair vs j ss ≡ xs
-from_own none pair vs j [] [] len e at = refl
 from_own none pair vs j (s ∷ ss) (x ∷ xs) len e at =
     by_bool (is_exchange s)
     (λ w. filled_is (rw w at e))
     (λ w.
     let rest = from_own none pair vs (j + 1) ss xs (omega (arith, len)) (rw w at e) (next_at none vs j x xs at) in
     rw (w, first_at none vs j x xs at, rest) refl)
-from_own none pair vs j ss xs h k w = grind (arith, nat_tests)
+from_own none pair vs j ss xs h k w = grind (arith, common_steps)
 
 -- behind the first one,
 from_second : {X : Type 0} (none : X) (a b : ℕ) (vs : List X) (j : ℕ) (ss : List Sign) (xs : List X) → length ss ≡ length xs
@@ -112,22 +108,15 @@ from_both none a b vs j ss xs h k w = grind (arith, nat_tests)
 
 -- nothing changes places
 pub swapped_none : {X : Type 0} (j : ℕ) (ss : List Sign) (xs : List X) → exchanges j ss ≡ [] → swapped ss xs ≡ xs
-swapped_none {X} j (s ∷ ss) (x ∷ xs) e =
-    by_bool (is_exchange s)
-    (λ w. filled_is (rw w at e))
-    (λ w. rw w (ap (λ (ys : List X). x ∷ ys) (swapped_none (j + 1) ss xs (rw w at e))))
+swapped_none {X} j (s ∷ ss) (x ∷ xs) e = grind (arith, nat_tests, swapped_none (j + 1) ss xs)
 swapped_none j ss xs h = grind (arith, nat_tests)
 
 put_length : {X : Type 0} (y : X) (ss : List Sign) (xs : List X) → length (put_next y ss xs) ≡ length xs
-put_length y (s ∷ ss) (x ∷ xs) = by_bool (is_exchange s)
-    (λ w. rw w refl)
-    (λ w. rw w (ap suc (put_length y ss xs)))
+put_length y (s ∷ ss) (x ∷ xs) = grind (arith, nat_tests, put_length y ss xs)
 put_length y ss xs = grind (arith, nat_tests)
 
 pub swapped_length : {X : Type 0} (ss : List Sign) (xs : List X) → length (swapped ss xs) ≡ length xs
-swapped_length (s ∷ ss) (x ∷ xs) = by_bool (is_exchange s)
-    (λ w. rw w (ap suc (put_length x ss xs)))
-    (λ w. rw w (ap suc (swapped_length ss xs)))
+swapped_length (s ∷ ss) (x ∷ xs) = grind (arith, nat_tests, swapped_length ss xs, put_length)
 swapped_length ss xs = grind (arith, nat_tests)
 
 too_many : (n : ℕ) → ((suc (suc (suc n)) == 0) || (suc (suc (suc n)) == 2)) ≡ true → ⊥
@@ -154,19 +143,13 @@ name_at names tokens j = cond (is_exclusive (sign_of (get_or tokens j []))) (get
 
 get_renamed : (names tokens : List (List ℕ)) (k : ℕ) → length names ≡ length tokens
     → get_or (renamed_each names tokens) k [] ≡ name_at names tokens k
-get_renamed [] [] k len = refl
 get_renamed (n ∷ ns) (t ∷ ts) (suc k) len = get_renamed ns ts k (omega (arith, len))
-get_renamed names tokens k h = grind (arith, nat_tests)
+get_renamed names tokens k h = grind (arith, common_steps)
 
 names_agree : (pair : List ℕ) (names tokens : List (List ℕ)) (j : ℕ) (s : Sign) (vs : List (List ℕ)) → sign_of (get_or tokens j []) ≡ s
     → get_or vs j [] ≡ name_at names tokens j → get_or vs (partner pair j) [] ≡ name_at names tokens (partner pair j)
     → AgreesAt (renamed names tokens) (λ _. []) pair j s (get_or vs (cond (is_exchange s) (partner pair j) j) [])
-names_agree pair names tokens j Split vs e here there = let own = rw e at here in (sym own, sym own)
-names_agree pair names tokens j Join vs e here there = let own = rw e at here in λ last. sym own
-names_agree pair names tokens j Exchange vs e here there = sym there
-names_agree pair names tokens j Add vs e here there = (sym here, refl)
-names_agree pair names tokens j End vs e here there = tt
-names_agree pair names tokens j s vs e here there = sym here
+names_agree = grind (arith, nat_tests)
 
 all_names_agree : (pair : List ℕ) (names tokens : List (List ℕ)) (j : ℕ) (ts : List (List ℕ)) → length names ≡ length tokens
     → StandFrom [] tokens j ts
@@ -181,7 +164,6 @@ all_names_agree pair names tokens j (t ∷ ts) len at =
     )
 
 pub each_length : (names tokens : List (List ℕ)) → length names ≡ length tokens → length (renamed_each names tokens) ≡ length tokens
-each_length [] [] len = refl
 each_length (n ∷ ns) (t ∷ ts) len = ap suc (each_length ns ts (omega (arith, len)))
 each_length names tokens h = grind (arith, nat_tests)
 
@@ -198,26 +180,12 @@ names_onward names tokens len two =
     ∙ ap (λ (xs : List (List ℕ)). onward (λ _. []) (beginnings false signs) signs xs)
     (places_swapped [] signs (renamed_each names tokens) size two)
 
--- what is the same for all moves from a place
-place_agrees : {X : Type 0} (none : X) (f : Move → X) (pair : List ℕ) (xs : List X) (j : ℕ) (s : Sign)
-    → ((m : Move) → source m < length xs → f m ≡ get_or xs (source m) none)
-    → j < length xs → partner pair j < length xs → AgreesAt f (λ x. x) pair j s (get_or xs (cond (is_exchange s) (partner pair j) j) none)
-place_agrees none f pair xs j Split at here there = (at _ here, at _ here)
-place_agrees none f pair xs j Join at here there = λ last. at _ here
-place_agrees none f pair xs j Exchange at here there = at _ there
-place_agrees none f pair xs j Add at here there = (at _ here, at _ here)
-place_agrees none f pair xs j End at here there = tt
-place_agrees none f pair xs j s at here there = at _ here
-
 all_agree : {X : Type 0} (none : X) (f : Move → X) (pair : List ℕ) (xs : List X) (j : ℕ) (ss : List Sign)
     → ((m : Move) → source m < length xs → f m ≡ get_or xs (source m) none)
     → AllByRecursion (λ p. p < length xs) pair → j + length ss ≤ length xs → Agrees f (λ x. x) pair j ss (from_places none pair xs j ss)
 all_agree none f pair xs j [] at below within = tt
 all_agree none f pair xs j (s ∷ ss) at below within =
-    let here : j < length xs = omega (arith, within) in (
-      place_agrees none f pair xs j s at here (partner_below (length xs) j pair below here),
-      all_agree none f pair xs (j + 1) ss at below (omega (arith, within)),
-    )
+    grind (arith, nat_tests, all_agree none f pair xs (j + 1) ss)
 
 -- what stands at each move's source, carried on
 pub sources_onward : {X : Type 0} (none : X) (f : Move → X) (xs : List X) (ss : List Sign)

@@ -1,13 +1,13 @@
 -- The rules on joins, exchanges and added spines, place by place.
+use Rattle.std.proofs.lemmas.Grind.{common_steps}
 use Rattle.std.proofs.Common.{◌≡◌, ◌≢◌, ◌∙◌, refl, sym, ap, ℕ, zero, suc, ◌+◌, ◌<◌, ◌⊎◌, ◌↔◌, inl, inr, arith}
 use Rattle.std.proofs.Common.{◌==◌, Bool, true, false, not, ◌&&◌, ◌||◌, List, [], ◌∷◌, map, length}
 use Rattle.std.specs.Prelude.{slice_index_or}
-use Rattle.std.specs.Str.{bytes_eq}
 use lib.Chars.{codes}
 use Rattle.std.proofs.lemmas.Bool.{and_parts, or_left, or_right}
 use Rattle.std.proofs.lemmas.Bool.Decides.{nat_tests}
 use Rattle.std.proofs.lemmas.Slice.Eq.{bytes_eq-Decides}
-use Rattle.hum_score.specs.Sign.{sign_of, is_join, is_exchange, is_exclusive}
+use Rattle.hum_score.specs.Sign.{sign_of, is_join, is_exchange}
 use Rattle.hum_score.specs.Spines.{exchanges}
 use Rattle.hum_score.specs.Rules.{first_is, is_pair_or_none, has_lone_join, mixes_join, has_mixed_join, stays_unnamed, has_unnamed}
 use Rattle.hum_path.specs.Places.{IsJoin, IsExchange, AreBeside, IsLone, AreMixed, StaysUnnamed, AreExchanged, AreRulesByPlace}
@@ -34,27 +34,23 @@ record LoneAt (after : Bool) (tokens : List (List ℕ)) (j : ℕ) : Type 0 where
   left : FreeLeft after tokens j
 
 or_cases : (a b : Bool) → (a || b) ≡ true → (a ≡ true) ⊎ (b ≡ true)
-or_cases true b h = inl refl
-or_cases false b h = inr h
+or_cases = grind (arith, nat_tests)
 
 not_true : (b : Bool) → not b ≡ true → b ≡ false
-not_true true h = cc
-not_true false h = refl
+not_true = grind (arith, nat_tests)
 
 or_neither : (a b : Bool) → (a || b) ≡ false → (a ≡ false) × (b ≡ false)
 or_neither = grind (arith, nat_tests)
 
 no_first_join : (ts : List (List ℕ)) → first_is is_join (map sign_of ts) ≡ false → ¬ IsJoin ts 0
-no_first_join [] h j = cc
-no_first_join (u ∷ us) h j = let e = join_is u j in cc
+no_first_join = grind (arith, common_steps)
 
 first_no_join : (ts : List (List ℕ)) → ¬ IsJoin ts 0 → first_is is_join (map sign_of ts) ≡ false
 first_no_join [] h = refl
 first_no_join (u ∷ us) h = by_bool (is_join (sign_of u)) (λ w. absurd (h (is_join-of u w))) (λ w. w)
 
 further_left : (after : Bool) (t : List ℕ) (ts : List (List ℕ)) (j : ℕ) → FreeLeft (is_join (sign_of t)) ts j → ¬ IsJoin (t ∷ ts) j
-further_left after t ts zero h = λ e. let w = join_is t e in cc
-further_left after t ts (suc i) h = h
+further_left = grind (arith, nat_tests)
 
 back_left : (after : Bool) (t : List ℕ) (ts : List (List ℕ)) (j : ℕ) → ¬ IsJoin (t ∷ ts) j → FreeLeft (is_join (sign_of t)) ts j
 back_left after t ts zero h = by_bool (is_join (sign_of t)) (λ w. absurd (h (is_join-of t w))) (λ w. w)
@@ -64,35 +60,23 @@ finds_lone : (after : Bool) (tokens : List (List ℕ)) → has_lone_join after (
 finds_lone after [] h = cc
 finds_lone after (t ∷ ts) h =
     elim (or_cases (is_join (sign_of t) && not (after || first_is is_join (map sign_of ts))) (has_lone_join (is_join (sign_of t)) (map sign_of ts)) h) [
-      | inl w ↦
-          let a = and_parts (is_join (sign_of t)) (not (after || first_is is_join (map sign_of ts))) w in
-          let b = or_neither after (first_is is_join (map sign_of ts)) (not_true (after || first_is is_join (map sign_of ts)) a.1) in
-          (zero, record { join = is_join-of t a.0; right = no_first_join ts b.1; left = b.0 })
+      | inl w ↦ grind (arith, nat_tests, and_parts, or_neither, not_true, is_join-of, no_first_join)
       | inr w ↦
           let r = finds_lone (is_join (sign_of t)) ts w in
           (suc r.0, record { join = r.1.join; right = r.1.right; left = further_left after t ts r.0 r.1.left })
     ]
 
 lone_breaks : (after : Bool) (tokens : List (List ℕ)) (j : ℕ) → LoneAt after tokens j → has_lone_join after (map sign_of tokens) ≡ true
-lone_breaks after [] j w = let e : [] ≡ codes "*v" = w.join in cc
-lone_breaks after (t ∷ ts) zero w =
-    or_left (is_join (sign_of t) && not (after || first_is is_join (map sign_of ts))) (has_lone_join (is_join (sign_of t)) (map sign_of ts))
-    (rw (join_is t w.join, w.left, first_no_join ts w.right) refl)
 lone_breaks after (t ∷ ts) (suc j) w =
     or_right (is_join (sign_of t) && not (after || first_is is_join (map sign_of ts))) (has_lone_join (is_join (sign_of t)) (map sign_of ts))
     (lone_breaks (is_join (sign_of t)) ts j (record { join = w.join; right = w.right; left = back_left after t ts j w.left }))
+lone_breaks after tokens j h = grind (arith, nat_tests, or_left, join_is, first_no_join)
 
 alone_of : (tokens : List (List ℕ)) (j k : ℕ) → LoneAt false tokens j → AreBeside j k → ¬ IsJoin tokens k
-alone_of tokens j k w (inl e) = let next : k ≡ suc j = omega arith in rw next w.right
-alone_of tokens j k w (inr e) = let next : j ≡ suc k = omega arith in before j next w.left
-  where
-    before : (j : ℕ) → j ≡ suc k → FreeLeft false tokens j → ¬ IsJoin tokens k
-    before zero e h = absurd (omega (arith, e))
-    before (suc i) e h = let same : k ≡ i = omega (arith, e) in rw same h
+alone_of = grind (arith, nat_tests)
 
 left_of : (tokens : List (List ℕ)) (j : ℕ) → ((k : ℕ) → AreBeside j k → ¬ IsJoin tokens k) → FreeLeft false tokens j
-left_of tokens zero h = refl
-left_of tokens (suc i) h = h i (inr (omega arith))
+left_of = grind (arith, nat_tests)
 
 lone_by_place : (tokens : List (List ℕ)) → (has_lone_join false (map sign_of tokens) ≡ true) ↔ ((j : ℕ) × IsLone tokens j)
 lone_by_place tokens = (
@@ -113,8 +97,6 @@ record MixedAt (names tokens : List (List ℕ)) (j : ℕ) : Type 0 where
   differ : slice_index_or names j [] ≢ slice_index_or names (suc j) []
 
 finds_mixed : (names tokens : List (List ℕ)) → has_mixed_join names (map sign_of tokens) ≡ true → (j : ℕ) × MixedAt names tokens j
-finds_mixed [] tokens h = cc
-finds_mixed (n ∷ ns) [] h = cc
 finds_mixed (n ∷ ns) (t ∷ ts) h =
     elim (or_cases (mixes_join (n ∷ ns) (map sign_of (t ∷ ts))) (has_mixed_join ns (map sign_of ts)) h) [
       | inl w ↦ (zero, here ns ts w)
@@ -126,16 +108,8 @@ finds_mixed (n ∷ ns) (t ∷ ts) h =
     here : (ns ts : List (List ℕ)) → mixes_join (n ∷ ns) (map sign_of (t ∷ ts)) ≡ true → MixedAt (n ∷ ns) (t ∷ ts) zero
     here [] ts h = cc
     here (m ∷ ms) [] h = cc
-    here (m ∷ ms) (u ∷ us) h =
-        let a = and_parts (is_join (sign_of t)) (is_join (sign_of u) && not (bytes_eq n m)) h in
-        let b = and_parts (is_join (sign_of u)) (not (bytes_eq n m)) a.1 in
-        let other = not_true (bytes_eq n m) b.1 in
-        record {
-          within = omega arith;
-          join = is_join-of t a.0;
-          next = is_join-of u b.0;
-          differ = λ e. let same = (bytes_eq-Decides n m).1 e in cc;
-        }
+    here (m ∷ ms) (u ∷ us) h = grind (arith, nat_tests, and_parts, not_true, is_join-of, bytes_eq-Decides)
+finds_mixed names tokens h = grind (arith, nat_tests)
 
 mixed_breaks : (names tokens : List (List ℕ)) (j : ℕ) → MixedAt names tokens j → has_mixed_join names (map sign_of tokens) ≡ true
 mixed_breaks [] tokens j w = absurd (omega (arith, w.within))
@@ -145,80 +119,38 @@ mixed_breaks (n ∷ ns) (t ∷ ts) zero w = or_left (mixes_join (n ∷ ns) (map 
     here : (ns ts : List (List ℕ)) → MixedAt (n ∷ ns) (t ∷ ts) zero → mixes_join (n ∷ ns) (map sign_of (t ∷ ts)) ≡ true
     here [] ts w = absurd (omega (arith, w.within))
     here (m ∷ ms) [] w = let e : [] ≡ codes "*v" = w.next in cc
-    here (m ∷ ms) (u ∷ us) w =
-        let other : bytes_eq n m ≡ false = by_bool (bytes_eq n m) (λ e. absurd (w.differ ((bytes_eq-Decides n m).0 e))) (λ e. e) in
-        rw (join_is t w.join, join_is u w.next, other) refl
+    here (m ∷ ms) (u ∷ us) w = grind (arith, nat_tests, bytes_eq-Decides, join_is)
 mixed_breaks (n ∷ ns) (t ∷ ts) (suc j) w =
     or_right (mixes_join (n ∷ ns) (map sign_of (t ∷ ts))) (has_mixed_join ns (map sign_of ts))
     (mixed_breaks ns ts j (record { within = omega (arith, w.within); join = w.join; next = w.next; differ = w.differ }))
 
 mixed_of : (names tokens : List (List ℕ)) (j k : ℕ) → AreMixed names tokens j k → has_mixed_join names (map sign_of tokens) ≡ true
-mixed_of names tokens j k w = side w.beside
-  where
-    side : AreBeside j k → has_mixed_join names (map sign_of tokens) ≡ true
-    side (inl e) =
-        let next : k ≡ suc j = omega arith in
-        mixed_breaks names tokens j (record {
-          within = rw (sym next) w.spines.1;
-          join = w.joins.0;
-          next = rw (sym next) w.joins.1;
-          differ = rw (sym next) w.differ;
-        })
-    side (inr e) =
-        let next : j ≡ suc k = omega arith in
-        mixed_breaks names tokens k (record {
-          within = rw (sym next) w.spines.0;
-          join = w.joins.1;
-          next = rw (sym next) w.joins.0;
-          differ = rw (sym next) (λ same. w.differ (sym same));
-        })
+mixed_of = grind (arith, nat_tests, mixed_breaks)
 
 mixed_by_place : (names tokens : List (List ℕ)) → (has_mixed_join names (map sign_of tokens) ≡ true)
     ↔ ((j : ℕ) × (k : ℕ) × AreMixed names tokens j k)
-mixed_by_place names tokens = (
-  λ h. let r = finds_mixed names tokens h in (
-    r.0,
-    suc r.0,
-    record {
-      beside = inl (omega arith);
-      spines = (omega (arith, r.1.within), r.1.within);
-      joins = (r.1.join, r.1.next);
-      differ = r.1.differ;
-    },
-  ),
-  λ w. mixed_of names tokens w.0 w.1 w.2,
-)
+mixed_by_place = grind (arith, nat_tests, finds_mixed, mixed_of)
 
 -- P6
 
 empty_name : (name : List ℕ) → (length name == 0) ≡ true → name ≡ []
-empty_name [] h = refl
-empty_name (x ∷ xs) h = grind (arith, nat_tests)
+empty_name = grind (arith, common_steps)
 
 finds_unnamed : (names tokens : List (List ℕ)) → has_unnamed names (map sign_of tokens) ≡ true → (j : ℕ) × StaysUnnamed names tokens j
-finds_unnamed [] tokens h = cc
-finds_unnamed (n ∷ ns) [] h = cc
 finds_unnamed (n ∷ ns) (t ∷ ts) h =
     elim (or_cases (stays_unnamed n (sign_of t)) (has_unnamed ns (map sign_of ts)) h) [
-      | inl w ↦
-          let a = and_parts (length n == 0) (not (is_exclusive (sign_of t))) w in
-          let plain = not_true (is_exclusive (sign_of t)) a.1 in
-          (zero, record { spine = omega arith; token = omega arith; added = empty_name n a.0; plain = λ e. cc })
+      | inl w ↦ grind (arith, nat_tests, and_parts, not_true, empty_name)
       | inr w ↦
           let r = finds_unnamed ns ts w in
           (suc r.0, record { spine = omega (arith, r.1.spine); token = omega (arith, r.1.token); added = r.1.added; plain = r.1.plain })
     ]
+finds_unnamed names tokens h = grind (arith, nat_tests)
 
 unnamed_breaks : (names tokens : List (List ℕ)) (j : ℕ) → StaysUnnamed names tokens j → has_unnamed names (map sign_of tokens) ≡ true
-unnamed_breaks [] tokens j w = absurd (omega (arith, w.spine))
-unnamed_breaks (n ∷ ns) [] j w = absurd (omega (arith, w.token))
-unnamed_breaks (n ∷ ns) (t ∷ ts) zero w =
-    let plain : is_exclusive (sign_of t) ≡ false = by_bool (is_exclusive (sign_of t)) (λ e. absurd (w.plain e)) (λ e. e) in
-    let none : n ≡ [] = w.added in
-    or_left (stays_unnamed n (sign_of t)) (has_unnamed ns (map sign_of ts)) (rw (plain, none) refl)
 unnamed_breaks (n ∷ ns) (t ∷ ts) (suc j) w =
     or_right (stays_unnamed n (sign_of t)) (has_unnamed ns (map sign_of ts))
     (unnamed_breaks ns ts j (record { spine = omega (arith, w.spine); token = omega (arith, w.token); added = w.added; plain = w.plain }))
+unnamed_breaks names tokens j h = grind (arith, nat_tests)
 
 -- P4
 
@@ -242,11 +174,8 @@ not_exchange = grind (arith, nat_tests, is_exchange-of)
 
 -- how many there are
 none_here : (j : ℕ) (tokens : List (List ℕ)) → length (exchanges j (map sign_of tokens)) ≡ 0 → (i : ℕ) → ¬ IsExchange tokens i
-none_here j [] h i e = let w : [] ≡ codes "*x" = e in cc
-none_here j (t ∷ ts) h zero e = let w = ap length (first_of_them j t ts (exchange_is t e)) in omega (arith, h, w)
-none_here j (t ∷ ts) h (suc i) e =
-    by_bool (is_exchange (sign_of t)) (λ b. let w = ap length (first_of_them j t ts b) in omega (arith, h, w))
-    (λ b. none_here (j + 1) ts (ap length (sym (rest_of j t ts b)) ∙ h) i e)
+none_here j (t ∷ ts) h (suc i) e = grind (arith, nat_tests, none_here (j + 1) ts)
+none_here j tokens h i k = grind (arith, nat_tests)
 
 none_there : (j : ℕ) (tokens : List (List ℕ)) → ((i : ℕ) → ¬ IsExchange tokens i) → length (exchanges j (map sign_of tokens)) ≡ 0
 none_there j [] h = refl
@@ -269,13 +198,11 @@ one_here j (t ∷ ts) h =
     (suc r.0, record { at = r.1.at; alone = later b r.0 r.1.alone }))
   where
     only : ((i : ℕ) → ¬ IsExchange ts i) → (i : ℕ) → IsExchange (t ∷ ts) i → i ≡ 0
-    only none zero e = refl
-    only none (suc i) e = absurd (none i e)
+    only = grind (arith, nat_tests)
 
     later : is_exchange (sign_of t) ≡ false → (k : ℕ) → ((i : ℕ) → IsExchange ts i → i ≡ k) → (i : ℕ) → IsExchange (t ∷ ts) i
         → i ≡ suc k
-    later b k alone zero e = let w = exchange_is t e in cc
-    later b k alone (suc i) e = ap suc (alone i e)
+    later = grind (arith, nat_tests)
 
 one_there : (j : ℕ) (tokens : List (List ℕ)) (k : ℕ) → OneExchange tokens k → length (exchanges j (map sign_of tokens)) ≡ 1
 one_there j [] k w = let e : [] ≡ codes "*x" = w.at in cc
@@ -307,13 +234,11 @@ two_here j (t ∷ ts) h =
     ))
   where
     both : (k : ℕ) → ((i : ℕ) → IsExchange ts i → i ≡ k) → (i : ℕ) → IsExchange (t ∷ ts) i → (i ≡ 0) ⊎ (i ≡ suc k)
-    both k alone zero e = inl refl
-    both k alone (suc i) e = inr (ap suc (alone i e))
+    both = grind (arith, nat_tests)
 
     later : is_exchange (sign_of t) ≡ false → (a b : ℕ) → ((i : ℕ) → IsExchange ts i → (i ≡ a) ⊎ (i ≡ b))
         → (i : ℕ) → IsExchange (t ∷ ts) i → (i ≡ suc a) ⊎ (i ≡ suc b)
-    later plain a b alone zero e = let w = exchange_is t e in cc
-    later plain a b alone (suc i) e = elim (alone i e) [ inl w ↦ inl (ap suc w) | inr w ↦ inr (ap suc w) ]
+    later = grind (arith, nat_tests)
 
 two_there : (j : ℕ) (tokens : List (List ℕ)) (a b : ℕ) → AreExchanged tokens a b → length (exchanges j (map sign_of tokens)) ≡ 2
 two_there j [] a b w = let e : [] ≡ codes "*x" = w.at.0 in cc
@@ -344,30 +269,12 @@ pair_or_none : (n : ℕ) → (n == 0 || n == 2) ≡ true → (n ≡ 0) ⊎ (n �
 pair_or_none n h = elim (or_cases (n == 0) (n == 2) h) [ inl w ↦ inl (grind (arith, nat_tests, w)) | inr w ↦ inr (grind (arith, nat_tests, w)) ]
 
 kept : (b : Bool) → ¬ (not b ≡ true) → b ≡ true
-kept true h = refl
-kept false h = absurd (h refl)
+kept = grind (arith, nat_tests)
 
 exchanged_by_place : (tokens : List (List ℕ)) → (¬ (not (is_pair_or_none (exchanges 0 (map sign_of tokens))) ≡ true))
     ↔ (((j : ℕ) → ¬ IsExchange tokens j) ⊎ ((j : ℕ) × (k : ℕ) × AreExchanged tokens j k))
-exchanged_by_place tokens = (
-  λ h. elim (pair_or_none (length (exchanges 0 (map sign_of tokens))) (kept (is_pair_or_none (exchanges 0 (map sign_of tokens))) h)) [
-    | inl w ↦ inl (none_here 0 tokens w)
-    | inr w ↦ inr (two_here 0 tokens w)
-  ],
-  λ w h. elim w [
-    | inl none ↦ let e = none_there 0 tokens none in zero_or_two (length (exchanges 0 (map sign_of tokens))) (inl e) h
-    | inr two ↦ let e = two_there 0 tokens two.0 two.1 two.2 in zero_or_two (length (exchanges 0 (map sign_of tokens))) (inr e) h
-  ],
-)
-  where
-    zero_or_two : (n : ℕ) → (n ≡ 0) ⊎ (n ≡ 2) → not (n == 0 || n == 2) ≡ true → ⊥
-    zero_or_two n (inl e) h = let w : not (0 == 0 || 0 == 2) ≡ true = rw e at h in cc
-    zero_or_two n (inr e) h = let w : not (2 == 0 || 2 == 2) ≡ true = rw e at h in cc
+exchanged_by_place = grind (arith, nat_tests, pair_or_none, kept, none_here, two_here, none_there, two_there)
 
 pub rules_by_place : (names tokens : List (List ℕ)) → AreRulesByPlace names tokens
-rules_by_place names tokens = record {
-  lone = lone_by_place tokens;
-  exchanged = exchanged_by_place tokens;
-  mixed = mixed_by_place names tokens;
-  unnamed = (finds_unnamed names tokens, λ w. unnamed_breaks names tokens w.0 w.1);
-}
+rules_by_place =
+    grind (arith, nat_tests, lone_by_place, exchanged_by_place, mixed_by_place, finds_unnamed, unnamed_breaks)

@@ -47,9 +47,8 @@ not_exclusive = grind (arith, nat_tests)
 
 plain_at : (tokens : List (List ℕ)) (j : ℕ) → list_all is_plain (map sign_of tokens) ≡ true
     → is_exclusive (sign_of (get_or tokens j [])) ≡ false
-plain_at [] j h = refl
-plain_at (t ∷ ts) zero h = grind (arith, nat_tests)
 plain_at (t ∷ ts) (suc j) h = grind (arith, nat_tests, plain_at ts j)
+plain_at tokens j h = grind (arith, nat_tests)
 
 plain_names : (names tokens : List (List ℕ)) (j n : ℕ) → list_all is_plain (map sign_of tokens) ≡ true
     → j + n ≡ length names → map (renamed names tokens) (same_upto j n) ≡ drop j names

@@ -1,10 +1,10 @@
 -- The first rule that a step breaks, from those that it was tested for.
-use Rattle.std.proofs.Common.{◌≡◌, ◌≢◌, ◌∙◌, refl, sym, subst, ℕ, ◌==◌, Bool, true, false, List, [], ◌∷◌}
-use Rattle.std.proofs.Common.{◌++◌, length, Option, Some, None, Result, Ok, Err, cond, arith}
+use Rattle.std.proofs.Common.{◌≡◌, ◌≢◌, ◌∙◌, refl, ℕ, Bool, List, [], ◌∷◌}
+use Rattle.std.proofs.Common.{◌++◌, length, Option, Some, None, Result, cond, arith}
 use Rattle.std.specs.List.{find}
 use Rattle.std.proofs.lemmas.Bool.Decides.{nat_tests}
 use Rattle.hum_score.specs.declared.spines.PathFault.{PathFault}
-use Rattle.hum_score.specs.declared.spines.PathFault.TheVariants.{P1, P2, P3, P4, P5, P6, P7, P8, P9, P10, P11, Memory}
+use Rattle.hum_score.specs.declared.spines.PathFault.TheVariants.{P9}
 use Rattle.hum_path.specs.declared.steering.NextSpines.{NextSpines}
 use Rattle.hum_score.specs.Spines.{Path, Spines}
 use Rattle.hum_score.specs.Rules.{breaks, in_order, Refuses}
@@ -13,8 +13,7 @@ use Rattle.hum_path.specs.Asked.{on_signs, IsStepBy}
 
 one_more : {X : Type 0} (b : Bool) (y x : X) (before after : Option X) → (before ≡ Some x → after ≡ Some x)
     → cond b (Some y) before ≡ Some x → cond b (Some y) after ≡ Some x
-one_more true y x before after more h = h
-one_more false y x before after more h = more h
+one_more = grind (arith, nat_tests)
 
 -- where the first is found among some, it is the first of these and any others behind them
 found_first : {X : Type 0} (p : X → Bool) (xs ys : List X) (x : X) → find p xs ≡ Some x → find p (xs ++ ys) ≡ Some x
@@ -23,8 +22,7 @@ found_first p (y ∷ xs) ys x h = one_more (p y) y x (find p xs) (find p (xs ++ 
 
 one_less : {X : Type 0} (b : Bool) (y : X) (before after behind : Option X) → (before ≡ None → after ≡ behind)
     → cond b (Some y) before ≡ None → cond b (Some y) after ≡ behind
-one_less true y before after behind more h = cc
-one_less false y before after behind more h = more h
+one_less = grind (arith, nat_tests)
 
 -- where none is found among some, it is the first of those behind them
 found_later : {X : Type 0} (p : X → Bool) (xs ys : List X) → find p xs ≡ None → find p (xs ++ ys) ≡ find p ys
@@ -33,26 +31,12 @@ found_later p (y ∷ xs) ys h = one_less (p y) y (find p xs) (find p (xs ++ ys))
 
 -- what is told of a record is the first rule that it breaks
 told : (fault : PathFault) (broken : Option PathFault) → broken ≡ Some fault → Refuses fault broken
-told P1 broken h = h
-told P2 broken h = h
-told P3 broken h = h
-told P4 broken h = h
-told P5 broken h = h
-told P6 broken h = h
-told P7 broken h = h
-told P8 broken h = h
-told P9 broken h = h
-told P10 broken h = h
-told P11 broken h = h
-told Memory broken h = tt
+told = grind (arith, nat_tests)
 
 -- a record that is as wide as the spines breaks first a rule on its signs, or makes too many spines
 wide_first : (names tokens : List (List ℕ)) → length names ≢ 0 → length tokens ≡ length names
     → find (breaks (Spines names) tokens) in_order ≡ find (breaks (Spines names) tokens) (on_signs ++ P9 ∷ [])
-wide_first names tokens some wide =
-    let open_still : (length names == 0) ≡ false = grind (arith, nat_tests, some) in
-    let same : (length tokens == length names) ≡ true = grind (arith, nat_tests, wide) in
-    rw (open_still, same) refl
+wide_first = grind (arith, nat_tests)
 
 pub refused : (names tokens : List (List ℕ)) (fault : PathFault) → length names ≢ 0 → length tokens ≡ length names
     → find (breaks (Spines names) tokens) on_signs ≡ Some fault → Refuses fault (find (breaks (Spines names) tokens) in_order)
@@ -61,8 +45,7 @@ refused names tokens fault some wide h =
 
 step_by : (path : Path) (tokens : List (List ℕ)) (broken : Option PathFault) (result : Result NextSpines PathFault)
     → find (breaks path tokens) in_order ≡ broken → IsStepBy broken path tokens result → IsStep path tokens result
-step_by path tokens broken (Ok next) e h = (e ∙ h.0, h.1, h.2, h.3)
-step_by path tokens broken (Err fault) e h = subst (Refuses fault) (sym e) h
+step_by = grind (arith, nat_tests)
 
 -- where no rule on signs is broken, the step is that under the signs
 pub stepped : (names tokens : List (List ℕ)) (result : Result NextSpines PathFault) → length names ≢ 0 → length tokens ≡ length names

@@ -1,7 +1,8 @@
 -- A record that asks nothing of the spines leaves them as they are, and is refused as a text is.
-use Rattle.std.proofs.Common.{◌≡◌, ◌≢◌, ◌∙◌, refl, sym, ap, ℕ, ◌+◌, ◌≤◌, ◌<◌, Bool, not}
-use Rattle.std.proofs.Common.{true, false, ◌==◌, List, [], ◌∷◌, length, map, None}
-use Rattle.std.proofs.Common.{Ok, inl, inr, arith}
+use Rattle.std.proofs.lemmas.Grind.{common_steps}
+use Rattle.std.proofs.Common.{◌≡◌, ◌≢◌, refl, ℕ, ◌+◌, ◌≤◌, Bool}
+use Rattle.std.proofs.Common.{true, false, List, [], ◌∷◌, length, map, None}
+use Rattle.std.proofs.Common.{Ok, arith}
 use Rattle.std.specs.List.{list_any, list_all, find}
 use Rattle.std.specs.Str.{bytes_eq}
 use Rattle.std.proofs.lemmas.Bool.{cases_Bool, not-false}
@@ -11,7 +12,7 @@ use Rattle.std.proofs.lemmas.List.{length-map}
 use lib.Chars.{codes}
 use Rattle.std.specs.declared.vec.Vec.{Vec}
 use Rattle.std.specs.declared.alloc.Global.{Global}
-use Rattle.hum_score.specs.declared.records.Kind.TheVariants.{Global as AnyGlobal, Values as AnyValues}
+use Rattle.hum_score.specs.declared.records.Kind.TheVariants.{Global as AnyGlobal}
 use Rattle.hum_score.specs.declared.records.Kind.TheVariants.{Interpretation as AnyInterpretation}
 use Rattle.hum_score.specs.declared.records.SpinedKind.TheVariants.{Local, Interpretation, Values}
 use Rattle.hum_score.specs.declared.records.SpinedKind.{SpinedKind}
@@ -81,11 +82,7 @@ pub plain_breaks : (path : Path) (tokens : List (List ℕ)) → all_plain tokens
     → width path ≤ 4096 → find (breaks path tokens) in_order ≡ find (breaks_as_text path tokens) in_order
 plain_breaks Unopened [] h filled few = absurd (filled refl)
 plain_breaks Unopened (t ∷ ts) h filled few = grind (arith, nat_tests)
-plain_breaks (Spines names) tokens h filled few = elim (cases_Bool (length tokens == length names)) as
-    (λ _. find (breaks (Spines names) tokens) in_order ≡ find (breaks_as_text (Spines names) tokens) in_order) [
-      | inl same ↦ plain_as_wide names tokens h few (grind (arith, nat_tests))
-      | inr other ↦ rw other refl
-    ]
+plain_breaks (Spines names) tokens h filled few = grind (arith, nat_tests, cases_Bool, plain_as_wide)
 
 pub plain_after : (path : Path) (tokens : List (List ℕ)) → all_plain tokens ≡ true → tokens ≢ []
     → find (breaks path tokens) in_order ≡ None
@@ -105,12 +102,7 @@ text_stays : (kind : SpinedKind) (path : Path) (tokens : List (List ℕ))
     → fault_of path (Spined kind tokens) ≡ None → length tokens ≡ width path
     → (after path (Spined kind tokens) ≡ path) → (moves path (Spined kind tokens) ≡ same_upto 0 (width path))
     → Stays path (Spined kind tokens)
-text_stays kind path tokens sound wide stays kept = record {
-  sound = sound;
-  path_stays = stays;
-  all_stay = kept;
-  sources = same_below (length tokens) 0 (width path) (omega (arith, wide));
-}
+text_stays = grind (arith, nat_tests, same_below)
 
 -- the first rule that a record of tokens breaks, as a text; and if there is none, nothing changes
 pub quiet_stays : (path : Path) (row : Row) → steers row ≡ false → (kind_of row ≡ AnyGlobal → ⊥)
@@ -131,49 +123,14 @@ quiet_stays path (Spined Interpretation tokens) quiet spined lawful few =
 -- A record that is no interpretation and breaks no rule leaves the spines as they are.
 pub unsteered : (path : Path) (row : Row) → (kind_of row ≡ AnyInterpretation → ⊥) → fault_of path row ≡ None
     → IsStay path row (Ok (same_upto 0 (width path)))
-unsteered path (Comment text) other sound = (refl, refl, refl, tt)
-unsteered path (Spined Interpretation tokens) other sound = absurd (other refl)
-unsteered path (Spined kind tokens) other sound =
-    let stays = text_stays kind path tokens sound (text_width path tokens sound) refl refl in
-    (stays.sound, refl, refl, stays.sources)
+unsteered = grind (arith, nat_tests, text_stays, text_width)
 
 -- the fields show the names
 pub names_in : (opened waits : Bool) (names : List (Vec ℕ Global)) → IsTidy opened waits names
     → exclusives (path_in opened (texts names)) ≡ texts names
-names_in true waits names tidy = refl
-names_in false waits names tidy = ap texts (sym (tidy.unopened refl))
+names_in = grind (arith, nat_tests)
 
 -- the fields show the width
 pub width_in : (opened waits : Bool) (names : List (Vec ℕ Global)) → IsTidy opened waits names
     → width (path_in opened (texts names)) ≡ length names
-width_in true waits names tidy = length-map names (λ v. v.items)
-width_in false waits names tidy = ap length (sym (tidy.unopened refl))
-
--- Data that has a token for each spine, of which none waits, breaks no rule: as it has a token, the spines are open.
-some_tokens : (ts : List (List ℕ)) → ts ≢ [] → 0 < length ts
-some_tokens [] h = absurd (h refl)
-some_tokens (t ∷ ts) h = omega arith
-
-not_none : (n : ℕ) → 0 < n → (n == 0) ≡ false
-not_none n h = grind (arith, nat_tests)
-
-as_many : (a b : ℕ) → a ≡ b → not (a == b) ≡ false
-as_many a b h = grind (arith, nat_tests)
-
-pub data_fits : (opened waits : Bool) (names : List (Vec ℕ Global)) (row : Row) → IsTidy opened waits names → kind_of row ≡ AnyValues
-    → IsTextOf row (text_of row) → length (tokens_of row) ≡ length names → waits ≡ false
-    → find (breaks_as_text (path_in opened (texts names)) (tokens_of row)) in_order ≡ None
-data_fits false waits names (Spined Values tokens) tidy h lawful wide ready =
-    let some = some_tokens tokens lawful.1 in
-    let none : length names ≡ 0 = ap length (tidy.unopened refl) in
-    absurd (omega (arith, some, none, wide))
-data_fits true waits names (Spined Values tokens) tidy h lawful wide ready =
-    let size : length (texts names) ≡ length names = length-map names (λ v. v.items) in
-    let some = some_tokens tokens lawful.1 in
-    rw (
-      not_none (length (texts names)) (omega (arith, some, size, wide)),
-      as_many (length tokens) (length (texts names)) (wide ∙ sym size),
-      sym tidy.waiting ∙ ready,
-    )
-    refl
-data_fits opened waits names row tidy h lawful wide ready = let z = h in cc
+width_in = grind (arith, common_steps)

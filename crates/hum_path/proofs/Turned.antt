@@ -1,12 +1,12 @@
 -- Cells above and cells below.
+use Rattle.std.proofs.lemmas.Grind.{common_steps}
 use Rattle.std.proofs.Common.{◌≡◌, ◌∙◌, refl, sym, ap, ℕ, zero, suc, ◌+◌, ◌<◌, ◌≤◌, ◌⊎◌, inl, inr, arith}
-use Rattle.std.proofs.Common.{◌==◌, Bool, true, false, ◌&&◌, ◌||◌, List, [], ◌∷◌, ◌++◌, map, length, cond}
-use Rattle.std.proofs.Common.{get_or, reverse, append_assoc, Option, Some, None}
+use Rattle.std.proofs.Common.{◌==◌, Bool, true, false, ◌&&◌, List, [], ◌∷◌, ◌++◌, map, length, cond}
+use Rattle.std.proofs.Common.{get_or, reverse, Option, Some, None}
 use Rattle.std.specs.Prelude.{nat_le, nat_lt, slice_get, slice_index_or}
-use Rattle.std.specs.List.{position_or_len}
 use Rattle.std.proofs.lemmas.Bool.{and_parts}
 use Rattle.std.proofs.lemmas.Bool.Decides.{nat_tests}
-use Rattle.std.proofs.lemmas.List.{reverse-append, get_or-map}
+use Rattle.std.proofs.lemmas.List.{get_or-map}
 use Rattle.std.proofs.lemmas.List.Sums.{position_or_len_is, passes_at_first}
 use Rattle.std.proofs.lemmas.Option.{slice_get_within, get_or_from_slice_get, slice_get-get_or}
 use Rattle.hum_score.specs.declared.records.SpinedKind.TheVariants.{Interpretation}
@@ -15,8 +15,7 @@ use Rattle.hum_score.specs.declared.spines.Sign.{Sign}
 use Rattle.hum_score.specs.declared.spines.Sign.TheVariants.{Split, Join, Exchange, Add, End, Exclusive, Plain}
 use Rattle.hum_score.specs.declared.spines.Move.{Move}
 use Rattle.hum_score.specs.declared.spines.Move.TheVariants.{Same, Left, Right, Join as Joined, Added}
-use Rattle.hum_score.specs.Sign.{sign_of}
-use Rattle.hum_score.specs.Spines.{Path, Unopened, Spines, exchanges, partner, joins_at_front, heirs_from, same_upto, moves_at, moves_under}
+use Rattle.hum_score.specs.Spines.{Path, exchanges, partner, joins_at_front, heirs_from, same_upto, moves_at, moves_under}
 use Rattle.hum_score.specs.Rules.{fault_of, is_pair_or_none}
 use Rattle.hum_score.specs.Score.{IsOpen, path_after, passed}
 use Rattle.hum_path.specs.Chains.{chain_of, columns, longer, history, goes_on, future}
@@ -37,14 +36,10 @@ abbrev One_goes : ℕ → List Move → Type 0
 One_goes j found = (i k : ℕ) → goes_on j (at found i) ≡ true → goes_on j (at found k) ≡ true → i ≡ k
 
 skip : (j : ℕ) (m : Move) (found : List Move) → (goes_on j m ≡ true → ⊥) → One_goes j found → One_goes j (m ∷ found)
-skip j m found h one zero k a b = absurd (h a)
-skip j m found h one (suc i) zero a b = absurd (h b)
-skip j m found h one (suc i) (suc k) a b = ap suc (one i k a b)
+skip = grind (arith, nat_tests)
 
 alone : (j : ℕ) (m : Move) (found : List Move) → None_goes j found → One_goes j (m ∷ found)
-alone j m found none zero zero a b = refl
-alone j m found none zero (suc k) a b = absurd (none k b)
-alone j m found none (suc i) k a b = absurd (none i a)
+alone = grind (arith, nat_tests)
 
 either : (j : ℕ) (m : Move) (found : List Move) → (goes_on j m ≡ true → None_goes j found) → One_goes j found → One_goes j (m ∷ found)
 either j m found h one = by_bool (goes_on j m) (λ w. alone j m found (h w)) (λ w. skip j m found (λ e. cc) one)
@@ -72,9 +67,7 @@ module _ (turn : ℕ → ℕ) (pair : List ℕ) where
 
   -- a place among joins in a row has its own turn
   joined_turn : (p k : ℕ) (signs : List Sign) → Fits p signs → p ≤ k → k < p + joins_at_front signs → turn k ≡ k
-  joined_turn p k (Join ∷ ss) f h l =
-      by_bool (p == k) (λ w. let e : p ≡ k = same_place p k w in rw e at f.0)
-      (λ w. let further : p + 1 ≤ k = grind (arith, nat_tests, w, h) in joined_turn (p + 1) k ss f.1 further (omega (arith, l)))
+  joined_turn p k (Join ∷ ss) f h l = grind (arith, nat_tests, joined_turn (p + 1) k ss f.1)
   joined_turn p k signs h w e = grind (arith, nat_tests)
 
   module _ (j : ℕ) where
@@ -108,25 +101,9 @@ module _ (turn : ℕ → ℕ) (pair : List ℕ) where
     later_on p b (Exchange ∷ ss) f zero h = own p b (Exchange ∷ ss) (turn_of_other p f.0 h) refl
     later_on p b (Exchange ∷ ss) f (suc i) h = beyond p false b (Exchange ∷ ss) ss (later_on (p + 1) false ss f.1 i h) refl
     later_on p b (End ∷ ss) f i h = beyond p false b (End ∷ ss) ss (later_on (p + 1) false ss f.1 i h) refl
-    later_on p true (Join ∷ ss) f i h =
-        let rest = later_on (p + 1) true ss f.1 i h in
-        let far = rest.from in
-        let here : p ≡ j → ⊥ = λ e. let t : turn j ≡ j = rw e at f.0 in omega (arith, far, t, e) in
-        record {
-          from = omega (arith, far);
-          out = λ e h l. by_bool (p == j) (λ w. here (same_place p j w))
-              (λ w. rest.out refl (grind (arith, nat_tests, w, h)) (omega (arith, l)));
-        }
-    later_on p false (Join ∷ ss) f zero h =
-        let bounds = within p j (p + joins_at_front ss) h in
-        let low = bounds.0 in
-        let high = bounds.1 in
-        let t = joined_turn p j (Join ∷ ss) f low (omega (arith, high)) in
-        record { from = omega (arith, t, low); out = λ e h l. cc }
-    later_on p false (Join ∷ ss) f (suc i) h =
-        let rest = later_on (p + 1) true ss f.1 i h in
-        let far = rest.from in
-        record { from = omega (arith, far); out = λ e h l. cc }
+    later_on p true (Join ∷ ss) f i h = grind (arith, nat_tests, later_on (p + 1) true ss f.1 i h)
+    later_on p false (Join ∷ ss) f zero h = grind (arith, nat_tests, within, joined_turn)
+    later_on p false (Join ∷ ss) f (suc i) h = grind (arith, nat_tests, later_on (p + 1) true ss f.1 i h)
     later_on p b (s ∷ ss) f zero h = own p b (s ∷ ss) (turn_of p f.0 h) refl
     later_on p b (s ∷ ss) f (suc i) h = beyond p false b (s ∷ ss) ss (later_on (p + 1) false ss f.1 i h) refl
 
@@ -137,25 +114,9 @@ module _ (turn : ℕ → ℕ) (pair : List ℕ) where
     one_on : (p : ℕ) (after_join : Bool) (signs : List Sign) → Fits p signs → One_goes j (heirs_from pair p after_join signs)
     one_on p b [] f = λ i k x y. cc
     one_on p b (Split ∷ ss) f =
-        let rest = one_on (p + 1) false ss f.1 in
-        let none = λ (t : turn j ≡ p). no_more p false ss f.1 t in
-        either j (Left p) (Right p ∷ heirs_from pair (p + 1) false ss)
-        (λ w i h. behind (none (turn_of p f.0 w)) i h)
-        (skip j (Right p) (heirs_from pair (p + 1) false ss) (λ e. cc) rest)
-      where
-        behind : None_goes j (heirs_from pair (p + 1) false ss) → None_goes j (Right p ∷ heirs_from pair (p + 1) false ss)
-        behind none zero h = cc
-        behind none (suc i) h = none i h
+        grind (arith, nat_tests, one_on (p + 1) false ss f.1, no_more, either, turn_of, skip)
     one_on p b (Add ∷ ss) f =
-        let rest = one_on (p + 1) false ss f.1 in
-        let none = λ (t : turn j ≡ p). no_more p false ss f.1 t in
-        either j (Same p) (Added p ∷ heirs_from pair (p + 1) false ss)
-        (λ w i h. behind (none (turn_of p f.0 w)) i h)
-        (skip j (Added p) (heirs_from pair (p + 1) false ss) (λ e. cc) rest)
-      where
-        behind : None_goes j (heirs_from pair (p + 1) false ss) → None_goes j (Added p ∷ heirs_from pair (p + 1) false ss)
-        behind none zero h = cc
-        behind none (suc i) h = none i h
+        grind (arith, nat_tests, one_on (p + 1) false ss f.1, no_more, either, turn_of, skip)
     one_on p b (Exchange ∷ ss) f =
         either j (Same (partner pair p)) (heirs_from pair (p + 1) false ss) (λ w. no_more p false ss f.1 (turn_of_other p f.0 w)) (one_on (p + 1) false ss f.1)
     one_on p b (End ∷ ss) f = one_on (p + 1) false ss f.1
@@ -164,25 +125,14 @@ module _ (turn : ℕ → ℕ) (pair : List ℕ) where
         either j (Joined p (p + joins_at_front ss)) (heirs_from pair (p + 1) true ss) none (one_on (p + 1) true ss f.1)
       where
         none : (nat_le p j && nat_le j (p + joins_at_front ss)) ≡ true → None_goes j (heirs_from pair (p + 1) true ss)
-        none w i h =
-            let bounds = within p j (p + joins_at_front ss) w in
-            let low = bounds.0 in
-            let high = bounds.1 in
-            let later = later_on (p + 1) true ss f.1 i h in
-            let far = later.from in
-            by_bool (p == j)
-            (λ e. let t : turn j ≡ p = turn_of p f.0 e in omega (arith, far, t))
-            (λ e. later.out refl (grind (arith, nat_tests, e, low)) (omega (arith, high)))
+        none = grind (arith, nat_tests, within, later_on, turn_of)
     one_on p b (s ∷ ss) f =
         either j (Same p) (heirs_from pair (p + 1) false ss) (λ w. no_more p false ss f.1 (turn_of p f.0 w)) (one_on (p + 1) false ss f.1)
 
 -- a list of exchanged places ascends
 lower : (p a : ℕ) (signs : List Sign) (rest : List ℕ) → exchanges p signs ≡ a ∷ rest → p ≤ a
 lower p a [] rest e = cc
-lower p a (Exchange ∷ ss) rest e = let h : p ≡ a = head_is e in omega (arith, h)
-  where
-    head_is : {xs ys : List ℕ} {x y : ℕ} → x ∷ xs ≡ y ∷ ys → x ≡ y
-    head_is e = cc
+lower p a (Exchange ∷ ss) rest e = grind (arith, nat_tests)
 lower p a (s ∷ ss) rest e = let w = lower (p + 1) a ss rest e in omega (arith, w)
 
 -- where none changes places
@@ -197,23 +147,7 @@ module _ (a b : ℕ) (apart : a < b) where
   turn k = cond (k == a) b (cond (k == b) a k)
 
   still : (p : ℕ) → (p ≡ a → ⊥) → (p ≡ b → ⊥) → turn p ≡ p
-  still p x y =
-      let u : (p == a) ≡ false = by_bool (p == a) (λ w. absurd (x (same_place p a w))) (λ w. w) in
-      let v : (p == b) ≡ false = by_bool (p == b) (λ w. absurd (y (same_place p b w))) (λ w. w) in
-      rw (u, v) refl
-
-  left_turn : (p : ℕ) → p ≡ a → turn (partner (a ∷ b ∷ []) p) ≡ p
-  left_turn p e =
-      let u : (p == a) ≡ true = grind (arith, nat_tests, e) in
-      let v : (b == a) ≡ false = by_bool (b == a) (λ w. let z = same_place b a w in absurd (omega (arith, apart, z))) (λ w. w) in
-      let x : (b == b) ≡ true = grind (arith, nat_tests) in
-      rw (u, v, x) (sym e)
-
-  right_turn : (p : ℕ) → p ≡ b → turn (partner (a ∷ b ∷ []) p) ≡ p
-  right_turn p e =
-      let u : (p == a) ≡ false = by_bool (p == a) (λ w. let z = same_place p a w in absurd (omega (arith, apart, z, e))) (λ w. w) in
-      let x : (a == a) ≡ true = grind (arith, nat_tests) in
-      rw (u, x) (sym e)
+  still = grind (arith, nat_tests)
 
   -- how many of the two are still to come
   abbrev ToCome : ℕ → List ℕ → Type 0
@@ -225,23 +159,11 @@ module _ (a b : ℕ) (apart : a < b) where
   -- a place that isn't the next of them
   passed_by : (p : ℕ) (ps : List ℕ) → ToCome p ps → ((c : ℕ) (more : List ℕ) → ps ≡ c ∷ more → p + 1 ≤ c)
       → (turn p ≡ p) × ToCome (p + 1) ps
-  passed_by p [] h l = (still p (λ e. omega (arith, h, e, apart)) (λ e. omega (arith, h, e)), omega (arith, h))
-  passed_by p (c ∷ []) h l =
-      let w = l c [] refl in
-      let e = h.0 in
-      let f = h.1 in
-      (still p (λ z. omega (arith, f, z)) (λ z. omega (arith, w, e, z)), (h.0, omega (arith, f), omega (arith, w, e)))
-  passed_by p (c ∷ d ∷ []) h l =
-      let w = l c (d ∷ []) refl in
-      let e = h.0 in
-      (still p (λ z. omega (arith, w, e, z)) (λ z. omega (arith, w, e, z, apart)), (h.0, h.1, omega (arith, w, e)))
-  passed_by p (c ∷ d ∷ e ∷ more) h l = absurd h
+  passed_by = grind (arith, nat_tests)
 
   -- the next of them
   met : (p : ℕ) (ps : List ℕ) → ToCome p (p ∷ ps) → (turn (partner (a ∷ b ∷ []) p) ≡ p) × ToCome (p + 1) ps
-  met p [] h = let e = h.0 in (right_turn p e, omega (arith, e))
-  met p (d ∷ []) h = let e = h.0 in let f = h.1 in (left_turn p e, (f, omega (arith, e), omega (arith, e, apart)))
-  met p (d ∷ e ∷ more) h = absurd h
+  met = grind (arith, nat_tests)
 
   fits_two : (p : ℕ) (signs : List Sign) → ToCome p (exchanges p signs) → Fits turn (a ∷ b ∷ []) p signs
   fits_two p [] h = tt
@@ -251,10 +173,7 @@ module _ (a b : ℕ) (apart : a < b) where
 -- the second of two is beyond the first
 second : (p a b : ℕ) (signs : List Sign) (rest : List ℕ) → exchanges p signs ≡ a ∷ b ∷ rest → a < b
 second p a b [] rest e = cc
-second p a b (Exchange ∷ ss) rest e =
-    let h : p ≡ a = cc in
-    let t : exchanges (p + 1) ss ≡ b ∷ rest = cc in
-    let w = lower (p + 1) b ss rest t in omega (arith, h, w)
+second p a b (Exchange ∷ ss) rest e = grind (arith, nat_tests, lower)
 second p a b (s ∷ ss) rest e = second (p + 1) a b ss rest e
 
 -- of spines under signs, one at most goes on from a place
@@ -267,14 +186,7 @@ one_under j signs h = by_pair (exchanges 0 signs) refl h
     by_pair (a ∷ b ∷ []) e h =
         let apart = second 0 a b signs [] e in
         rw e (one_on (turn a b apart) (a ∷ b ∷ []) j 0 false signs (fits_two a b apart 0 signs (rw e (refl, refl, omega arith))))
-    by_pair (a ∷ b ∷ c ∷ more) e h = absurd (long (length more) h)
-      where
-        long : (n : ℕ) → (suc (suc (suc n)) == 0 || suc (suc (suc n)) == 2) ≡ true → ⊥
-        long n h =
-            let x : (suc (suc (suc n)) == 0) ≡ false = grind (arith, nat_tests) in
-            let y : (suc (suc (suc n)) == 2) ≡ false = grind (arith, nat_tests) in
-            let z : (suc (suc (suc n)) == 0 || suc (suc (suc n)) == 2) ≡ false = rw (x, y) refl in
-            cc
+    by_pair (a ∷ b ∷ c ∷ more) e h = grind (arith, nat_tests)
 
 -- the same at the opening
 none_before : (j p n : ℕ) → j < p → None_goes j (same_upto p n)
@@ -284,13 +196,10 @@ none_before j p (suc n) h (suc i) e = none_before j (p + 1) n (omega (arith, h))
 
 one_same : (j p n : ℕ) → One_goes j (same_upto p n)
 one_same j p zero = λ i k x y. cc
-one_same j p (suc n) =
-    either j (Same p) (same_upto (p + 1) n) (λ w. let e = same_place p j w in none_before j (p + 1) n (omega (arith, e)))
-    (one_same j (p + 1) n)
+one_same j p (suc n) = grind (arith, nat_tests, one_same j (p + 1) n, either, same_place, none_before)
 
 one_at : (j : ℕ) (path : Path) (tokens : List (List ℕ)) → fault_of path (Spined Interpretation tokens) ≡ None → One_goes j (moves_at path tokens)
-one_at j Unopened tokens h = one_same j 0 (length tokens)
-one_at j (Spines names) tokens h = one_under j (map sign_of tokens) (obeys names tokens h).pair
+one_at = grind (arith, nat_tests, one_same, one_under, obeys)
 
 -- the last of joined spines isn't before the first
 abbrev IsOrdered : Move → Type 0
@@ -318,8 +227,7 @@ ordered_same p (suc n) (suc i) = ordered_same (p + 1) n i
 ordered_same p n i = grind (arith, nat_tests)
 
 ordered_at : (path : Path) (tokens : List (List ℕ)) (i : ℕ) → IsOrdered (at (moves_at path tokens) i)
-ordered_at Unopened tokens i = ordered_same 0 (length tokens) i
-ordered_at (Spines names) tokens i = ordered_on (exchanges 0 (map sign_of tokens)) 0 false (map sign_of tokens) i
+ordered_at = grind (arith, nat_tests, ordered_same, ordered_on)
 
 -- the only one that goes on from place j is the first
 found_at : (j : ℕ) (found : List Move) (i : ℕ) → One_goes j found → i < length found → goes_on j (at found i) ≡ true
@@ -345,30 +253,20 @@ up_of found one ordered i j h = by_move (slice_get found i) refl h
 
     by_move : (o : Option Move) → slice_get found i ≡ o → above_of o ≡ Some j
         → (place_below found j ≡ Some i) ⊎ (slice_get found i ≡ Some (Right j))
-    by_move None e h = cc
     by_move (Some (Same k)) e h = goes (Same k) e (same k (some_is h))
     by_move (Some (Left k)) e h = goes (Left k) e (same k (some_is h))
     by_move (Some (Right k)) e h = inr (e ∙ ap (λ (x : ℕ). Some (Right x)) (some_is h))
-    by_move (Some (Added k)) e h = cc
     by_move (Some (Joined first last)) e h =
         let f = some_is h in
         let up : first ≤ last = rw (get_or_from_slice_get found i (Joined first last) (Added 0) e) at (ordered i) in
         let x : nat_le first j ≡ true = grind (arith, nat_tests, f) in
         let y : nat_le j last ≡ true = grind (arith, nat_tests, f, up) in
         goes (Joined first last) e (rw (x, y) refl)
+    by_move o h k = grind (arith, nat_tests)
 
 -- where a test finds one
 found_where : (j : ℕ) (found : List Move) (i : ℕ) → place_below found j ≡ Some i → (i < length found) × (goes_on j (at found i) ≡ true)
-found_where j found i h =
-    by_bool (nat_lt (position_or_len (goes_on j) found) (length found))
-    (λ w.
-    let e : position_or_len (goes_on j) found ≡ i = some_is (rw w at h) in
-    let less : position_or_len (goes_on j) found < length found = grind (arith, nat_tests, w) in
-    (omega (arith, e, less), rw e at (passes_at_first (goes_on j) found (Added 0) less)))
-    (λ w. absurd (nothing (rw w at h)))
-  where
-    nothing : None ≡ Some i → ⊥
-    nothing e = cc
+found_where = grind (arith, nat_tests, some_is, passes_at_first)
 
 down_of : (found : List Move) (j i : ℕ) → place_below found j ≡ Some i → (place_above found i ≡ Some j) ⊎ IsJoinedFromRight found j i
 down_of found j i h =
@@ -376,15 +274,7 @@ down_of found j i h =
     by_move (at found i) (slice_get-get_or found i (Added 0) w.0) w.1
   where
     by_move : (m : Move) → slice_get found i ≡ Some m → goes_on j m ≡ true → (place_above found i ≡ Some j) ⊎ IsJoinedFromRight found j i
-    by_move (Same k) e g = inl (rw e (ap (λ (x : ℕ). Some x) (same_place k j g)))
-    by_move (Left k) e g = inl (rw e (ap (λ (x : ℕ). Some x) (same_place k j g)))
-    by_move (Right k) e g = cc
-    by_move (Added k) e g = cc
-    by_move (Joined first last) e g =
-        let bounds = within first j last g in
-        let low = bounds.0 in
-        by_bool (first == j) (λ w. inl (rw e (ap (λ (x : ℕ). Some x) (same_place first j w))))
-        (λ w. inr (record { first = first; last = last; move = e; right = grind (arith, nat_tests, w, low); within = bounds.1 }))
+    by_move = grind (arith, nat_tests)
 
 pub step_turns : (path : Path) (tokens : List (List ℕ)) → StepsTurn path tokens
 step_turns path tokens h = record {
@@ -414,25 +304,18 @@ cells_above tokens above found k j h = by_move (slice_get found k) refl h
 
     by_move : (o : Option Move) → slice_get found k ≡ o → above_of o ≡ Some j
         → slice_index_or (map (chain_of tokens above) found) k [] ≡ slice_index_or tokens j [] ∷ slice_index_or above j []
-    by_move None e h = cc
-    by_move (Some (Added i)) e h = cc
     by_move (Some (Same i)) e h = at_move (Same i) e ∙ ap (λ x. slice_index_or tokens x [] ∷ slice_index_or above x []) (some_is h)
     by_move (Some (Left i)) e h = at_move (Left i) e ∙ ap (λ x. slice_index_or tokens x [] ∷ slice_index_or above x []) (some_is h)
     by_move (Some (Right i)) e h = at_move (Right i) e ∙ ap (λ x. slice_index_or tokens x [] ∷ slice_index_or above x []) (some_is h)
     by_move (Some (Joined first last)) e h = at_move (Joined first last) e ∙ ap (λ x. slice_index_or tokens x [] ∷ slice_index_or above x []) (some_is h)
+    by_move o h k = grind (arith, nat_tests)
 
 place_within : (found : List Move) (k j : ℕ) → place_above found k ≡ Some j → k < length found
-place_within found k j h = by_move (slice_get found k) refl h
-  where
-    by_move : (o : Option Move) → slice_get found k ≡ o → above_of o ≡ Some j → k < length found
-    by_move None e h = cc
-    by_move (Some m) e h = slice_get_within found k m e
+place_within = grind (arith, nat_tests, slice_get_within)
 
 -- one cell turned round, and those behind it
 turned_more : (x : List ℕ) (below above all : List (List ℕ)) → all ≡ reverse below ++ (x ∷ above) → all ≡ reverse (x ∷ below) ++ above
-turned_more x below above all h =
-    let e : reverse (x ∷ below) ≡ reverse below ++ (x ∷ []) = reverse-append (x ∷ []) below in
-    rw (e, append_assoc) h
+turned_more = grind (arith, common_steps)
 
 pub columns_turn : (past rows : List Row) → ColumnsTurn past rows
 columns_turn past [] j i score less leads = ap (history past) (sym leads)

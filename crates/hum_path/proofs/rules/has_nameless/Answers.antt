@@ -1,8 +1,5 @@
-use Rattle.std.proofs.Common.{◌∙◌, sym}
-use Rattle.std.specs.List.{list_any}
-use Rattle.std.proofs.lemmas.List.{at_drop_all}
-use Rattle.hum_score.specs.Spelling.{is_empty}
-use Rattle.hum_score.specs.Texts.{texts}
+use Rattle.std.proofs.lemmas.Grind.{common_steps}
+use Rattle.std.proofs.Common.{◌∙◌, sym, arith}
 use Rattle.hum_path.proofs.ByPlace.{nameless_at}
 use Rattle.hum_path.proofs.rules.has_nameless.Goals as goal
 
@@ -19,6 +16,4 @@ loop-name-preserved c =
     ∙ c.loop-name.invariant
 
 pub returns : goal.returns
-returns c =
-    sym (at_drop_all (λ names. list_any is_empty (texts names)) c.args.names.now c.loop-name.name-index c.loop-name-test.false)
-    ∙ c.loop-name.invariant
+returns = grind (arith, common_steps)
