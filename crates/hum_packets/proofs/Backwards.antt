@@ -71,20 +71,11 @@ read-back packets short rest = (
 chain-one : (ps qs : List (List ℕ)) (all m n rest left : List ℕ) → Chain IsPacket ps all m → front m ≡ end rest
     → Chain IsPacket qs all n → front n ≡ end left → (ps ≡ qs) × (rest ≡ left)
 unfolding Chain
-chain-one [] [] all m n rest left p e q f =
-    let same : m ≡ n = sym p ∙ q in
-    let ends : end rest ≡ end left = sym e ∙ ap (λ (bs : List ℕ). front bs) same ∙ f in
-    (refl, cc)
-chain-one [] (q ∷ qs) all m n rest left p e chain f =
-    let clash : end rest ≡ packet q chain.0 = sym e ∙ ap (λ (bs : List ℕ). front bs) (sym p) ∙ chain.1 in absurd (cc)
-chain-one (p ∷ ps) [] all m n rest left chain e q f =
-    let clash : end left ≡ packet p chain.0 = sym f ∙ ap (λ (bs : List ℕ). front bs) (sym q) ∙ chain.1 in absurd (cc)
+chain-one [] [] all m n rest left p e q f = grind (arith, nat_tests)
+chain-one [] (q ∷ qs) all m n rest left p e chain f = grind (arith, nat_tests)
+chain-one (p ∷ ps) [] all m n rest left chain e q f = grind (arith, nat_tests)
 chain-one (p ∷ ps) (q ∷ qs) all m n rest left one e two f =
-    let same : packet p one.0 ≡ packet q two.0 = sym one.1 ∙ two.1 in
-    let data_same : p ≡ q = cc in
-    let behind : one.0 ≡ two.0 = cc in
-    let more = chain-one ps qs one.0 m n rest left one.2 e (subst (λ from. Chain IsPacket qs from n) (sym behind) two.2) f in
-    (ap (λ x. x ∷ ps) data_same ∙ ap (λ (xs : List (List ℕ)). q ∷ xs) more.0, more.1)
+    grind (arith, nat_tests, chain-one ps qs one.0 m n rest left one.2 e)
 
 pub read-one_way : (all : List ℕ) → IsReadInOneWay all
 read-one_way all packets others rest left p q = chain-one packets others all p.0 q.0 rest left p.1 p.2 q.1 q.2

@@ -1,7 +1,9 @@
 -- Bytes are cut into packets.
-use Rattle.std.proofs.Common.{◌≡◌, ℕ, ◌<◌, ◌≤◌, min, List, [], ◌∷◌, ◌++◌, length, take, drop, map, sym, ap, ◌∙◌, arith, ◌⊎◌, inl, inr, append_assoc, append-nil, take-append-drop}
+use Rattle.std.proofs.lemmas.Grind.{common_steps}
+use Rattle.std.proofs.lemmas.Bool.Decides.{nat_tests}
+use Rattle.std.proofs.Common.{◌≡◌, ℕ, ◌<◌, ◌≤◌, min, List, [], ◌∷◌, ◌++◌, length, take, drop, map, ap, ◌∙◌, arith, ◌⊎◌, inl, inr, append_assoc, append-nil, take-append-drop}
 use Rattle.std.specs.List.{concat, All}
-use Rattle.std.proofs.lemmas.List.{take_all, drop_all, map-append, length-take-le}
+use Rattle.std.proofs.lemmas.List.{drop_all, map-append, length-take-le}
 use Rattle.std.proofs.lemmas.List.Folds.{concat-append}
 use Rattle.std.proofs.lemmas.List.Elements.{All-push}
 use Rattle.hum_packets.specs.Packets.{packet_of}
@@ -17,12 +19,7 @@ pub cut-more : (bytes rest first more : List ℕ) (packets : List (List ℕ)) (n
     → n ≡ min (length rest) 65516 → first ≡ take n rest → more ≡ drop n rest → CutSoFar bytes (packets ++ first ∷ []) more
 cut-more bytes rest first more packets n x some size is left =
     let long : length first ≡ n = ap length is ∙ length-take-le n rest (omega (arith, size)) in record {
-      joined = x.joined ∙ ap (λ (bs : List ℕ). concat packets ++ bs) (sym (take-append-drop n rest))
-          ∙ ap (λ (bs : List ℕ). concat packets ++ (bs ++ drop n rest)) (sym is)
-          ∙ ap (λ (bs : List ℕ). concat packets ++ (first ++ bs)) (sym left)
-          ∙ sym (append_assoc (concat packets) first more)
-          ∙ ap (λ (bs : List ℕ). (concat packets ++ bs) ++ more) (sym (append-nil first))
-          ∙ ap (λ (bs : List ℕ). bs ++ more) (sym (concat-append packets (first ∷ [])));
+      joined = grind (arith, nat_tests, take-append-drop, append_assoc, append-nil, concat-append);
       sizes = All-push IsDataSize packets first x.sizes
           (omega (arith, long, size, some), omega (arith, long, size));
       whole = λ few. elim (x.whole few)
@@ -33,15 +30,9 @@ cut-more bytes rest first more packets n x some size is left =
     }
   where
     one : length bytes ≤ 65516 → packets ≡ [] → rest ≡ bytes → packets ++ first ∷ [] ≡ bytes ∷ []
-    one few none all =
-        let whole : first ≡ bytes = is ∙ take_all n rest (omega (arith, size, ap length all, few)) ∙ all in
-        ap (λ (ps : List (List ℕ)). ps ++ first ∷ []) none ∙ ap (λ (bs : List ℕ). bs ∷ []) whole
+    one = grind (arith, common_steps)
 
 -- the packets that were written, and one more
 pub written-more : (old mid new first : List ℕ) (packets : List (List ℕ)) → mid ≡ old ++ concat (map packet_of packets)
     → new ≡ mid ++ packet_of first → new ≡ old ++ concat (map packet_of (packets ++ first ∷ []))
-written-more old mid new first packets before is =
-    is ∙ ap (λ (bs : List ℕ). bs ++ packet_of first) before ∙ append_assoc old (concat (map packet_of packets)) (packet_of first)
-    ∙ ap (λ (bs : List ℕ). old ++ (concat (map packet_of packets) ++ bs)) (sym (append-nil (packet_of first)))
-    ∙ ap (λ (bs : List ℕ). old ++ bs) (sym (concat-append (map packet_of packets) (packet_of first ∷ [])))
-    ∙ ap (λ (ps : List (List ℕ)). old ++ concat ps) (sym (map-append packet_of packets (first ∷ [])))
+written-more = grind (arith, nat_tests, append_assoc, append-nil, concat-append, map-append)

@@ -1,42 +1,26 @@
 -- What bytes begin with.
-use Rattle.std.proofs.Common.{◌≡◌, ℕ, ◌-◌, ◌<◌, ◌≤◌, List, [], ◌∷◌, ◌++◌, length, take, drop, get_or, refl, sym, ap, ◌∙◌, arith, Some, None, Option, take-append-drop, length-drop, length-append, ◌⊎◌}
-use Rattle.std.proofs.lemmas.List.{length-take-le, take_at, drop_all}
-use Rattle.std.proofs.Math.Seq.{drop-append_seam}
+use Rattle.std.proofs.lemmas.Grind.{common_steps}
+use Rattle.std.proofs.Common.{◌≡◌, ℕ, ◌-◌, ◌<◌, ◌≤◌, List, [], ◌++◌, length, take, drop, get_or, refl, sym, ap, ◌∙◌, arith, Some, None, Option, take-append-drop, length-drop, length-append, ◌⊎◌}
+use Rattle.std.proofs.lemmas.List.{length-take-le, drop_all}
 use Rattle.std.proofs.lemmas.Bool.Decides.{nat_tests}
 use Rattle.hum_packets.specs.Packets.{size_at, size_by, joined, pair_of, front, front_by, packet, end, neither}
 
 pub size_at_short : (bs : List ℕ) → length bs < 4 → size_at bs ≡ None
 unfolding size_at
-size_at_short [] h = refl
-size_at_short (a ∷ []) h = refl
-size_at_short (a ∷ b ∷ []) h = refl
-size_at_short (a ∷ b ∷ c ∷ []) h = refl
-size_at_short (a ∷ b ∷ c ∷ d ∷ rest) h = absurd (omega arith)
+size_at_short = grind (arith, nat_tests)
 
 pub size_at_four : (bs : List ℕ) → 4 ≤ length bs
     → size_at bs ≡ size_by (joined 256 (pair_of (get_or bs 0 0) (get_or bs 1 0)) (pair_of (get_or bs 2 0) (get_or bs 3 0)))
 unfolding size_at
-size_at_four [] h = absurd (omega arith)
-size_at_four (a ∷ []) h = absurd (omega arith)
-size_at_four (a ∷ b ∷ []) h = absurd (omega arith)
-size_at_four (a ∷ b ∷ c ∷ []) h = absurd (omega arith)
-size_at_four (a ∷ b ∷ c ∷ d ∷ rest) h = refl
+size_at_four = grind (arith, common_steps)
 
 -- what stands behind says nothing
 pub size_at-append : (bs rest : List ℕ) → 4 ≤ length bs → size_at (bs ++ rest) ≡ size_at bs
 unfolding size_at
-size_at-append [] rest h = absurd (omega arith)
-size_at-append (a ∷ []) rest h = absurd (omega arith)
-size_at-append (a ∷ b ∷ []) rest h = absurd (omega arith)
-size_at-append (a ∷ b ∷ c ∷ []) rest h = absurd (omega arith)
-size_at-append (a ∷ b ∷ c ∷ d ∷ bs) rest h = refl
+size_at-append = grind (arith, nat_tests)
 
 drop-four : (bs rest : List ℕ) → 4 ≤ length bs → drop 4 (bs ++ rest) ≡ drop 4 bs ++ rest
-drop-four [] rest h = absurd (omega arith)
-drop-four (a ∷ []) rest h = absurd (omega arith)
-drop-four (a ∷ b ∷ []) rest h = absurd (omega arith)
-drop-four (a ∷ b ∷ c ∷ []) rest h = absurd (omega arith)
-drop-four (a ∷ b ∷ c ∷ d ∷ bs) rest h = refl
+drop-four = grind (arith, nat_tests)
 
 size_at-front : (bs rest : List ℕ) (n : ℕ) → 4 ≤ n → n ≤ length bs → size_at (take n bs ++ rest) ≡ size_at bs
 size_at-front bs rest n some h =
@@ -46,14 +30,7 @@ size_at-front bs rest n some h =
 
 -- a size is 0, or that of a packet
 pub sized : (o : Option ℕ) (n : ℕ) → size_by o ≡ Some n → (n ≡ 0) ⊎ (4 ≤ n)
-sized None n h = absurd (none_some h)
-  where
-    none_some : {x : ℕ} → ◌≡◌ {A = Option ℕ} None (Some x) → ⊥
-    none_some e = cc
-sized (Some m) n h = by_size m n h
-  where
-    by_size : (m n : ℕ) → size_by (Some m) ≡ Some n → (n ≡ 0) ⊎ (4 ≤ n)
-    by_size m n h = grind (arith, nat_tests)
+sized = grind (arith, nat_tests)
 
 pub size-least : (bs : List ℕ) (n : ℕ) → 4 ≤ length bs → size_at bs ≡ Some n → (n ≡ 0) ⊎ (4 ≤ n)
 size-least bs n h says =
@@ -94,7 +71,4 @@ front-held bs rest n some says h =
     ∙ parted (drop 4 (take n bs)) rest (n - 4) left)
   where
     parted : (xs rest : List ℕ) (k : ℕ) → length xs ≡ k → packet (take k (xs ++ rest)) (drop k (xs ++ rest)) ≡ packet xs rest
-    parted xs rest k size =
-        let first : take k (xs ++ rest) ≡ xs = take_at xs rest k size in
-        let second : drop k (xs ++ rest) ≡ rest = ap (λ j. drop j (xs ++ rest)) (sym size) ∙ drop-append_seam xs rest in
-        cc
+    parted = grind (arith, common_steps)
