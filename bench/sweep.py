@@ -1,10 +1,10 @@
 #!/usr/bin/env python3
 """sweep.py CRATE.. [--quick] [--keep] [--slower]: shorter proofs by tactics. For each lemma of a crate's `proofs/*.antt`, and each answer to
 a goal, it writes copies in which the call of a tactic stands in place of the body, of a clause, of all clauses that don't call the lemma
-itself (as one last clause), of a `let`, of a field or of an arm. One check of a scratch copy of the crate tries all of them, and each lemma takes
-the admitted forms that save most lines. No statement changes, and no file of examples. What fails in place is taken back, until the crate is
-proved. Then the lemmas go that nothing names any more, in the crate or above it, and the imports that a changed file no longer says, and
-the files are written into the crate.
+itself (as one last clause), of all that are one word (so too), of a `let`, of a field or of an arm. One check of a scratch copy of the crate
+tries all of them, and each lemma takes the admitted forms that save most lines. No statement or definition changes, and no file of examples.
+What fails in place is taken back, until the crate is proved. Then the lemmas go that nothing names any more, in the crate or above it, and the
+imports that a changed file no longer says, and the files are written into the crate.
 
 It tells how many calls of each kind were admitted, and before and after the lemmas, the lines, and the processor's seconds of a check of all these
 files. Where those grew by more than two percent of the crate's seconds in `tests/measured.txt` the crate stays as it was, but for --slower. A
@@ -37,6 +37,10 @@ EDGE = r'\s(){}\[\],;'
 # words that end an application
 SIGNS = {*'= → ≡ ≢ ∙ ∷ ++ + - * < ≤ × ⊎ ↔ ∧ ∨ && || == , ; ) ] } | ↦ . :'.split(),
          *'in let elim as rw simp at λ if then else record grind omega cc search absurd'.split()}
+# types of values, which a tactic may not choose
+VALUE = re.compile(r'(ℕ|Bool|List|Option|Result|Type|Row|Place|Sign|Path)(\s|$)')
+# right sides that a tactic does as well
+SHORT = re.compile(r'(cc|refl|tt)$|absurd \((omega|cc|let \S+ = \S+ in cc)')
 # names that grind needs no list for, or can't take
 PLAIN = {*'refl sym ap ap2 subst inl inr Some None Ok Err zero suc true false tt arith rules nat_tests common_steps by_bool []'.split(),
          *'length map take drop not cond replicate reverse sum'.split()}
@@ -156,7 +160,7 @@ def joined(tokens):
 
 
 def calls(text, names, bound):
-    """The calls of some lemmas in a text, of those with arguments that nothing inside of the text binds."""
+    """The calls of some lemmas in a text, each up to the first argument that something inside of the text binds."""
     tokens = TOKEN.findall(text)
     found = []
     for at, token in enumerate(tokens):
@@ -179,8 +183,9 @@ def calls(text, names, bound):
             else:
                 said.append(word)
             behind += 1
+        said = said[:next((at for at, word in enumerate(said) if '↦' in word or {base(it) for it in TOKEN.findall(word)} & bound), len(said))]
         call = ' '.join(said)
-        if len(said) > 1 and len(call) <= 90 and '↦' not in call and not {base(word) for word in TOKEN.findall(call)} & bound:
+        if len(said) > 1 and len(call) <= 90:
             found.append(call)
     return [*dict.fromkeys(found)]
 
@@ -308,8 +313,16 @@ def last_clause(lemma, lines):
     return ' '.join([lemma.name, *[it or next(free) for it in names[:arguments]]])
 
 
+def is_value(lemma, lines):
+    """Whether it is a definition, of which another term would mean something else: what it concludes is a plain type."""
+    kind = re.sub(r'\s+', ' ', text_of(lines, lemma.head)).split(' : ', 1)[-1].split(' → ')[-1].strip()
+    return re.match(VALUE, kind) is not None and '≡' not in kind
+
+
 def forms_of(lemma, lines, names):
     """The forms of one lemma that save lines."""
+    if is_value(lemma, lines):
+        return
     depth = lemma.depth
     inside = {it.name for it in lemmas_of(lines, *lemma.body)}
     clauses = [sides_of(text_of(lines, it)) for it in lemma.clauses]
@@ -338,6 +351,13 @@ def forms_of(lemma, lines, names):
         named = named_in('\n'.join(texts), names, {lemma.name, *inside, *TOKEN.findall(left)})
         for label, call in tactics([], named, []):
             yield Form(lemma, f'last clause by {label}', {**{lemma.clauses[at]: [] for at in others}, (end, end): written(depth, f'{left} =', call)})
+    short = [at for at, (_, right) in enumerate(clauses) if SHORT.match(right)]
+    left = last_clause(lemma, lines) if 2 <= len(short) < len(clauses) and short != others else None
+    if left:
+        end = lemma.body[1]
+        for label, call in tactics([], [], []):
+            edits = {lemma.clauses[at]: [] for at in short}
+            yield Form(lemma, f'short clauses by {label}', {**edits, (end, end): written(depth, f'{left} =', call)})
     for span, (left, right) in zip(lemma.clauses, clauses):
         if QUICK or size(span) < 3:
             continue
@@ -531,6 +551,12 @@ class Scratch:
         return said, seconds
 
 
+def chosen(said):
+    """Where a tactic stands for a value: another one would mean something else."""
+    for found in re.finditer(r'^\./proofs/(\S+?):(\d+):\d+: note: `\w+` has chosen a term of a type that is data', said, re.M):
+        yield found.group(1), int(found.group(2))
+
+
 def proved(said):
     return re.search(r'^logic=proved', said, re.M) is not None
 
@@ -568,6 +594,9 @@ def share_of(crate):
 
 def mark(forms, said, file):
     """Notes which of a file's forms failed, and tells what was refused beside them."""
+    for name, line in chosen(said):
+        for form in forms if name == file else []:
+            form.failed |= form.at <= line <= form.at + form.size
     for name, line, text in errors(said):
         if name == file:
             numbers = [int(it) for it in re.findall(r'-sweep(\d+)', text)]
