@@ -1,7 +1,7 @@
 -- What is given in the place of a token is a lawful one.
 use Rattle.std.proofs.Common.{◌≡◌, refl, sym, ◌∙◌, ℕ, ◌≤◌, ◌<◌, ◌==◌, ◌^◌, Bool, true, false, ◌&&◌}
 use Rattle.std.proofs.Common.{ℤ, pos, negsuc, ◌+ℤ◌, ◌-ℤ◌, ◌*ℤ◌, List, [], ◌∷◌, ◌++◌, length, Option, None, Some, subst, arith}
-use Rattle.std.specs.Prelude.{Result, Ok, Err, neg_ℤ, nat_lt, if◌then◌else◌}
+use Rattle.std.specs.Prelude.{Result, Ok, nat_lt, if◌then◌else◌}
 use Rattle.std.specs.List.{AllByRecursion, position}
 use Rattle.std.specs.Fmt.{signed_decimal}
 use Rattle.std.specs.Int.Signed.{mag}
@@ -12,7 +12,7 @@ use lib.Chars.{codes}
 use Rattle.hum_score.specs.declared.records.SpinedKind.TheVariants.{Values}
 use Rattle.hum_score.specs.Spelling.{IsToken}
 use Rattle.hum_frac.specs.Ratio.{Ratio}
-use Rattle.hum_pitch.specs.Pitch.{Spelled, semitones, natural, IsWithin, IsOctave, IsAlteration}
+use Rattle.hum_pitch.specs.Pitch.{Spelled, semitones, IsWithin, IsOctave, IsAlteration}
 use Rattle.hum_pitch.specs.Spelling.{small_letters, capitals, read_small, read_capitals, altered_by}
 use Rattle.hum_pitch.proofs.Steps.{natural_le}
 use Rattle.hum_kern.specs.declared.KernFault.{KernFault}
@@ -24,7 +24,7 @@ use Rattle.hum_stage.specs.declared.faults.Rule.{Rule}
 use Rattle.hum_tones.specs.declared.part_rule.PartRule.{PartRule}
 use Rattle.hum_tones.specs.declared.part_rule.PartRule.TheVariants.{Semitones, Durations, Transposed}
 use Rattle.hum_tones.specs.Subtokens.{with_first, given_by, joined, if_given, rewritten, subtokens}
-use Rattle.hum_tones.specs.Semits.{of_pitch, of_reading, by_reading, semits_of}
+use Rattle.hum_tones.specs.Semits.{of_pitch, by_reading, semits_of}
 use Rattle.hum_tones.specs.Recip.{written, rest_sign, by_value, by_length, recip_of}
 use Rattle.hum_tones.specs.PartRule.{given}
 use Rattle.hum_tones.proofs.Parts.{IsPart, IsPiece, parts_lack, are_parts}
@@ -38,13 +38,7 @@ rest_piece = record { part = record { one_token = refl; one_line = refl; no_line
 
 -- the semitones of a pitch that is read are few
 signs_within : (signs : List ℕ) → length signs ≤ 7 → IsAlteration (alteration_of signs)
-signs_within [] few = (omega (arith, ints), omega (arith, ints))
-signs_within (b ∷ signs) few = go (b == 35) (b == 45)
-  where
-    go : (sharp flat : Bool) → IsAlteration (if sharp then pos (length (b ∷ signs)) else if flat then neg_ℤ (pos (length (b ∷ signs))) else pos 0)
-    go true flat = (omega (arith, ints), omega (arith, ints))
-    go false true = (omega (arith, ints), omega (arith, ints))
-    go false false = (omega (arith, ints), omega (arith, ints))
+signs_within = grind (arith, nat_tests)
 
 sum_within : (o a : ℤ) (n : ℕ) → IsOctave o → IsAlteration a → n ≤ 11 →
     IsWithin (negsuc 102) (((pos 12 *ℤ (o -ℤ pos 4)) +ℤ pos n) +ℤ a) (pos 102)
@@ -55,20 +49,15 @@ few_semitones [] signs p few less e = cc
 few_semitones (b ∷ letters) signs p few less e = small (position (λ x. x == b) small_letters) e
   where
     within : IsOctave p.octave → alteration_of signs ≡ p.alteration → mag (semitones p) < 2 ^ 63
-    within octave is = mag_within (semitones p)
-        (sum_within p.octave p.alteration (natural p.step) octave (subst IsAlteration is (signs_within signs less)) (natural_le p.step))
+    within = grind (arith, nat_tests, mag_within, sum_within, signs_within, natural_le)
 
     large : (o : Option ℕ) → altered_by (read_capitals (length (b ∷ letters)) o) (Some (alteration_of signs)) ≡ Some p → mag (semitones p) < 2 ^ 63
     large None e = cc
-    large (Some k) e =
-        let octave : pos 4 -ℤ pos (length (b ∷ letters)) ≡ p.octave = cc in
-        within (omega (arith, ints, octave, few), omega (arith, ints, octave, few)) cc
+    large (Some k) e = grind (arith, nat_tests, pos, within, ints)
 
     small : (o : Option ℕ) → altered_by (read_small b (length (b ∷ letters)) o) (Some (alteration_of signs)) ≡ Some p → mag (semitones p) < 2 ^ 63
     small None e = large (position (λ x. x == b) capitals) e
-    small (Some k) e =
-        let octave : pos 3 +ℤ pos (length (b ∷ letters)) ≡ p.octave = cc in
-        within (omega (arith, ints, octave, few), omega (arith, ints, octave, few)) cc
+    small (Some k) e = grind (arith, nat_tests, pos, within, ints)
 
 not_over : (limit n : ℕ) → nat_lt limit n ≡ false → n ≤ limit
 not_over limit n h = grind (arith, nat_tests, h)
@@ -98,15 +87,13 @@ semits_piece ties part text e = read (note part) refl e
     resting reading is false e = pitched reading is reading.pitch refl (ties && reading.continued) e
 
     read : (r : Result Reading KernFault) → note part ≡ r → by_reading ties r ≡ Ok (Some text) → IsPiece text
-    read (Ok reading) is e = let same : of_reading ties reading ≡ Some text = cc in resting reading is reading.rest same
-    read (Err fault) is e = cc
+    read = grind (arith, nat_tests, resting)
 
 recip_piece : (part text : List ℕ) → IsPart part → recip_of part ≡ Ok (Some text) → IsPiece text
 recip_piece part text lawful e = read (duration part) refl e
   where
     resting : (rest : Bool) → (if rest then Some (codes "r") else None) ≡ Some text → IsPiece text
-    resting true e = let same : codes "r" ≡ text = cc in subst IsPiece same rest_piece
-    resting false e = cc
+    resting = grind (arith, nat_tests)
 
     valued : (found : Length) → duration part ≡ Ok found → (value : Option Ratio) → found.value ≡ value → by_value value found part ≡ Some text → IsPiece text
     valued found is None there e = resting (is_rest part) e
@@ -115,40 +102,27 @@ recip_piece part text lawful e = read (duration part) refl e
         subst IsPiece same (written_piece part found (sym is) (λ none. let no : Some value ≡ None = sym there ∙ none in cc) lawful)
 
     read : (r : Result Length KernFault) → duration part ≡ r → by_length r part ≡ Ok (Some text) → IsPiece text
-    read (Ok found) is e = let same : by_value found.value found part ≡ Some text = cc in valued found is found.value refl same
-    read (Err fault) is e = cc
+    read = grind (arith, nat_tests, valued)
 
 -- Texts that may each stand at the front of a data token are joined to one.
 module _ (gives : List ℕ → Result (Option (List ℕ)) Rule) (piece : (part text : List ℕ) → IsPart part → gives part ≡ Ok (Some text) → IsPiece text) where
   are_pieces : (parts texts : List (List ℕ)) → AllByRecursion IsPart parts → given_by gives parts ≡ Ok texts → AllByRecursion IsPiece texts
-  are_pieces [] [] all e = tt
-  are_pieces [] (text ∷ texts) all e = cc
   are_pieces (part ∷ parts) texts all e = go (gives part) refl (given_by gives parts) (λ others given. are_pieces parts others all.1 given) texts e
     where
       go : (r : Result (Option (List ℕ)) Rule) → gives part ≡ r → (rest : Result (List (List ℕ)) Rule)
           → ((others : List (List ℕ)) → rest ≡ Ok others → AllByRecursion IsPiece others)
           → (texts : List (List ℕ)) → with_first r rest ≡ Ok texts → AllByRecursion IsPiece texts
-      go (Err rule) is rest more texts e = cc
-      go (Ok None) is rest more texts e = more texts e
-      go (Ok (Some text)) is (Err rule) more texts e = cc
-      go (Ok (Some text)) is (Ok others) more [] e = cc
-      go (Ok (Some text)) is (Ok others) more (first ∷ texts) e =
-          let one : text ≡ first = cc in
-          let two : others ≡ texts = cc in
-          (subst IsPiece one (piece part text all.0 is), subst (AllByRecursion IsPiece) two (more others refl))
+      go = grind (arith, nat_tests)
+  are_pieces parts texts h k = grind (arith, nat_tests)
 
   joined_pieces : (token text : List ℕ) → rewritten gives token ≡ Ok text → IsToken Values token → IsToken Values text
   joined_pieces token text e lawful = go (given_by gives (subtokens token)) refl e
     where
       parts : AllByRecursion IsPart (subtokens token)
-      parts = are_parts (subtokens token) (parts_lack 9 token lawful.one_token) (parts_lack 13 token lawful.one_line)
-          (parts_lack 10 token lawful.no_line_end)
+      parts = grind (arith, nat_tests, are_parts, parts_lack)
 
       go : (r : Result (List (List ℕ)) Rule) → given_by gives (subtokens token) ≡ r → if_given r ≡ Ok text → IsToken Values text
-      go (Err rule) is e = cc
-      go (Ok texts) is e =
-          let same : joined texts ≡ text = cc in
-          subst (IsToken Values) same (joined_lawful texts (are_pieces (subtokens token) texts parts is))
+      go = grind (arith, nat_tests, joined_lawful, are_pieces, parts)
 
 pub given_lawful : (giving : PartRule) (token text : List ℕ) → given giving token ≡ Ok text → IsToken Values token → IsToken Values text
 given_lawful (Semitones ties) token text e lawful = joined_pieces (semits_of ties) (λ part made is given. semits_piece ties part made given) token text e lawful

@@ -1,12 +1,12 @@
 -- Texts that are joined by spaces make a lawful token.
-use Rattle.std.proofs.Common.{◌≡◌, ◌≢◌, refl, sym, ◌∙◌, ℕ, ◌==◌, false, List, [], ◌∷◌, ◌++◌, append_assoc, arith}
+use Rattle.std.proofs.lemmas.Grind.{common_steps}
+use Rattle.std.proofs.Common.{◌≡◌, ◌≢◌, refl, ℕ, ◌==◌, false, List, [], ◌∷◌, ◌++◌, arith}
 use Rattle.std.specs.List.{AllByRecursion}
 use Rattle.std.proofs.lemmas.List.Folds.{list_any-append}
 use Rattle.std.proofs.lemmas.Bool.{or_parts}
 use Rattle.std.proofs.lemmas.Bool.Decides.{nat_tests}
-use Rattle.hum_score.specs.declared.records.SpinedKind.TheVariants.{Local, Values}
+use Rattle.hum_score.specs.declared.records.SpinedKind.TheVariants.{Values}
 use Rattle.hum_score.specs.Spelling.{has_byte, is_comment, kind_of_token, IsToken}
-use Rattle.hum_score.proofs.Cases.{by_bool}
 use Rattle.hum_tones.specs.Subtokens.{joined}
 use Rattle.hum_tones.proofs.Parts.{IsPiece}
 
@@ -18,8 +18,7 @@ spaced (text ∷ texts) = text ++ (32 ∷ spaced texts)
 -- without the last space
 pub spaced_joined : (text : List ℕ) (texts : List (List ℕ)) → spaced (text ∷ texts) ≡ joined (text ∷ texts) ++ 32 ∷ []
 spaced_joined text [] = refl
-spaced_joined text (next ∷ texts) =
-    rw (spaced_joined next texts) (sym (append_assoc text (32 ∷ joined (next ∷ texts)) (32 ∷ [])))
+spaced_joined text (next ∷ texts) = grind (arith, common_steps, spaced_joined next texts)
 
 spaced_lacks : (c : ℕ) (texts : List (List ℕ)) → (32 == c) ≡ false → AllByRecursion (λ text. has_byte c text ≡ false) texts → has_byte c (spaced texts) ≡ false
 spaced_lacks c [] apart all = refl
@@ -34,28 +33,14 @@ joined_lacks c text texts apart all =
     front_lacks c (joined (text ∷ texts)) (32 ∷ []) (rw (spaced_joined text texts) at (spaced_lacks c (text ∷ texts) apart all))
 
 pub fronts : (xs ys : List ℕ) (a b : ℕ) → xs ++ a ∷ [] ≡ ys ++ b ∷ [] → xs ≡ ys
-fronts [] [] a b e = refl
-fronts [] (y ∷ []) a b e = cc
-fronts [] (y ∷ z ∷ ys) a b e = cc
-fronts (x ∷ []) [] a b e = cc
-fronts (x ∷ z ∷ xs) [] a b e = cc
-fronts (x ∷ xs) (y ∷ ys) a b e =
-    let first : x ≡ y = cc in
-    let rest : xs ++ a ∷ [] ≡ ys ++ b ∷ [] = cc in
-    let same = fronts xs ys a b rest in
-    rw (first, same) refl
+fronts = grind (arith, common_steps)
 
 each : (P Q : List ℕ → Type 0) (texts : List (List ℕ)) → ((text : List ℕ) → P text → Q text) → AllByRecursion P texts → AllByRecursion Q texts
 each P Q [] f all = tt
 each P Q (text ∷ texts) f all = (f text all.0, each P Q texts f all.1)
 
-pub kind_of_front : (text more : List ℕ) → text ≢ [] → kind_of_token (text ++ more) ≡ kind_of_token text
-kind_of_front [] more some = absurd (some refl)
-kind_of_front (x ∷ xs) more some = refl
-
 kind_of_joined : (text : List ℕ) (texts : List (List ℕ)) → text ≢ [] → kind_of_token (joined (text ∷ texts)) ≡ kind_of_token text
-kind_of_joined text [] some = refl
-kind_of_joined text (next ∷ texts) some = kind_of_front text (32 ∷ joined (next ∷ texts)) some
+kind_of_joined = grind (arith, nat_tests)
 
 pub some_joined : (text : List ℕ) (texts : List (List ℕ)) → text ≢ [] → joined (text ∷ texts) ≢ []
 some_joined text [] some = some
@@ -64,21 +49,7 @@ some_joined (x ∷ xs) (next ∷ texts) some = λ e. cc
 
 -- what begins as data does is no comment
 pub no_comment : (text : List ℕ) → kind_of_token text ≡ Values → is_comment text ≡ false
-no_comment [] h = refl
-no_comment (x ∷ xs) h = by_bool (x == 33) (λ w. absurd (let local : Local ≡ Values = rw w at h in cc)) (λ w. differs w)
-  where
-    differs : (x == 33) ≡ false → is_comment (x ∷ xs) ≡ false
-    differs w = let other : (33 == x) ≡ false = grind (arith, nat_tests, w) in rw other refl
+no_comment = grind (arith, nat_tests)
 
 pub joined_lawful : (texts : List (List ℕ)) → AllByRecursion IsPiece texts → IsToken Values (joined texts)
-joined_lawful [] all = record { filled = λ e. cc; one_token = refl; one_line = refl; no_line_end = refl; of_kind = refl; no_comment = refl }
-joined_lawful (text ∷ texts) all =
-    let kind = kind_of_joined text texts all.0.filled ∙ all.0.of_kind in
-    record {
-      filled = some_joined text texts all.0.filled;
-      one_token = joined_lacks 9 text texts refl (each IsPiece (λ t. has_byte 9 t ≡ false) (text ∷ texts) (λ t piece. piece.part.one_token) all);
-      one_line = joined_lacks 13 text texts refl (each IsPiece (λ t. has_byte 13 t ≡ false) (text ∷ texts) (λ t piece. piece.part.one_line) all);
-      no_line_end = joined_lacks 10 text texts refl (each IsPiece (λ t. has_byte 10 t ≡ false) (text ∷ texts) (λ t piece. piece.part.no_line_end) all);
-      of_kind = kind;
-      no_comment = no_comment (joined (text ∷ texts)) kind;
-    }
+joined_lawful = grind (arith, nat_tests, no_comment, kind_of_joined, some_joined, joined_lacks, each)

@@ -1,8 +1,8 @@
 -- What mint makes of a token, by what it heard.
-use Rattle.std.proofs.Common.{◌≡◌, ◌∙◌, refl, sym, ap, subst, ℕ, zero, suc, ◌<◌, true, Bool, List, [], ◌∷◌, length, Option, arith}
-use Rattle.std.specs.Prelude.{slice_get, slice_index_or, slice_set, Some, map, Result, not, ◌&&◌, if◌then◌else◌}
-use Rattle.std.proofs.lemmas.Bool.{and_parts}
-use Rattle.hum_record.specs.Contents.{is_filled, is_null, is_barline}
+use Rattle.std.proofs.lemmas.Grind.{common_steps}
+use Rattle.std.proofs.lemmas.Bool.Decides.{nat_tests}
+use Rattle.std.proofs.Common.{◌≡◌, ◌∙◌, sym, ap, subst, ℕ, suc, ◌<◌, true, List, [], ◌∷◌, length, Option, arith}
+use Rattle.std.specs.Prelude.{slice_get, slice_index_or, slice_set, Some, map, Result}
 use Rattle.std.proofs.lemmas.List.{length-map}
 use Rattle.hum_score.specs.declared.records.SpinedKind.TheVariants.{Values}
 use Rattle.hum_score.specs.Spelling.{IsToken}
@@ -23,26 +23,20 @@ use Rattle.hum_tones.proofs.LastNotes.{note_kept}
 
 -- a column of those that are mapped, and with one cell more
 got_of : (f : List (List ℕ) → HeardColumn) (above : Columns) (j : ℕ) → j < length above → slice_get (map f above) j ≡ Some (f (slice_index_or above j []))
-got_of f [] j h = absurd (omega (arith, h))
-got_of f (x ∷ xs) zero h = refl
 got_of f (x ∷ xs) (suc j) h = got_of f xs j (omega (arith, h))
+got_of f above j h = grind (arith, nat_tests)
 
 set_of : (f : List (List ℕ) → HeardColumn) (above : Columns) (j : ℕ) (cells : List (List ℕ))
     → slice_set (map f above) j (f cells) ≡ map f (slice_set above j cells)
-set_of f [] j cells = refl
-set_of f (x ∷ xs) zero cells = refl
 set_of f (x ∷ xs) (suc j) cells = ap (λ (rest : List HeardColumn). f x ∷ rest) (set_of f xs j cells)
+set_of f above j cells = grind (arith, nat_tests)
 
 got_set : (columns : List HeardColumn) (j : ℕ) (column other : HeardColumn) → j < length columns
     → slice_index_or (slice_set columns j column) j other ≡ column
-got_set [] j column other h = absurd (omega (arith, h))
-got_set (x ∷ xs) zero column other h = refl
-got_set (x ∷ xs) (suc j) column other h = got_set xs j column other (omega (arith, h))
+got_set = grind (arith, common_steps)
 
 length_set : (columns : List HeardColumn) (j : ℕ) (column : HeardColumn) → length (slice_set columns j column) ≡ length columns
-length_set [] j column = refl
-length_set (x ∷ xs) zero column = refl
-length_set (x ∷ xs) (suc j) column = ap suc (length_set xs j column)
+length_set = grind (arith, common_steps)
 
 -- a memory has seen a cell
 abbrev pub Saw : MintOptions → List HeardColumn → List HeardColumn → ℕ → List ℕ → Type 0
@@ -62,10 +56,7 @@ module _ (options : MintOptions) (memories new : List HeardColumn) (j : ℕ) (to
 
   set : {rewriting : Rewriting} {above : Columns} → Mints options memories rewriting above
       → new ≡ slice_set memories j (heard_after options token (kept (slice_index_or above j [])))
-  set {above = above} h =
-      let size = many h in
-      let inside = within in
-      saw (kept (slice_index_or above j [])) (ap (λ (l : List HeardColumn). slice_get l j) h.heard ∙ got_of kept above j (omega (arith, size, inside)))
+  set = grind (arith, nat_tests, many, within, got_of)
 
   pub within_new : j < length new
   within_new =
@@ -87,17 +78,12 @@ module _ (options : MintOptions) (memories new : List HeardColumn) (j : ℕ) (to
   pub column_is : (column : HeardColumn) → column ≡ slice_index_or new j column
       → {rewriting : Rewriting} {above : Columns} → Mints options memories rewriting above
       → column ≡ heard_after options token (kept (slice_index_or above j []))
-  column_is column is {above = above} h =
-      is ∙ ap (λ (l : List HeardColumn). slice_index_or l j column) (set h)
-      ∙ got_set memories j (heard_after options token (kept (slice_index_or above j []))) column within
+  column_is = grind (arith, nat_tests, set, got_set, within)
 
 -- a data token that is neither null nor a barline is told
 last_told : (options : MintOptions) (token : List ℕ) (column : HeardColumn) → IsToken Values token → has_content token ≡ true
     → (heard_after options token column).told ≡ told_as options.signless options.sizeonly column.note (heard_of token)
-last_told options token column lawful told =
-    let both = and_parts (not (is_null token)) (not (is_barline token)) told in
-    let all : (is_filled token && not (is_barline token)) ≡ true = rw (lawful.of_kind, both.0, both.1) refl in
-    ap (λ (b : Bool). if b then told_as options.signless options.sizeonly column.note (heard_of token) else column.told) all
+last_told = grind (arith, nat_tests)
 
 pub has_rewritten : {A : Type 0} (options : MintOptions) (memories new : List HeardColumn) (j : ℕ) (token : List ℕ) (column : HeardColumn)
     (made making : List (List ℕ) → Type 0) → MayHear (Mints options memories) j → Saw options memories new j token

@@ -1,5 +1,6 @@
 -- The name of an interval, and a pitch in brackets, may stand as a token.
-use Rattle.std.proofs.Common.{◌≡◌, ◌≢◌, refl, ℕ, ℤ, pos, ◌-ℤ◌, ◌==◌, ◌<◌, ◌≤◌, ◌^◌, Bool, false, List, [], ◌∷◌, ◌++◌, arith, Option, None, Some}
+use Rattle.std.proofs.lemmas.Bool.Decides.{nat_tests}
+use Rattle.std.proofs.Common.{◌≡◌, ◌≢◌, refl, ℕ, ℤ, pos, ◌-ℤ◌, ◌<◌, ◌≤◌, ◌^◌, Bool, false, List, [], ◌∷◌, ◌++◌, arith, Option, None, Some}
 use Rattle.std.specs.Prelude.{cond, option_map}
 use Rattle.std.specs.Fmt.{decimal}
 use Rattle.std.specs.Int.Signed.{mag}
@@ -7,7 +8,7 @@ use Rattle.std.proofs.lemmas.Int.{ints}
 use lib.Chars.{codes}
 use Rattle.hum_score.specs.declared.records.SpinedKind.TheVariants.{Values}
 use Rattle.hum_score.specs.Spelling.{has_byte, kind_of_token, IsToken}
-use Rattle.hum_pitch.specs.Pitch.{Spelled, step_number, semitones}
+use Rattle.hum_pitch.specs.Pitch.{Spelled, step_number}
 use Rattle.hum_pitch.specs.Given.{spelled}
 use Rattle.hum_pitch.specs.Spelling.{spelling}
 use Rattle.hum_pitch.specs.Intervals.{direction, sign, quality, quality_letters, size, named}
@@ -24,23 +25,12 @@ record IsFront (front : List ℕ) : Type 0 where
   lacks : (c : ℕ) → c ≤ 32 → has_byte c front ≡ false
   kind : (more : List ℕ) → kind_of_token more ≡ Values → kind_of_token (front ++ more) ≡ Values
 
-not_byte : (x c : ℕ) → 42 < x → c ≤ 42 → (x == c) ≡ false
-not_byte x c p q = grind arith
-
 no_front : IsFront []
 no_front = record { lacks = λ c low. refl; kind = λ more h. h }
 
 over_front : (xs : List ℕ) → AreOver 42 xs → IsFront xs
 over_front [] all = no_front
-over_front (x ∷ xs) all =
-    let high = all.0 in
-    let rest = over_front xs all.1 in
-    let not_comment : (x == 33) ≡ false = not_byte x 33 high (omega arith) in
-    let not_star : (x == 42) ≡ false = not_byte x 42 high (omega arith) in
-    record {
-      lacks = λ c low. rw (not_byte x c high (omega (arith, low)), rest.lacks c low) refl;
-      kind = λ more h. rw (not_comment, not_star) refl;
-    }
+over_front (x ∷ xs) all = grind (arith, nat_tests, over_front xs all.1)
 
 front_lawful : (front text : List ℕ) → IsFront front → IsPiece text → IsToken Values (front ++ text)
 front_lawful front text f piece =
@@ -65,18 +55,7 @@ named_lawful signless sizeonly d s fits =
     (number_piece (pos (size d)) fits)
 
 brackets_lawful : (p : Spelled) → p.step < 7 → IsToken Values (codes "[" ++ (spelling p ++ codes "]"))
-brackets_lawful p small =
-    record {
-      filled = λ e. cc;
-      one_token = lacks 9 (omega arith) refl refl;
-      one_line = lacks 13 (omega arith) refl refl;
-      no_line_end = lacks 10 (omega arith) refl refl;
-      of_kind = refl;
-      no_comment = refl;
-    }
-  where
-    lacks : (c : ℕ) → c ≤ 32 → has_byte c (codes "[") ≡ false → has_byte c (codes "]") ≡ false → has_byte c (codes "[" ++ (spelling p ++ codes "]")) ≡ false
-    lacks c low left right = both_lack c (codes "[") (spelling p ++ codes "]") left (both_lack c (spelling p) (codes "]") (spelling_lacks c p small low) right)
+brackets_lawful = grind (arith, nat_tests, no_comment, both_lack, spelling_lacks)
 
 small_size : (p q : Pitch) → mag (pos (size (step_number (spelled q) -ℤ step_number (spelled p)))) < 2 ^ 63
 small_size p q = let a = p.in_range in let b = q.in_range in omega (arith, ints)
@@ -84,6 +63,4 @@ small_size p q = let a = p.in_range in let b = q.in_range in omega (arith, ints)
 pub approached_lawful : (signless sizeonly : Bool) (before : Option Pitch) (pitch : Pitch) →
     IsToken Values (approached signless sizeonly (option_map spelled before) (spelled pitch))
 approached_lawful signless sizeonly None pitch = brackets_lawful (spelled pitch) pitch.in_range.0
-approached_lawful signless sizeonly (Some before) pitch =
-    named_lawful signless sizeonly (step_number (spelled pitch) -ℤ step_number (spelled before))
-    (semitones (spelled pitch) -ℤ semitones (spelled before)) (small_size before pitch)
+approached_lawful signless sizeonly (Some before) pitch = grind (arith, nat_tests, named_lawful, small_size)

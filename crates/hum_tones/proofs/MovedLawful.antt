@@ -1,5 +1,6 @@
 -- A transposed token is a lawful one.
-use Rattle.std.proofs.Common.{◌≡◌, ◌≢◌, refl, sym, ap, ◌∙◌, ℕ, zero, suc, ℤ, pos, negsuc, ◌-ℤ◌, ◌==◌, ◌<◌, ◌≤◌}
+use Rattle.std.proofs.lemmas.Bool.Decides.{nat_tests}
+use Rattle.std.proofs.Common.{◌≡◌, ◌≢◌, refl, ℕ, zero, suc, ℤ, pos, ◌==◌, ◌<◌, ◌≤◌}
 use Rattle.std.proofs.Common.{Bool, true, false, List, [], ◌∷◌, ◌++◌, take, drop, arith, Option, None, Some}
 use Rattle.std.proofs.Common.{subst}
 use Rattle.std.specs.Prelude.{Result, Ok, Err, replicate, slice_index, if◌then◌else◌, not}
@@ -9,7 +10,7 @@ use Rattle.hum_score.specs.declared.records.SpinedKind.TheVariants.{Values}
 use Rattle.hum_score.specs.Spelling.{has_byte, kind_of_token, IsToken}
 use Rattle.hum_score.proofs.Cases.{by_bool}
 use Rattle.hum_pitch.specs.Pitch.{Spelled, away}
-use Rattle.hum_pitch.specs.Spelling.{small_letters, capitals, letters, letters_of, accidentals, spelling}
+use Rattle.hum_pitch.specs.Spelling.{small_letters, capitals, letters, accidentals, spelling}
 use Rattle.hum_pitch.proofs.Steps.{away_is}
 use Rattle.hum_kern.specs.declared.KernFault.{KernFault}
 use Rattle.hum_kern.specs.Note.{Reading, note}
@@ -26,76 +27,32 @@ pub not_low : (x c : ℕ) → 32 < x → c ≤ 32 → (x == c) ≡ false
 not_low x c p q = grind arith
 
 pub small_over : (step : ℕ) → step < 7 → 64 < slice_index small_letters step
-small_over zero h = omega arith
-small_over (suc zero) h = omega arith
-small_over (suc (suc zero)) h = omega arith
-small_over (suc (suc (suc zero))) h = omega arith
-small_over (suc (suc (suc (suc zero)))) h = omega arith
-small_over (suc (suc (suc (suc (suc zero))))) h = omega arith
-small_over (suc (suc (suc (suc (suc (suc zero)))))) h = omega arith
-small_over (suc (suc (suc (suc (suc (suc (suc n))))))) h = absurd (omega arith)
+small_over = grind (arith, nat_tests)
 
 pub capital_over : (step : ℕ) → step < 7 → 64 < slice_index capitals step
-capital_over zero h = omega arith
-capital_over (suc zero) h = omega arith
-capital_over (suc (suc zero)) h = omega arith
-capital_over (suc (suc (suc zero))) h = omega arith
-capital_over (suc (suc (suc (suc zero)))) h = omega arith
-capital_over (suc (suc (suc (suc (suc zero))))) h = omega arith
-capital_over (suc (suc (suc (suc (suc (suc zero)))))) h = omega arith
-capital_over (suc (suc (suc (suc (suc (suc (suc n))))))) h = absurd (omega arith)
+capital_over = grind (arith, nat_tests)
 
 pub repeat_lacks : (x c n : ℕ) → (x == c) ≡ false → has_byte c (replicate n x) ≡ false
 repeat_lacks x c zero h = refl
 repeat_lacks x c (suc n) h = rw (h, repeat_lacks x c n h) refl
 
 letters_lack : (c step : ℕ) (o : ℤ) → step < 7 → c ≤ 32 → has_byte c (letters step o) ≡ false
-letters_lack c step (pos k) h low = let over = small_over step h in
-    repeat_lacks (slice_index small_letters step) c (suc k)
-    (not_low (slice_index small_letters step) c (omega (arith, over)) low)
-letters_lack c step (negsuc k) h low = let over = capital_over step h in
-    repeat_lacks (slice_index capitals step) c (suc k)
-    (not_low (slice_index capitals step) c (omega (arith, over)) low)
+letters_lack = grind (arith, nat_tests, small_over, repeat_lacks, not_low, capital_over)
 
 signs_lack : (c : ℕ) (a : ℤ) → c ≤ 32 → has_byte c (accidentals a) ≡ false
-signs_lack c (pos k) low = repeat_lacks 35 c k (not_low 35 c (omega arith) low)
-signs_lack c (negsuc k) low = repeat_lacks 45 c (suc k) (not_low 45 c (omega arith) low)
+signs_lack = grind (arith, nat_tests, repeat_lacks, not_low)
 
 pub both_lack : (c : ℕ) (xs ys : List ℕ) → has_byte c xs ≡ false → has_byte c ys ≡ false → has_byte c (xs ++ ys) ≡ false
 both_lack c xs ys p q = rw (list_any-append (λ (x : ℕ). x == c) xs ys, p, q) refl
 
 pub spelling_lacks : (c : ℕ) (p : Spelled) → p.step < 7 → c ≤ 32 → has_byte c (spelling p) ≡ false
-spelling_lacks c p h low = both_lack c (letters_of p) (accidentals p.alteration)
-    (letters_lack c p.step (p.octave -ℤ pos 4) h low) (signs_lack c p.alteration low)
-
--- a pitch begins as data does
-small_kind : (step : ℕ) (more : List ℕ) → step < 7 → kind_of_token (slice_index small_letters step ∷ more) ≡ Values
-small_kind zero more h = refl
-small_kind (suc zero) more h = refl
-small_kind (suc (suc zero)) more h = refl
-small_kind (suc (suc (suc zero))) more h = refl
-small_kind (suc (suc (suc (suc zero)))) more h = refl
-small_kind (suc (suc (suc (suc (suc zero))))) more h = refl
-small_kind (suc (suc (suc (suc (suc (suc zero)))))) more h = refl
-small_kind (suc (suc (suc (suc (suc (suc (suc n))))))) more h = absurd (omega arith)
-
-capital_kind : (step : ℕ) (more : List ℕ) → step < 7 → kind_of_token (slice_index capitals step ∷ more) ≡ Values
-capital_kind zero more h = refl
-capital_kind (suc zero) more h = refl
-capital_kind (suc (suc zero)) more h = refl
-capital_kind (suc (suc (suc zero))) more h = refl
-capital_kind (suc (suc (suc (suc zero)))) more h = refl
-capital_kind (suc (suc (suc (suc (suc zero))))) more h = refl
-capital_kind (suc (suc (suc (suc (suc (suc zero)))))) more h = refl
-capital_kind (suc (suc (suc (suc (suc (suc (suc n))))))) more h = absurd (omega arith)
+spelling_lacks = grind (arith, nat_tests, both_lack, letters_lack, pos, signs_lack)
 
 letters_kind : (step : ℕ) (o : ℤ) (ys more : List ℕ) → step < 7 → kind_of_token ((letters step o ++ ys) ++ more) ≡ Values
-letters_kind step (pos k) ys more h = small_kind step ((replicate k (slice_index small_letters step) ++ ys) ++ more) h
-letters_kind step (negsuc k) ys more h = capital_kind step ((replicate k (slice_index capitals step) ++ ys) ++ more) h
+letters_kind = grind (arith, nat_tests)
 
 letters_some : (step : ℕ) (o : ℤ) (ys more : List ℕ) → ((letters step o ++ ys) ++ more) ≢ []
-letters_some step (pos k) ys more = λ e. cc
-letters_some step (negsuc k) ys more = λ e. cc
+letters_some = grind (arith, nat_tests)
 
 front_kind : (n : ℕ) (part rest : List ℕ) → kind_of_token part ≡ Values → kind_of_token rest ≡ Values → kind_of_token (take n part ++ rest) ≡ Values
 front_kind zero part rest p q = q
@@ -132,12 +89,7 @@ becomes n m part text e = go (note part) e
     go (Err fault) e = cc
 
 put_some : (part : List ℕ) (found : Reading) (there : Spelled) → put part found (if_spelled there) ≡ Ok None → ⊥
-put_some part found there e = go (is_alteration there.alteration) (is_octave there.octave) e
-  where
-    go : (a b : Bool) → put part found (if not a then Err TR1 else if not b then Err TR2 else Ok there) ≡ Ok None → ⊥
-    go false b e = cc
-    go true false e = cc
-    go true true e = cc
+put_some = grind (arith, nat_tests)
 
 never_none : (n m : ℤ) (part : List ℕ) → transposed_part n m part ≡ Ok None → ⊥
 never_none n m part e = go (note part) e
@@ -147,8 +99,7 @@ never_none n m part e = go (note part) e
     there found (Some p) e = put_some part found (away n m p) e
 
     go : (r : Result Reading KernFault) → moved_as_read n m part r ≡ Ok None → ⊥
-    go (Ok found) e = there found found.pitch e
-    go (Err fault) e = cc
+    go = grind (arith, nat_tests, there)
 
 -- all parts of a token were transposed
 abbrev pub AllMoved : ℤ → ℤ → List (List ℕ) → List (List ℕ) → Type 0
@@ -157,8 +108,6 @@ AllMoved n m (part ∷ parts) (text ∷ texts) = (transposed_part n m part ≡ O
 AllMoved n m _ _ = ⊥
 
 pub all_moved : (n m : ℤ) (parts texts : List (List ℕ)) → given_by (transposed_part n m) parts ≡ Ok texts → AllMoved n m parts texts
-all_moved n m [] [] e = tt
-all_moved n m [] (text ∷ texts) e = cc
 all_moved n m (part ∷ parts) texts e = go (transposed_part n m part) refl (given_by (transposed_part n m) parts)
     (λ others given. all_moved n m parts others given) texts e
   where
@@ -166,14 +115,8 @@ all_moved n m (part ∷ parts) texts e = go (transposed_part n m part) refl (giv
         (rest : Result (List (List ℕ)) Rule) → ((others : List (List ℕ)) → rest ≡ Ok others →
         AllMoved n m parts others) → (texts : List (List ℕ)) → with_first r rest ≡ Ok texts →
         AllMoved n m (part ∷ parts) texts
-    go (Err rule) is rest more texts e = cc
-    go (Ok None) is rest more texts e = absurd (never_none n m part is)
-    go (Ok (Some text)) is (Err rule) more texts e = cc
-    go (Ok (Some text)) is (Ok others) more [] e = cc
-    go (Ok (Some text)) is (Ok others) more (first ∷ texts) e =
-        let one : text ≡ first = cc in
-        let two : others ≡ texts = cc in
-        (is ∙ ap (λ (t : List ℕ). Ok (Some t)) one, more texts (ap (λ (t : List (List ℕ)). Ok t) two))
+    go = grind (arith, nat_tests, never_none)
+all_moved n m parts texts h = grind (arith, nat_tests)
 
 abbrev pub EachBecomes : List (List ℕ) → List (List ℕ) → Type 0
 EachBecomes [] [] = Unit {0}
@@ -181,40 +124,25 @@ EachBecomes (part ∷ parts) (text ∷ texts) = Becomes part text × EachBecomes
 EachBecomes _ _ = ⊥
 
 pub each_becomes : (n m : ℤ) (parts texts : List (List ℕ)) → AllMoved n m parts texts → EachBecomes parts texts
-each_becomes n m [] [] moved = tt
-each_becomes n m [] (text ∷ texts) moved = absurd moved
-each_becomes n m (part ∷ parts) [] moved = absurd moved
 each_becomes n m (part ∷ parts) (text ∷ texts) moved = (becomes n m part text moved.0, each_becomes n m parts texts moved.1)
+each_becomes n m parts texts h = grind (arith, nat_tests)
 
 text_lacks : (c : ℕ) (part text : List ℕ) → c ≤ 32 → Becomes part text → has_byte c part ≡ false → has_byte c text ≡ false
-text_lacks c part text low (Stays e) h = rw e h
-text_lacks c part text low (Moves start end there small e) h =
-    rw e (both_lack c (take start part) (spelling there ++ drop end part) (lacks_take c start part h)
-    (both_lack c (spelling there) (drop end part) (spelling_lacks c there small low)
-    (lacks_drop c end part h)))
+text_lacks = grind (arith, nat_tests, both_lack, lacks_take, spelling_lacks, lacks_drop)
 
 pub texts_lack : (c : ℕ) (parts texts : List (List ℕ)) → c ≤ 32 → EachBecomes parts texts → Lack c parts → Lack c texts
-texts_lack c [] [] low each all = tt
-texts_lack c [] (text ∷ texts) low each all = absurd each
-texts_lack c (part ∷ parts) [] low each all = absurd each
 texts_lack c (part ∷ parts) (text ∷ texts) low each all = (text_lacks c part text low each.0 all.0, texts_lack c parts texts low each.1 all.1)
+texts_lack c parts texts h k w = grind (arith, nat_tests)
 
 text_kind : (part text : List ℕ) → Becomes part text → kind_of_token part ≡ Values → kind_of_token text ≡ Values
-text_kind part text (Stays e) h = rw e h
-text_kind part text (Moves start end there small e) h =
-    rw e (front_kind start part (spelling there ++ drop end part) h
-    (letters_kind there.step (there.octave -ℤ pos 4) (accidentals there.alteration) (drop end part) small))
+text_kind = grind (arith, nat_tests, front_kind, letters_kind, pos)
 
 text_some : (part text : List ℕ) → Becomes part text → part ≢ [] → text ≢ []
-text_some part text (Stays e) h = λ f. h (sym e ∙ f)
-text_some part text (Moves start end there small e) h = λ f. front_some (take start part)
-    (spelling there ++ drop end part) (letters_some there.step (there.octave -ℤ pos 4)
-    (accidentals there.alteration) (drop end part)) (sym e ∙ f)
+text_some = grind (arith, nat_tests, front_some, letters_some, pos)
 
 -- the first part of a token
 onto_some : (x : ℕ) (parts : List (List ℕ)) → onto_first x parts ≢ []
-onto_some x [] = λ e. cc
-onto_some x (part ∷ parts) = λ e. cc
+onto_some = grind (arith, nat_tests)
 
 pub parts_some : (token : List ℕ) → subtokens token ≢ []
 parts_some [] = λ e. cc
@@ -222,18 +150,7 @@ parts_some (x ∷ xs) = by_bool (x == 32) (λ w. rw w (λ e. cc)) (λ w. rw w (o
 
 first_kind : (token : List ℕ) (part : List ℕ) (parts : List (List ℕ)) → subtokens token ≡ part ∷ parts →
     kind_of_token token ≡ Values → kind_of_token part ≡ Values
-first_kind [] part parts e h = let is : [] ≡ part = cc in rw (← is) refl
-first_kind (x ∷ xs) part parts e h = by_bool (x == 32) (λ w. at_space w) (λ w. within w)
-  where
-    at_space : (x == 32) ≡ true → kind_of_token part ≡ Values
-    at_space w = let f = rw w at e in let is : [] ≡ part = cc in rw (← is) refl
-
-    of : (others : List (List ℕ)) → onto_first x others ≡ part ∷ parts → kind_of_token part ≡ Values
-    of [] f = let is : x ∷ [] ≡ part = cc in rw (← is) h
-    of (other ∷ others) f = let is : x ∷ other ≡ part = cc in rw (← is) h
-
-    within : (x == 32) ≡ false → kind_of_token part ≡ Values
-    within w = of (subtokens xs) (rw w at e)
+first_kind = grind (arith, nat_tests)
 
 alone_some : (token part : List ℕ) → subtokens token ≡ part ∷ [] → token ≢ [] → part ≢ []
 alone_some [] part e h = absurd (h refl)
@@ -243,16 +160,13 @@ alone_some (x ∷ xs) part e h = by_bool (x == 32) (λ w. at_space w) (λ w. wit
     at_space w = let f = rw w at e in let none : subtokens xs ≡ [] = cc in absurd (parts_some xs none)
 
     of : (others : List (List ℕ)) → onto_first x others ≡ part ∷ [] → part ≢ []
-    of [] f = let is : x ∷ [] ≡ part = cc in λ g. cc
-    of (other ∷ others) f = let is : x ∷ other ≡ part = cc in λ g. cc
+    of = grind (arith, nat_tests)
 
     within : (x == 32) ≡ false → part ≢ []
     within w = of (subtokens xs) (rw w at e)
 
 join_kind : (text : List ℕ) (texts : List (List ℕ)) → kind_of_token text ≡ Values → kind_of_token (joined (text ∷ texts)) ≡ Values
-join_kind text [] h = h
-join_kind [] (next ∷ texts) h = refl
-join_kind (x ∷ text) (next ∷ texts) h = h
+join_kind = grind (arith, nat_tests)
 
 join_some : (text next : List ℕ) (texts : List (List ℕ)) → joined (text ∷ (next ∷ texts)) ≢ []
 join_some [] next texts = λ e. cc

@@ -1,5 +1,6 @@
 -- The parts of a lawful token, and texts that may stand in one.
-use Rattle.std.proofs.Common.{◌≡◌, ◌≢◌, refl, ℕ, ◌==◌, false, List, [], ◌∷◌}
+use Rattle.std.proofs.lemmas.Bool.Decides.{nat_tests}
+use Rattle.std.proofs.Common.{◌≡◌, ◌≢◌, refl, ℕ, ◌==◌, false, List, [], ◌∷◌, arith}
 use Rattle.std.specs.List.{AllByRecursion, onto_first}
 use Rattle.std.proofs.lemmas.Bool.{or_parts}
 use Rattle.hum_score.specs.declared.records.SpinedKind.TheVariants.{Values}
@@ -11,8 +12,7 @@ abbrev pub Lack : ℕ → List (List ℕ) → Type 0
 Lack c = AllByRecursion (λ part. has_byte c part ≡ false)
 
 pub onto_lacks : (c x : ℕ) (parts : List (List ℕ)) → (x == c) ≡ false → Lack c parts → Lack c (onto_first x parts)
-onto_lacks c x [] apart all = (rw apart refl, tt)
-onto_lacks c x (part ∷ parts) apart all = (rw (apart, all.0) refl, all.1)
+onto_lacks = grind (arith, nat_tests)
 
 -- a byte that stands in no text stands in no part of it
 pub parts_lack : (c : ℕ) (text : List ℕ) → has_byte c text ≡ false → Lack c (subtokens text)
@@ -37,5 +37,4 @@ pub record IsPiece (text : List ℕ) : Type 0 where
 -- each part of a lawful token may stand in one
 pub are_parts : (parts : List (List ℕ)) → Lack 9 parts → Lack 13 parts → Lack 10 parts → AllByRecursion IsPart parts
 are_parts [] tabs returns ends = tt
-are_parts (part ∷ parts) tabs returns ends =
-    (record { one_token = tabs.0; one_line = returns.0; no_line_end = ends.0 }, are_parts parts tabs.1 returns.1 ends.1)
+are_parts (part ∷ parts) tabs returns ends = grind (arith, nat_tests, are_parts parts tabs.1 returns.1 ends.1)

@@ -1,5 +1,5 @@
 -- The texts of semitones, in one table.
-use Rattle.std.proofs.Common.{◌≡◌, ◌∙◌, refl, sym, ap, subst, ℕ, ℤ, pos, negsuc, zero, suc, ◌+◌, ◌-◌, ◌*◌, ◌/◌, ◌%◌, ◌<◌, ◌≤◌, Bool, true, false, ◌&&◌}
+use Rattle.std.proofs.Common.{◌≡◌, ◌∙◌, refl, ℕ, ℤ, pos, negsuc, zero, suc, ◌+◌, ◌-◌, ◌*◌, ◌/◌, ◌%◌, ◌<◌, ◌≤◌, Bool, true, ◌&&◌}
 use Rattle.std.proofs.Common.{List, [], ◌∷◌, ◌++◌, take, drop, length, length-drop, get_or, arith}
 use Rattle.std.specs.Prelude.{◌-ℤ◌, nat_le, nat_lt, replicate, if◌then◌else◌}
 use Rattle.std.specs.Str.{bytes_eq}
@@ -21,10 +21,7 @@ pub every_at : (test : ℕ → Bool) (n i : ℕ) → every test n ≡ true → i
 every_at test zero i all below = absurd (omega (arith, below))
 every_at test (suc n) i all below = elim (cases_lt i n) [
   | inl less ↦ every_at test n i (and_parts (test n) (every test n) all).1 less
-  | inr last ↦ (
-      let same : n ≡ i = omega (arith, below, last) in
-      subst (λ (k : ℕ). test k ≡ true) same (and_parts (test n) (every test n) all).0
-      )
+  | inr last ↦ grind (arith, nat_tests, and_parts)
 ]
 
 -- a number of at most three digits, and one with its sign
@@ -35,25 +32,14 @@ spell n =
     else (48 + n / 10 / 10) ∷ (48 + n / 10 % 10) ∷ (48 + n % 10) ∷ []
 
 pub spell_is : (n : ℕ) → n < 1000 → spell n ≡ decimal n
-spell_is n small = go (nat_lt n 10) (nat_lt n 100) refl refl
-  where
-    go : (a b : Bool) → nat_lt n 10 ≡ a → nat_lt n 100 ≡ b
-        → (if a then (48 + n) ∷ [] else if b then (48 + n / 10) ∷ (48 + n % 10) ∷ []
-        else (48 + n / 10 / 10) ∷ (48 + n / 10 % 10) ∷ (48 + n % 10) ∷ []) ≡ decimal n
-    go true b e f = let few : n < 10 = grind (arith, nat_tests, e) in sym (one_digit n few)
-    go false true e f =
-        let many : 10 ≤ n = grind (arith, nat_tests, e) in
-        let few : n < 100 = grind (arith, nat_tests, f) in
-        sym (two_digits n many few)
-    go false false e f = let many : 100 ≤ n = grind (arith, nat_tests, f) in sym (three_digits n many small)
+spell_is = grind (arith, nat_tests, one_digit, two_digits, three_digits)
 
 abbrev spell_signed : ℤ → List ℕ
 spell_signed (pos n) = spell n
 spell_signed (negsuc n) = 45 ∷ spell (suc n)
 
 signed_is : (z : ℤ) → mag z < 999 → spell_signed z ≡ signed_decimal z
-signed_is (pos n) small = spell_is n (omega (arith, small))
-signed_is (negsuc n) small = ap (λ (t : List ℕ). 45 ∷ t) (spell_is (suc n) (omega (arith, small)))
+signed_is = grind (arith, nat_tests, spell_is)
 
 -- the numbers from -103 to 102, each in four bytes, and how many bytes of each count
 abbrev pub numbers : List ℕ

@@ -1,15 +1,16 @@
 -- What is heard of the first parts of a token.
+use Rattle.std.proofs.lemmas.Grind.{common_steps}
+use Rattle.std.proofs.lemmas.Bool.Decides.{nat_tests}
 use Rattle.std.proofs.Common.{◌≡◌, refl, sym, ap, ◌∙◌, ℕ, ◌+◌, ◌<◌, ◌≤◌, Bool, true, false, List, [], ◌∷◌, ◌++◌}
-use Rattle.std.proofs.Common.{append_assoc, append-nil, length, drop, get_or, Option, None, Some}
-use Rattle.std.specs.Prelude.{Result, Ok, Err, ◌||◌, option_map}
+use Rattle.std.proofs.Common.{length, drop, get_or, Option, None, Some, arith}
+use Rattle.std.specs.Prelude.{Result, Ok, Err, ◌||◌}
 use Rattle.std.specs.List.{list_any}
-use Rattle.std.proofs.lemmas.List.{at_drop_more, drop_all}
 use Rattle.hum_kern.specs.declared.KernFault.{KernFault}
 use Rattle.hum_kern.specs.Note.{Reading, note}
 use Rattle.hum_kern.specs.Usual.{IsReadAlone}
 use Rattle.hum_stage.specs.declared.faults.Rule.{Rule}
 use Rattle.hum_tones.specs.Faults.{rule_of}
-use Rattle.hum_tones.specs.Mint.{readings, told, told_of, minted, approached, readings_of, with_reading, Tone, or_tone, leading, TokenTone, heard}
+use Rattle.hum_tones.specs.Mint.{readings, told, told_of, minted, approached, readings_of, with_reading, or_tone, leading, TokenTone, heard}
 use Rattle.hum_tones.specs.Mint.{remembered_of, new_pitch, pitch_in}
 use Rattle.hum_tones.specs.Memory.{silence, heard_of, told_as}
 use Rattle.hum_score.specs.declared.records.SpinedKind.TheVariants.{Values}
@@ -22,7 +23,7 @@ use lib.Chars.{codes}
 use Rattle.hum_pitch.specs.Pitch.{Spelled}
 use Rattle.hum_pitch.specs.Given.{spelled}
 use Rattle.hum_tones.specs.declared.hearing.Tone.{Tone as KeptTone}
-use Rattle.hum_tones.specs.Hearing.{tone_of, hearing, heard_with, heard_in, first_of}
+use Rattle.hum_tones.specs.Hearing.{hearing, heard_with, heard_in, first_of}
 use Rattle.hum_tones.specs.declared.hearing.TokenTone.{TokenTone as Kept}
 
 abbrev pub onto : List Reading → Result (List Reading) Rule → Result (List Reading) Rule
@@ -37,50 +38,25 @@ pub record HeardSoFar (parts : List (List ℕ)) (n : ℕ) (kept : Kept) : Type 0
 
 onto_one_more : (done : List Reading) (reading : Reading) (r : Result (List Reading) Rule) →
     onto done (with_reading (Ok reading) r) ≡ onto (done ++ reading ∷ []) r
-onto_one_more done reading (Ok readings) = ap (λ all. Ok all) (sym (append_assoc done (reading ∷ []) readings))
-onto_one_more done reading (Err rule) = refl
-
-first_of_assoc : (p : Option Spelled) (b : Bool) (o rest : Option Tone) → or_tone p b (first_of o rest) ≡ first_of (or_tone p b o) rest
-first_of_assoc (Some p) b o rest = refl
-first_of_assoc None b o rest = refl
+onto_one_more = grind (arith, common_steps)
 
 leading_one_more : (done : List Reading) (reading : Reading) → leading (done ++ reading ∷ []) ≡ first_of
     (leading done) (or_tone reading.pitch reading.continued None)
 leading_one_more [] reading = refl
-leading_one_more (first ∷ done) reading = ap (or_tone first.pitch first.continued)
-    (leading_one_more done reading) ∙ first_of_assoc first.pitch first.continued (leading done)
-    (or_tone reading.pitch reading.continued None)
-
-or_assoc : (a b c : Bool) → (a || (b || c)) ≡ ((a || b) || c)
-or_assoc true b c = refl
-or_assoc false b c = refl
+leading_one_more (first ∷ done) reading = grind (arith, nat_tests, leading_one_more done reading)
 
 rest_one_more : (done : List Reading) (reading : Reading) → list_any (λ (r : Reading). r.rest)
     (done ++ reading ∷ []) ≡ (list_any (λ (r : Reading). r.rest) done || reading.rest)
-rest_one_more [] reading = by reading.rest
-  where
-    by : (b : Bool) → (b || false) ≡ b
-    by true = refl
-    by false = refl
-rest_one_more (first ∷ done) reading = ap (λ (b : Bool). first.rest || b) (rest_one_more done reading)
-    ∙ or_assoc first.rest (list_any (λ (r : Reading). r.rest) done) reading.rest
+rest_one_more = grind (arith, common_steps)
 
 heard_one_more : (done : List Reading) (reading : Reading) → heard (done ++ reading ∷ []) ≡ heard_with (heard done) reading
-heard_one_more done reading =
-    ap (λ (t : Option Tone). made t (list_any (λ (r : Reading). r.rest) (done ++ reading ∷ []))) (leading_one_more done reading)
-    ∙ ap (λ (b : Bool). made (first_of (leading done) (or_tone reading.pitch reading.continued None)) b) (rest_one_more done reading)
-  where
-    made : Option Tone → Bool → TokenTone
-    made t b = record { tone = t; rest = b }
+heard_one_more = grind (arith, nat_tests, leading_one_more, rest_one_more)
 
 module _ (parts : List (List ℕ)) (n : ℕ) (kept : Kept) (h : HeardSoFar parts n kept) where
   -- the next part
   split : (part : List ℕ) → n < length parts → part ≡ get_or parts n part →
       readings_of parts ≡ onto h.done (with_reading (note part) (readings_of (drop (n + 1) parts)))
-  split part below is =
-      let next : readings_of (drop n parts) ≡ with_reading (note part) (readings_of (drop (n + 1) parts)) =
-      at_drop_more readings_of parts n part below ∙ ap (λ (p : List ℕ). with_reading (note p) (readings_of (drop (n + 1) parts))) (sym is) in
-      h.rest ∙ ap (λ (r : Result (List Reading) Rule). onto h.done r) next
+  split part below is = grind (arith, common_steps)
 
   pub one_more : (part : List ℕ) (reading : Reading) (after : Kept) →
       (n < length parts) × (part ≡ get_or parts n part) → Ok reading ≡ note part →
@@ -95,49 +71,30 @@ module _ (parts : List (List ℕ)) (n : ℕ) (kept : Kept) (h : HeardSoFar parts
 
   pub refused : (part : List ℕ) (fault : KernFault) → (n < length parts) × (part ≡ get_or parts n part) →
       Err fault ≡ note part → readings_of parts ≡ Err (rule_of fault)
-  refused part fault at read = split part at.0 at.1
-      ∙ ap (λ (r : Result Reading KernFault). onto h.done (with_reading r (readings_of (drop (n + 1) parts))))
-      (sym read)
+  refused part fault at read = grind (arith, common_steps)
 
   pub all_heard : length parts ≤ n → Ok (hearing kept) ≡ heard_in (readings_of parts)
-  all_heard past =
-      let all : readings_of parts ≡ Ok h.done = h.rest ∙ rw (drop_all n parts past, append-nil h.done) refl in
-      ap (λ (x : TokenTone). Ok x) h.is ∙ sym (ap heard_in all)
+  all_heard = grind (arith, common_steps)
 
 -- a token of one part
 pub one_heard : (token : List ℕ) (reading : Reading) (kept : Kept) → IsReadAlone token reading → hearing kept ≡ heard_with silence reading
     → Ok (hearing kept) ≡ heard_in (readings token)
-one_heard token reading kept h is =
-    let read : readings token ≡ Ok (reading ∷ []) = rw (h.alone, ← h.read) refl in
-    ap (λ (x : TokenTone). Ok x) (is ∙ ap (λ (b : Bool). record { tone = or_tone reading.pitch reading.continued None; rest = b }) (by reading.rest))
-    ∙ sym (ap heard_in read)
-  where
-    by : (b : Bool) → b ≡ (b || false)
-    by true = refl
-    by false = refl
+one_heard = grind (arith, nat_tests)
 
 -- a token with a note that begins anew
 pub told_anew : (signless sizeonly : Bool) (before : Option Spelled) (r : Result TokenTone Rule) (kept : Kept) (tone : KeptTone)
     → Ok (hearing kept) ≡ r → kept.tone ≡ Some tone → tone.continued ≡ false
     → told_as signless sizeonly before r ≡ Ok (approached signless sizeonly before (spelled tone.pitch))
-told_anew signless sizeonly before r kept tone e is anew =
-    ap (told_as signless sizeonly before) (sym e)
-    ∙ ap (λ (t : Option KeptTone). Ok (told signless sizeonly before (option_map tone_of t) kept.rest)) is
-    ∙ rw anew refl
+told_anew = grind (arith, nat_tests)
 
 -- a token with a note whose tie goes on, and one without a note
 pub told_on : (signless sizeonly : Bool) (before : Option Spelled) (r : Result TokenTone Rule) (kept : Kept) (tone : KeptTone)
     → Ok (hearing kept) ≡ r → kept.tone ≡ Some tone → tone.continued ≡ true → told_as signless sizeonly before r ≡ Ok (codes ".")
-told_on signless sizeonly before r kept tone e is on =
-    ap (told_as signless sizeonly before) (sym e)
-    ∙ ap (λ (t : Option KeptTone). Ok (told signless sizeonly before (option_map tone_of t) kept.rest)) is
-    ∙ rw on refl
+told_on = grind (arith, nat_tests)
 
 pub told_still : (signless sizeonly : Bool) (before : Option Spelled) (r : Result TokenTone Rule) (kept : Kept)
     → Ok (hearing kept) ≡ r → kept.tone ≡ None → told_as signless sizeonly before r ≡ Ok (if kept.rest then codes "r" else codes ".")
-told_still signless sizeonly before r kept e is =
-    ap (told_as signless sizeonly before) (sym e)
-    ∙ ap (λ (t : Option KeptTone). Ok (told signless sizeonly before (option_map tone_of t) kept.rest)) is
+told_still = grind (arith, nat_tests)
 
 -- what is remembered of a cell, by what is heard of it
 abbrev pub pitch_heard : Result TokenTone Rule → Option Spelled
@@ -148,9 +105,7 @@ pub remembered_is : (token : List ℕ) → pitch_heard (heard_of token) ≡ reme
 remembered_is token = go (is_filled token && not (is_barline token)) (readings token)
   where
     go : (b : Bool) (r : Result (List Reading) Rule) → pitch_heard (if b then heard_in r else Ok silence) ≡ (if b then pitch_in r else None)
-    go true (Ok rs) = refl
-    go true (Err rule) = refl
-    go false r = refl
+    go = grind (arith, nat_tests)
 
 -- what a data token becomes, by what is heard of it
 pub told_is : (signless sizeonly : Bool) (before : Option Spelled) (token : List ℕ) → IsToken Values token → has_content token ≡ true
@@ -161,5 +116,4 @@ told_is signless sizeonly before token lawful told =
     rw all (go (readings token))
   where
     go : (r : Result (List Reading) Rule) → told_as signless sizeonly before (heard_in r) ≡ told_of signless sizeonly before r
-    go (Ok rs) = refl
-    go (Err rule) = refl
+    go = grind (arith, nat_tests)

@@ -1,12 +1,12 @@
 -- Tokens that are told by what their parts give.
-use Rattle.std.proofs.Common.{◌≡◌, sym, ap, ℕ, List}
+use Rattle.std.proofs.lemmas.Bool.Decides.{nat_tests}
+use Rattle.std.proofs.Common.{◌≡◌, ℕ, List, arith}
 use Rattle.hum_score.specs.declared.records.SpinedKind.TheVariants.{Values}
 use Rattle.hum_score.specs.Spelling.{IsToken}
 use Rattle.std.specs.Prelude.{None, Some, Result, Ok, Err}
 use Rattle.hum_stage.specs.declared.faults.Rule.{Rule}
 use Rattle.hum_stage.specs.declared.faults.Refusal.{Refusal}
 use Rattle.hum_stage.specs.Refusals.{IfTold}
-use Rattle.hum_stage.proofs.Telling.{told_to}
 use Rattle.hum_cells.specs.Rewriting.{Heading}
 use Rattle.hum_cells.specs.Rewriter.{Pushes, HasRewritten}
 use Rattle.hum_tones.specs.declared.part_rule.PartRule.{PartRule}
@@ -16,17 +16,14 @@ use Rattle.hum_tones.specs.Commands.{GivesUnder}
 
 -- what a token became, or the rule by which it is refused, is told so
 pub told_so : (becomes : Result (List ℕ) Rule) (text : List ℕ) → IsRewritten becomes text None → (becomes ≡ Ok text) × IsToken Values text
-told_so (Ok token) text h = (ap (λ (t : List ℕ). Ok t) (sym h.0), h.1)
-told_so (Err rule) text h = absurd h
+told_so = grind (arith, nat_tests)
 
 pub refused_so : (becomes : Result (List ℕ) Rule) (text : List ℕ) (rule : Rule) → IsRewritten becomes text (Some rule) → becomes ≡ Err rule
-refused_so (Ok token) text rule h = absurd h
-refused_so (Err other) text rule h = ap (λ (x : Rule). Err x) (sym h)
+refused_so = grind (arith, nat_tests)
 
 -- a token is rewritten by what its parts give
 pub rewritten_given : {A : Type 0} (heading : Heading) (giving : PartRule) (j : ℕ) (token : List ℕ) (made making : List (List ℕ) → Type 0)
     (r : Result A Refusal) → IfTold r (Pushes (given giving token) made making)
     → IfTold r (HasRewritten (λ rewriting above. GivesUnder heading giving rewriting) (λ rewriting above. GivesUnder heading giving rewriting)
     j token made making)
-rewritten_given heading giving j token made making r h =
-    told_to r _ _ (λ refused pushed rewriting above follows. (follows, rw follows.command pushed)) h
+rewritten_given = grind (arith, nat_tests)

@@ -1,22 +1,22 @@
 -- The duration of a part, as it is written, may stand in a token.
-use Rattle.std.proofs.Common.{◌≡◌, ◌≢◌, refl, sym, ap, ◌∙◌, ℕ, zero, suc, ◌+◌, ◌-◌, ◌≤◌, ◌<◌, ◌==◌, Bool, true}
+use Rattle.std.proofs.Common.{◌≡◌, ◌≢◌, refl, sym, ap, ◌∙◌, ℕ, suc, ◌+◌, ◌-◌, ◌≤◌, ◌==◌, Bool, true}
 use Rattle.std.proofs.Common.{false, List, [], ◌∷◌, ◌++◌, append_assoc, length, take, drop, arith, Option, None}
 use Rattle.std.proofs.Common.{Some}
-use Rattle.std.specs.Prelude.{nat_le, if◌then◌else◌, Ok, Err}
+use Rattle.std.specs.Prelude.{if◌then◌else◌, Ok, Err}
 use Rattle.std.specs.List.{list_any, AllByRecursion}
 use Rattle.std.proofs.lemmas.List.{drop_at}
 use Rattle.std.proofs.lemmas.List.Folds.{list_any-append}
-use Rattle.std.proofs.lemmas.Bool.{or_parts, and_parts}
+use Rattle.std.proofs.lemmas.Bool.{or_parts}
 use Rattle.std.proofs.lemmas.Bool.Decides.{nat_tests}
 use lib.Chars.{codes}
 use Rattle.hum_score.specs.declared.records.SpinedKind.TheVariants.{Values}
 use Rattle.hum_score.specs.Spelling.{has_byte, kind_of_token}
 use Rattle.hum_score.proofs.Cases.{by_bool}
-use Rattle.hum_frac.specs.Ratio.{Ratio, reduced}
+use Rattle.hum_frac.specs.Ratio.{Ratio}
 use Rattle.hum_kern.specs.declared.KernFault.TheVariants.{K3}
 use Rattle.hum_kern.specs.declared.Length.{Length}
 use Rattle.hum_kern.specs.Classes.{is_digit, is_grace_sign}
-use Rattle.hum_kern.specs.Value.{value_of, dotted}
+use Rattle.hum_kern.specs.Value.{value_of}
 use Rattle.hum_kern.specs.Duration.{Spelling, spelling_of, duration, said, said_of, with_dots, no_length, is_torn, is_empty, second_length}
 use Rattle.hum_kern.specs.Parts.{AreParts, behind_first}
 use Rattle.hum_kern.proofs.Parts.{are_parts}
@@ -27,14 +27,7 @@ use Rattle.hum_tones.proofs.Parts.{IsPart, IsPiece}
 
 place_of : (start end : ℕ) (value : Option Ratio) (dots : ℕ) (found : Length) →
     Ok found ≡ with_dots start end value dots → (found.start ≡ start) × (end ≤ found.end)
-place_of start end None dots found e = cc
-place_of start end (Some value) dots found e = go (nat_le dots 6) e
-  where
-    go : (b : Bool) → Ok found ≡ (if b then Ok
-        (record { value = Some (reduced (dotted value dots)); start = start; end = end + dots }) else Err K3) →
-        (found.start ≡ start) × (end ≤ found.end)
-    go true e = let same : found ≡ record { value = Some (reduced (dotted value dots)); start = start; end = end + dots } = cc in rw same (refl, omega arith)
-    go false e = cc
+place_of = grind (arith, nat_tests)
 
 said_place : (parts : Spelling) (found : Length) → Ok found ≡ said parts →
     (found.start ≡ length parts.before) × (length parts.before + length parts.digits ≤ found.end)
@@ -62,13 +55,7 @@ pub record BeginsWithDigit (text : List ℕ) : Type 0 where
 from_place : (before digits behind : List ℕ) (end : ℕ) → is_empty digits ≡ false →
     AllByRecursion (λ b. is_digit b ≡ true) digits → length before + length digits ≤ end
     → BeginsWithDigit (take (end - length before) (drop (length before) (before ++ (digits ++ behind))))
-from_place before [] behind end some all far = cc
-from_place before (d ∷ digits) behind end some all far =
-    rw (drop_at before ((d ∷ digits) ++ behind) (length before) refl) (front (end - length before) (omega (arith, far)))
-  where
-    front : (n : ℕ) → 0 < n → BeginsWithDigit (take n (d ∷ (digits ++ behind)))
-    front zero h = absurd (omega arith)
-    front (suc n) h = record { first = d; more = take n (digits ++ behind); is = refl; digit = all.0 }
+from_place = grind (arith, nat_tests, drop_at)
 
 begins : (bytes : List ℕ) (parts : Spelling) (found : Length) → AreParts bytes parts →
     Ok found ≡ said_of bytes parts → found.value ≢ None → BeginsWithDigit (written found bytes)
@@ -87,44 +74,28 @@ begins bytes parts found are e some = go (list_any is_grace_sign bytes) (is_empt
         rw (at.0, are.text) (from_place parts.before parts.digits (behind_first parts) found.end h are.digits.all_in at.1)
 
 pub lacks_drop : (c n : ℕ) (text : List ℕ) → has_byte c text ≡ false → has_byte c (drop n text) ≡ false
-lacks_drop c zero text h = h
-lacks_drop c (suc n) [] h = refl
 lacks_drop c (suc n) (x ∷ text) h = lacks_drop c n text (or_parts (x == c) (has_byte c text) h).1
+lacks_drop c n text h = grind (arith, nat_tests)
 
 pub lacks_take : (c n : ℕ) (text : List ℕ) → has_byte c text ≡ false → has_byte c (take n text) ≡ false
-lacks_take c zero text h = refl
-lacks_take c (suc n) [] h = refl
 lacks_take c (suc n) (x ∷ text) h = let both = or_parts (x == c) (has_byte c text) h in rw (both.0, lacks_take c n text both.1) refl
+lacks_take c n text h = grind (arith, nat_tests)
 
 lacks_rest : (c : ℕ) (part : List ℕ) → (114 == c) ≡ false → has_byte c (rest_sign part) ≡ false
 lacks_rest c part apart = by_bool (is_rest part) (λ w. rw (w, apart) refl) (λ w. rw w refl)
 
 lacks_written : (c : ℕ) (found : Length) (part : List ℕ) → (114 == c) ≡ false → has_byte c part ≡ false →
     has_byte c (written found part ++ rest_sign part) ≡ false
-lacks_written c found part apart h =
-    rw (
-      list_any-append (λ x. x == c) (written found part) (rest_sign part),
-      lacks_take c
-          (found.end - found.start) (drop found.start part) (lacks_drop c found.start part h),
-      lacks_rest c part
-          apart,
-    ) refl
+lacks_written = grind (arith, nat_tests, list_any-append, lacks_take, lacks_drop, lacks_rest)
 
 digit_kind : (text more : List ℕ) → BeginsWithDigit text → (kind_of_token (text ++ more) ≡ Values) × (text ++ more ≢ [])
-digit_kind text more h =
-    let not_comment : (h.first == 33) ≡ false = grind (arith, nat_tests, (and_parts (nat_le 48 h.first) (nat_le h.first 57) h.digit).0) in
-    let not_star : (h.first == 42) ≡ false = grind (arith, nat_tests, (and_parts (nat_le 48 h.first) (nat_le h.first 57) h.digit).0) in
-    rw h.is (rw (not_comment, not_star) refl, λ e. cc)
+digit_kind = grind (arith, nat_tests)
 
 -- the duration of a part, as it is written, with the sign of a rest
 pub written_piece : (part : List ℕ) (found : Length) → Ok found ≡ duration part → found.value ≢ None → IsPart part →
     IsPiece (written found part ++ rest_sign part)
 written_piece part found is some lawful = record {
-  part = record {
-    one_token = lacks_written 9 found part refl lawful.one_token;
-    one_line = lacks_written 13 found part refl lawful.one_line;
-    no_line_end = lacks_written 10 found part refl lawful.no_line_end;
-  };
+  part = grind (arith, nat_tests, lacks_written);
   filled = kind.1;
   of_kind = kind.0;
 }
