@@ -6,4 +6,3 @@ pub mod Agreed
 pub mod Said
 pub mod Quiet
 pub mod Trees
-mod Copying
