@@ -1,10 +1,11 @@
 -- Numbers and their digits.
-use Rattle.std.proofs.Common.{◌≡◌, ◌<◌, ◌≤◌, ◌+◌, ◌-◌, ◌*◌, ◌^◌, ◌==◌, ◌&&◌, refl, ap, sym, ◌∙◌, ℕ, zero, suc, true}
+use Rattle.std.proofs.lemmas.Grind.{common_steps}
+use Rattle.std.proofs.Common.{◌≡◌, ◌<◌, ◌≤◌, ◌+◌, ◌-◌, ◌*◌, ◌^◌, ◌==◌, ◌&&◌, refl, ap, sym, ◌∙◌, ℕ, suc, true}
 use Rattle.std.proofs.Common.{false, List, [], ◌∷◌, ◌++◌, length, drop, drop-cons, get_or, arith, None, Some, Option}
 use Rattle.std.specs.Prelude.{nat_le, decimal}
 use Rattle.std.specs.Str.{all_ascii_digits}
 use Rattle.std.specs.Char.{is_ascii_digit}
-use Rattle.std.proofs.lemmas.Bool.{and_parts, and_right, leb-true, le-leb, lt-leb, ne_eqb, or_from, or_parts}
+use Rattle.std.proofs.lemmas.Bool.{and_parts, and_right, leb-true, le-leb, lt-leb, ne_eqb, or_from}
 use Rattle.std.proofs.lemmas.Bool.Decides.{nat_tests}
 use Rattle.std.proofs.lemmas.Fmt.{decimal_digit, decimal_nonempty, first_decimal, digits_decimal}
 use Rattle.std.proofs.lemmas.Fmt.{digits_value-decimal, decimal-digits_value}
@@ -19,28 +20,17 @@ use Rattle.hum_options.proofs.Choices.{chosen}
 pub goes_over : (most n : ℕ) (text : List ℕ) (i : ℕ) → i < length text
     → number_from n (drop i text) ≡ number_from 0 text → most < 10 * n + (get_or text i 0 - 48)
     → None ≡ digits_of most text
-goes_over most n text i within is over =
-    let next : drop i text ≡ get_or text i 0 ∷ drop (suc i) text = drop-cons text i 0 within in
-    let more = number_from-le (10 * n + (get_or text i 0 - 48)) (drop (suc i) text) in
-    let same : number_from n (get_or text i 0 ∷ drop (suc i) text) ≡ number_from 0 text = rw next at is in
-    rw (and_right (all_ascii_digits text) _ (lt-leb (number_from 0 text) most (omega (arith, over, more, same)))) refl
+goes_over = grind (arith, nat_tests, get_or, drop-cons, number_from-le, and_right, lt-leb)
 
 record IsPlain (text : List ℕ) : Type 0 where
   filled : 0 < length text
   first : get_or text 0 0 ≡ 48 → length text ≡ 1
 
 plain_is : (text : List ℕ) → is_plain text ≡ true → IsPlain text
-plain_is [] e = cc
-plain_is (b ∷ []) e = record { filled = omega arith; first = λ _. refl }
-plain_is (b ∷ c ∷ text) e = record { filled = omega arith; first = λ zero_first. absurd (refused zero_first) }
-  where
-    refused : b ≡ 48 → ⊥
-    refused is = let test : (b == 48) ≡ true = grind (arith, nat_tests, is) in let f : false ≡ true = rw test at e in cc
+plain_is = grind (arith, nat_tests)
 
 plain_from : (text : List ℕ) → 0 < length text → 48 < get_or text 0 0 → is_plain text ≡ true
-plain_from [] filled above = absurd (omega (arith, filled))
-plain_from (b ∷ text) filled above =
-    let other : (b == 48) ≡ false = grind (arith, nat_tests, above) in rw other refl
+plain_from = grind (arith, nat_tests)
 
 -- what is read is the number's digits
 pub number_is : {most : ℕ} {text : List ℕ} {n : ℕ} → most < 2 ^ 64 → number_of most text ≡ Some n → IsNumber most text n
@@ -59,9 +49,7 @@ number_is {most} {text} {n} small e =
     }
 
 decimal_plain : (n : ℕ) → n < 2 ^ 64 → is_plain (decimal n) ≡ true
-decimal_plain zero small = rw (decimal_digit 0 (omega arith)) refl
-decimal_plain (suc n) small = plain_from (decimal (suc n)) (decimal_nonempty (suc n) small)
-    (first_decimal (suc n) (omega arith) small)
+decimal_plain = grind (arith, nat_tests, decimal_digit, plain_from, decimal_nonempty, first_decimal)
 
 module _ {most : ℕ} {text : List ℕ} {n : ℕ} (small : most < 2 ^ 64) (h : IsNumber most text n) where
   fits : n < 2 ^ 64
@@ -69,23 +57,15 @@ module _ {most : ℕ} {text : List ℕ} {n : ℕ} (small : most < 2 ^ 64) (h : I
 
   -- the digits of a number are read as it
   pub number_alone : number_of most text ≡ Some n
-  number_alone = rw (
-    h.digits,
-    decimal_plain n fits,
-    digits_decimal own n fits,
-    digits_value-decimal own n fits,
-    le-leb n most h.within,
-  ) refl
+  number_alone =
+      grind (arith, nat_tests, decimal_plain, fits, digits_decimal, own, digits_value-decimal, le-leb)
 
   pub number_digits : all_ascii_digits text ≡ true
   number_digits = rw h.digits (digits_decimal own n fits)
 
 -- a digit is no byte below `0`
 pub other_byte : (byte b : ℕ) (bytes : List ℕ) → byte < 48 → all_ascii_digits (b ∷ bytes) ≡ true → (b == byte) ≡ false
-other_byte byte b bytes low all =
-    let tests = and_parts (is_ascii_digit b) (all_ascii_digits bytes) all in
-    let digit : 48 ≤ b = grind (arith, nat_tests, tests.0) in
-    grind (arith, nat_tests, digit, low)
+other_byte = grind (arith, nat_tests)
 
 -- none of its bytes is below `0`
 pub digits_lack : (byte : ℕ) (text : List ℕ) → byte < 48 → all_ascii_digits text ≡ true → has_byte byte text ≡ false
@@ -103,22 +83,17 @@ pub positive_is : {most : ℕ} {text : List ℕ} {n : ℕ} → most < 2 ^ 64 →
 positive_is {most} {text} {n} small e = by_number (number_of most text) refl e
   where
     by_number : (o : Option ℕ) → number_of most text ≡ o → above_zero o ≡ Some n → IsPositive most text n
-    by_number None was e = cc
-    by_number (Some zero) was e = cc
     by_number (Some (suc m)) was e =
         let other : (suc m == 0) ≡ false = grind (arith, nat_tests) in
         let told : Some (suc m) ≡ Some n = rw other at e in
         let same : suc m ≡ n = cc in
         record { number = number_is small (was ∙ told); above = omega (arith, same) }
+    by_number o h k = grind (arith, nat_tests)
 
 pub positive_alone : {most : ℕ} {text : List ℕ} {n : ℕ} → most < 2 ^ 64 → IsPositive most text n
     → positive_of most text ≡ Some n
-positive_alone {n = n} small h =
-    rw (number_alone small h.number, ne_eqb n 0 (λ none. omega (arith, none, h.above))) refl
+positive_alone = grind (arith, nat_tests, number_alone, ne_eqb)
 
 pub joined_lack : (byte : ℕ) (xs ys : List ℕ) → has_byte byte xs ≡ false → has_byte byte ys ≡ false
     → has_byte byte (xs ++ ys) ≡ false
-joined_lack byte [] ys none none_behind = none_behind
-joined_lack byte (x ∷ xs) ys none none_behind =
-    let each = or_parts (x == byte) (has_byte byte xs) none in
-    or_from (x == byte) (has_byte byte (xs ++ ys)) each.0 (joined_lack byte xs ys each.1 none_behind)
+joined_lack = grind (arith, common_steps)

@@ -1,5 +1,6 @@
 -- Fields, as an item of a list names them.
-use Rattle.std.proofs.Common.{◌≡◌, ◌<◌, refl, ◌∙◌, ℕ, true, false}
+use Rattle.std.proofs.lemmas.Bool.Decides.{nat_tests}
+use Rattle.std.proofs.Common.{◌≡◌, ◌<◌, refl, ◌∙◌, ℕ, true, false, arith}
 use Rattle.std.proofs.Common.{List, [], ◌∷◌, ◌++◌, None, Some, Option, lit<}
 use Rattle.std.specs.Prelude.{nat_le}
 use Rattle.std.specs.Str.{all_ascii_digits, bytes_eq}
@@ -76,22 +77,15 @@ count_lacks : {text : List ℕ} {n : ℕ} (byte : ℕ) → byte < 48 → IsCount
 count_lacks byte low h = number_lacks byte (lit< tt) low h.number
 
 at_dash : (a b : List ℕ) (m : ℕ) → IsCount a m → fields_of (a ++ (codes "-" ++ b)) ≡ from_number b (Some m)
-at_dash a b m h =
-    let cut = cut_before 45 a b (count_lacks 45 (lit< tt) h) refl in
-    rw (cut.1, cut.0, count_alone a m h) refl
+at_dash = grind (arith, nat_tests, cut_before, count_lacks, lit<, count_alone)
 
 pub fields_alone : (item : List ℕ) (range : FieldRange) → AreFields item range → fields_of item ≡ Some range
 fields_alone _ _ (one {a} {m} h) =
-    let cut = cut_alone 45 a (count_lacks 45 (lit< tt) h) in
-    rw (cut.1, cut.0, count_no_dollar h, count_alone a m h) refl
+    grind (arith, nat_tests, cut_alone, count_lacks, lit<, count_no_dollar, count_alone)
 fields_alone _ _ last = refl
 fields_alone _ _ (span {a} {b} {m} {n} h k order) =
     at_dash a b m h ∙ rw (count_no_dollar k, count_alone b n k, le-leb m n order) refl
 fields_alone _ _ (to_last {a} {m} h) = at_dash a (codes "$") m h
 
 pub fields_lack : (item : List ℕ) (range : FieldRange) → AreFields item range → has_byte 44 item ≡ false
-fields_lack _ _ (one h) = count_lacks 44 (lit< tt) h
-fields_lack _ _ last = refl
-fields_lack _ _ (span {a} {b} h k order) =
-    joined_lack 44 a (codes "-" ++ b) (count_lacks 44 (lit< tt) h) (count_lacks 44 (lit< tt) k)
-fields_lack _ _ (to_last {a} h) = joined_lack 44 a (codes "-$") (count_lacks 44 (lit< tt) h) refl
+fields_lack = grind (arith, nat_tests, count_lacks, lit<, joined_lack)

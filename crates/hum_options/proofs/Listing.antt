@@ -1,13 +1,13 @@
 -- Items between commas.
-use Rattle.std.proofs.Common.{◌≡◌, ◌<◌, ◌≤◌, ◌+◌, ◌==◌, refl, ap, sym, ◌∙◌, ℕ, suc, false}
-use Rattle.std.proofs.Common.{List, [], ◌∷◌, ◌++◌, length, arith, None, Some, Option, append_assoc, length-append, map}
+use Rattle.std.proofs.lemmas.Grind.{common_steps}
+use Rattle.std.proofs.lemmas.Bool.Decides.{nat_tests}
+use Rattle.std.proofs.Common.{◌≡◌, ◌<◌, ◌≤◌, ◌+◌, ◌==◌, refl, ap, ℕ, suc, false}
+use Rattle.std.proofs.Common.{List, [], ◌∷◌, ◌++◌, length, arith, None, Some, Option, map}
 use Rattle.std.specs.Prelude.{nat_le, Result, IfOk}
 use Rattle.std.specs.Option.{option_map, option_and_then}
 use Rattle.std.specs.List.{AllByRecursion, join_with_byte}
-use Rattle.std.proofs.lemmas.Iterator.Adapters.{option_map_id}
 use Rattle.std.proofs.lemmas.Result.{IfOk-weaker}
-use Rattle.std.proofs.lemmas.Bool.{leb-true, le-leb, lt-leb}
-use Rattle.std.proofs.lemmas.List.{append-nil, map-append}
+use Rattle.std.proofs.lemmas.Bool.{leb-true, le-leb}
 use Rattle.std.proofs.lemmas.List.Splits.{join_with_byte-slice_split, length-slice_split}
 use Rattle.hum_score.specs.Spelling.{has_byte}
 use Rattle.hum_score.proofs.Cases.{by_bool}
@@ -47,8 +47,7 @@ none_behind left none = ap parts_behind (emptied left none)
 -- nothing is read yet
 pub listing_begins : {A B : Type 0} {value_of : List ℕ → Option A} {view : B → A} (text : List ℕ)
     → IsListing value_of view text (parts 44 text) []
-listing_begins {A} {B} {value_of} text =
-    record { few = omega arith; count = omega arith; values = sym (option_map_id _) }
+listing_begins = grind (arith, nat_tests)
 
 -- the next part, and what is behind it
 pub next_part : {A B : Type 0} {value_of : List ℕ → Option A} {view : B → A} {text part left : List ℕ} {items : List B}
@@ -57,46 +56,25 @@ pub next_part : {A B : Type 0} {value_of : List ℕ → Option A} {view : B → 
     → IsListing value_of view text (part ∷ parts_behind left) items
 next_part here h part_is left_is = rw (part_is, left_is) (rw (first_part here) at h)
 
-behind_one : {A : Type 0} (done : List A) (value : A) (o : Option (List A))
-    → behind done (with_first o value) ≡ behind (done ++ value ∷ []) o
-behind_one done value None = refl
-behind_one done value (Some values) =
-    ap (λ (xs : List _). Some xs) (sym (append_assoc done (value ∷ []) values))
-
 module _ {A B : Type 0} {value_of : List ℕ → Option A} {view : B → A} {text part : List ℕ} {left : List (List ℕ)}
     {items : List B} (h : IsListing value_of view text (part ∷ left) items) where
   -- one more is read
   pub listing_goes_on : (item : B) → Some (view item) ≡ value_of part → length items < 64
       → IsListing value_of view text left (items ++ item ∷ [])
-  listing_goes_on item read few =
-      let longer = length-append items (item ∷ []) in
-      record {
-        few = omega (arith, few, longer);
-        count = omega (arith, h.count, longer);
-        values = rw (h.values, map-append view items (item ∷ []), ← read)
-            (behind_one (map view items) (view item) (all_of value_of left));
-      }
+  listing_goes_on = grind (arith, common_steps)
 
   -- a part that isn't read
   pub listing_refused : None ≡ value_of part → None ≡ items_of value_of text
-  listing_refused none =
-      let lost : None ≡ all_of value_of (parts 44 text) = rw (h.values, ← none) refl in
-      by_bool (nat_le (length (parts 44 text)) 64) (λ few. rw few lost) (λ over. rw over refl)
+  listing_refused = grind (arith, nat_tests)
 
   -- a part behind 64 others
   pub listing_full : 64 ≤ length items → None ≡ items_of value_of text
-  listing_full full =
-      let over : 64 < length (parts 44 text) = omega (arith, h.count, full) in
-      rw (lt-leb (length (parts 44 text)) 64 over) refl
+  listing_full = grind (arith, nat_tests)
 
 -- all are read
 pub listing_ends : {A B : Type 0} {value_of : List ℕ → Option A} {view : B → A} {text : List ℕ} {items : List B}
     → IsListing value_of view text [] items → Some (map view items) ≡ items_of value_of text
-listing_ends {A} {B} {value_of} {view} {text} {items} h =
-    let within : length (parts 44 text) ≤ 64 = omega (arith, h.count, h.few) in
-    let all : all_of value_of (parts 44 text) ≡ Some (map view items)
-    = h.values ∙ ap (λ (xs : List A). Some xs) (append-nil (map view items)) in
-    rw (le-leb (length (parts 44 text)) 64 within, all) refl
+listing_ends = grind (arith, common_steps)
 
 -- what the first of some answers is, and the others
 record IsFirst {A : Type 0} (o : Option A) (others : Option (List A)) (values : List A) : Type 0 where
@@ -108,9 +86,7 @@ record IsFirst {A : Type 0} (o : Option A) (others : Option (List A)) (values : 
 
 first_is : {A : Type 0} (o : Option A) (others : Option (List A)) (values : List A)
     → option_and_then (with_first others) o ≡ Some values → IsFirst o others values
-first_is None others values e = cc
-first_is (Some x) None values e = cc
-first_is (Some x) (Some xs) values e = record { value = x; more_values = xs; is = refl; others_are = refl; all = cc }
+first_is = grind (arith, nat_tests)
 
 module _ {A : Type 0} {value_of : List ℕ → Option A} {IsItem : List ℕ → A → Type 0}
     (is : (item : List ℕ) (value : A) → has_byte 44 item ≡ false → value_of item ≡ Some value → IsItem item value)
@@ -152,23 +128,13 @@ module _ {A : Type 0} {value_of : List ℕ → Option A} {IsItem : List ℕ → 
     count : length (parts 44 text) ≡ length values
 
   all_alone : (text : List ℕ) (values : List A) → AreItems IsItem text values → AreRead text values
-  all_alone _ _ (one {item} {value} h) =
-      let cut = (cut_alone 44 item (lacks item value h)).2 in
-      record { values_are = rw (cut, alone item value h) refl; count = ap length cut }
+  all_alone _ _ (one {item} {value} h) = grind (arith, nat_tests, cut_alone 44 item (lacks item value h))
   all_alone _ _ (more {item} {text} {value} {values} h hs) =
-      let cut = (cut_before 44 item text (lacks item value h) refl).2 in
-      let others = all_alone text values hs in
-      record {
-        values_are = rw (cut, alone item value h, others.values_are) refl;
-        count = ap length cut ∙ ap suc others.count;
-      }
+      grind (arith, nat_tests, all_alone text values hs, cut_before 44 item text (lacks item value h) refl)
 
   -- a list of these items is read
   items_alone : (text : List ℕ) (values : List A) → AreListed IsItem text values → items_of value_of text ≡ Some values
-  items_alone text values h =
-      let read = all_alone text values h.items in
-      let within : length (parts 44 text) ≤ 64 = omega (arith, read.count, h.most) in
-      rw (le-leb (length (parts 44 text)) 64 within, read.values_are) refl
+  items_alone = grind (arith, nat_tests, all_alone, le-leb)
 
   -- what is read is such a list, and each such list is read
   pub listed : {B E : Type 0} (f : B → List A) (text : List ℕ) (r : Result (Option B) E)

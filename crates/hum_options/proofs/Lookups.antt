@@ -1,16 +1,16 @@
 -- Options that were given, looked up by their letters.
+use Rattle.std.proofs.lemmas.Bool.Decides.{nat_tests}
 use Rattle.std.proofs.Common.{◌≡◌, ℕ, suc, ◌+◌, ◌<◌, ◌≤◌, ◌==◌, Bool, false, not, List, [], ◌∷◌, Option, None, Some}
-use Rattle.std.proofs.Common.{length, get_or, refl, ap, sym, ◌∙◌, arith, position, is_some}
-use Rattle.std.specs.Prelude.{map, ◌||◌, if◌then◌else◌, nat_lt, remove}
+use Rattle.std.proofs.Common.{length, get_or, refl, ap, sym, arith, position, is_some}
+use Rattle.std.specs.Prelude.{map, ◌||◌, if◌then◌else◌, remove}
 use Rattle.std.specs.List.{list_any, prefix_len}
-use Rattle.std.proofs.lemmas.Bool.{ltb-true, ltb-false, eqb-true}
+use Rattle.std.proofs.lemmas.Bool.{ltb-false, eqb-true}
 use Rattle.hum_score.proofs.Cases.{by_bool}
 use Rattle.hum_options.specs.declared.given.GivenOption.{GivenOption}
 use Rattle.hum_options.specs.declared.values.Value.{Value}
 use Rattle.hum_options.specs.Given.{Given, GivenOf, value_at, AreKept}
 use Rattle.hum_options.specs.Options.{markers_meant, both}
 use Rattle.hum_options.specs.Seen.{seen, given_of}
-use Rattle.hum_options.proofs.Choices.{chosen}
 
 -- an option as the code has it
 abbrev Entry : Type 0 → Type 0
@@ -31,11 +31,7 @@ module _ {P : Type 0} (b : ℕ) where
   value_there : (d : Entry P) (xs : List (Entry P)) → before xs < length xs
       → value_at b (map given_of xs) ≡ Some (seen (get_or xs (before xs) d).value)
   value_there d [] h = absurd (omega (arith, h))
-  value_there d (x ∷ xs) h = by_bool (x.letter == b) (λ w. rw w refl)
-      (λ w.
-      let within : 1 + before xs < suc (length xs) = rw w at h in
-      let next : 1 + before xs ≡ suc (before xs) = omega arith in
-      rw (w, next) (value_there d xs (omega (arith, within))))
+  value_there d (x ∷ xs) h = grind (arith, nat_tests, value_there d xs)
 
   -- and without it the options of other letters have theirs
   others_there : (a : ℕ) (xs : List (Entry P)) → before xs < length xs → (b == a) ≡ false
@@ -52,25 +48,18 @@ module _ {P : Type 0} (b : ℕ) where
   -- where none is of the letter
   nothing_there : (xs : List (Entry P)) → length xs ≤ before xs → None ≡ value_at b (map given_of xs)
   nothing_there [] h = refl
-  nothing_there (x ∷ xs) h = by_bool (x.letter == b)
-      (λ w. let none : suc (length xs) ≤ 0 = rw w at h in absurd (omega (arith, none)))
-      (λ w. let over : suc (length xs) ≤ 1 + before xs = rw w at h in rw w (nothing_there xs (omega (arith, over))))
+  nothing_there (x ∷ xs) h = grind (arith, nat_tests, nothing_there xs)
 
   -- a place that was found
   place_found : {k : ℕ} (xs : List (Entry P)) → Some k ≡ position (λ x. x.letter == b) xs
       → (k ≡ before xs) × (before xs < length xs)
-  place_found {k} xs found =
-      let test = chosen (nat_lt (before xs) (length xs)) (Some (before xs)) k (sym found) in
-      (let place = test.1 in cc, ltb-true _ _ test.0)
+  place_found = grind (arith, nat_tests)
 
   -- what is taken out of what was given
   pub value_taken : (xs : List (Entry P)) {k : ℕ} {given : Entry P}
       → Some k ≡ position (λ x. x.letter == b) xs → given ≡ get_or xs k given
       → Some (seen given.value) ≡ value_at b (map given_of xs)
-  value_taken xs {k} {given} found is =
-      let p = place_found xs found in
-      ap (λ (x : Entry P). Some (seen x.value)) is
-      ∙ ap (λ n. Some (seen (get_or xs n given).value)) p.0 ∙ sym (value_there given xs p.1)
+  value_taken = grind (arith, nat_tests, place_found, get_or, value_there)
 
   pub others_kept : (xs ys : List (Entry P)) {k : ℕ} → Some k ≡ position (λ x. x.letter == b) xs → ys ≡ remove xs k
       → AreKept b (map given_of xs) (map given_of ys)
@@ -79,9 +68,7 @@ module _ {P : Type 0} (b : ℕ) where
 
   pub nothing_taken : (xs : List (Entry P)) → None ≡ position (λ x. x.letter == b) xs
       → None ≡ value_at b (map given_of xs)
-  nothing_taken xs lost = by_bool (nat_lt (before xs) (length xs))
-      (λ w. let e : None ≡ Some (before xs) = rw w at lost in cc)
-      (λ w. nothing_there xs (ltb-false _ _ w))
+  nothing_taken = grind (arith, nat_tests, nothing_there, ltb-false)
 
   -- whether it was given
   pub is_given : (xs : List (Entry P)) (found : Option ℕ) → found ≡ position (λ x. x.letter == b) xs
@@ -95,5 +82,4 @@ pub markers_kept : (old new : List Given) → AreKept 114 old new → markers_me
 markers_kept old new kept = rw (kept 108 refl, kept 110 refl, kept 111 refl, kept 101 refl, kept 115 refl) refl
 
 pub both_lack : {A B C : Type 0} (f : A → B → C) (first : Option A) → None ≡ both f first None
-both_lack f None = refl
-both_lack f (Some a) = refl
+both_lack = grind (arith, nat_tests)

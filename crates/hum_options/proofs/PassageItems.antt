@@ -1,4 +1,5 @@
 -- Passages, as an item of a list names them.
+use Rattle.std.proofs.lemmas.Bool.Decides.{nat_tests}
 use Rattle.std.proofs.Common.{◌≡◌, ◌<◌, ◌==◌, refl, ◌∙◌, ℕ, true, false}
 use Rattle.std.proofs.Common.{List, [], ◌∷◌, ◌++◌, None, Some, Option, lit<, arith}
 use Rattle.std.specs.Prelude.{nat_le}
@@ -9,7 +10,6 @@ use Rattle.std.proofs.lemmas.List.{append-nil}
 use Rattle.hum_choices.specs.declared.yank.YankRange.{YankRange}
 use Rattle.hum_choices.specs.declared.yank.YankRange.TheVariants.{Through, Onward, ToEnd, FromEnd}
 use Rattle.hum_score.specs.Spelling.{has_byte}
-use Rattle.hum_score.proofs.Cases.{by_bool}
 use Rattle.hum_options.specs.Cutting.{front, remainder}
 use Rattle.hum_options.specs.Numbers.{number_of, positive_of}
 use Rattle.hum_options.specs.Passages.{greatest, IsPassage, IsDistance, ArePassages, one, span, onward, to_end}
@@ -117,10 +117,7 @@ by_number_are item range e =
     rw (whole 45 item) at are
 
 pub passages_are : (item : List ℕ) (range : YankRange) → passages_of item ≡ Some range → ArePassages item range
-passages_are [] range e = cc
-passages_are (b ∷ text) range e = by_bool (b == 36)
-    (λ w. rw (eqb-true b 36 w) (from_last_are text range (rw w at e)))
-    (λ w. by_number_are (b ∷ text) range (rw w at e))
+passages_are = grind (arith, nat_tests, eqb-true, from_last_are, by_number_are)
 
 -- an item that begins with a number
 begun : (a more : List ℕ) {x : ℕ} → IsPassage a x → passages_of (a ++ more) ≡ by_number (a ++ more)
@@ -128,24 +125,19 @@ begun [] more h = let e = number_alone (lit< tt) h in cc
 begun (b ∷ a) more h = rw (other_byte 36 b a (lit< tt) (number_digits (lit< tt) h)) refl
 
 no_distance : (text : List ℕ) → all_ascii_digits text ≡ true → distance_of text ≡ None
-no_distance [] all = refl
-no_distance (b ∷ text) all = rw (other_byte 36 b text (lit< tt) all) refl
+no_distance = grind (arith, nat_tests)
 
 passage_lacks : {text : List ℕ} {x : ℕ} (byte : ℕ) → byte < 48 → IsPassage text x → has_byte byte text ≡ false
 passage_lacks byte low h = number_lacks byte (lit< tt) low h
 
 -- behind the dash of a number
 at_dash : (a b : List ℕ) {x : ℕ} → IsPassage a x → passages_of (a ++ (codes "-" ++ b)) ≡ through x b (distance_of b)
-at_dash a b h =
-    let cut = cut_before 45 a b (passage_lacks 45 (lit< tt) h) refl in
-    begun a (codes "-" ++ b) h ∙ rw (cut.1, cut.0, number_alone (lit< tt) h) refl
+at_dash = grind (arith, nat_tests, cut_before, passage_lacks, lit<, begun, number_alone)
 
 -- behind the dash of a distance
 at_second_dash : (m b : List ℕ) {x : ℕ} → IsDistance m x
     → passages_of (codes "$-" ++ (m ++ (codes "-" ++ b))) ≡ near_end x (distance_of b)
-at_second_dash m b h =
-    let cut = cut_before 45 m b (passage_lacks 45 (lit< tt) h.number) refl in
-    rw (cut.1, cut.0, positive_alone (lit< tt) h) refl
+at_second_dash = grind (arith, nat_tests, cut_before, passage_lacks, lit<, positive_alone)
 
 pub passages_alone : (item : List ℕ) (range : YankRange) → ArePassages item range → passages_of item ≡ Some range
 passages_alone _ _ (one {a} h) =
@@ -159,21 +151,10 @@ passages_alone _ _ (to_end {a} {n} h k) =
     at_dash a (codes "$-" ++ n) h ∙ rw (distance_alone (some k), not_zero k) refl
 passages_alone _ _ last = refl
 passages_alone _ _ (before_last {m} h) =
-    let cut = cut_alone 45 m (passage_lacks 45 (lit< tt) h.number) in
-    rw (cut.1, cut.0, positive_alone (lit< tt) h) refl
+    grind (arith, nat_tests, cut_alone, passage_lacks, lit<, positive_alone)
 passages_alone _ _ (last_few {m} {x} h) = at_second_dash m (codes "$") h ∙ rw (le-leb 0 x (omega arith)) refl
 passages_alone _ _ (few_to_end {m} {n} {x} {y} h k order) =
     at_second_dash m (codes "$-" ++ n) h ∙ rw (distance_alone (some k), le-leb y x order) refl
 
 pub passages_lack : (item : List ℕ) (range : YankRange) → ArePassages item range → has_byte 44 item ≡ false
-passages_lack _ _ (one h) = passage_lacks 44 (lit< tt) h
-passages_lack _ _ (span {a} {b} h k order) =
-    joined_lack 44 a (codes "-" ++ b) (passage_lacks 44 (lit< tt) h) (passage_lacks 44 (lit< tt) k)
-passages_lack _ _ (onward {a} h) = joined_lack 44 a (codes "-$") (passage_lacks 44 (lit< tt) h) refl
-passages_lack _ _ (to_end {a} {n} h k) =
-    joined_lack 44 a (codes "-$-" ++ n) (passage_lacks 44 (lit< tt) h) (passage_lacks 44 (lit< tt) k.number)
-passages_lack _ _ last = refl
-passages_lack _ _ (before_last h) = passage_lacks 44 (lit< tt) h.number
-passages_lack _ _ (last_few {m} h) = joined_lack 44 m (codes "-$") (passage_lacks 44 (lit< tt) h.number) refl
-passages_lack _ _ (few_to_end {m} {n} h k order) =
-    joined_lack 44 m (codes "-$-" ++ n) (passage_lacks 44 (lit< tt) h.number) (passage_lacks 44 (lit< tt) k.number)
+passages_lack = grind (arith, nat_tests, passage_lacks, lit<, joined_lack)

@@ -1,6 +1,7 @@
 -- How far words are read, and what they are answered.
-use Rattle.std.proofs.Common.{◌≡◌, ◌∙◌, inl, inr, refl, ap, sym, ℕ, true, false, List, [], ◌∷◌, ◌++◌, append_assoc}
-use Rattle.std.proofs.Common.{Option, None, Some, Ok, Err}
+use Rattle.std.proofs.lemmas.Bool.Decides.{nat_tests}
+use Rattle.std.proofs.Common.{◌≡◌, inl, inr, refl, ℕ, true, false, List, [], ◌∷◌, ◌++◌, append_assoc}
+use Rattle.std.proofs.Common.{Option, None, Some, Ok, Err, arith}
 use Rattle.std.proofs.lemmas.List.{append-nil}
 use Rattle.hum_score.proofs.Cases.{by_bool}
 use Rattle.hum_words.specs.declared.commands.Command.{Command}
@@ -55,15 +56,7 @@ module _ {command : Command} {n : ℕ} {before : List Given} {answer : Answer} w
       → Spells command (first ++ front) (given_as option value ∷ more))
       → Reached command n (with_value before option value) words answer
       → Reached command n before (first ++ words) answer
-  further {words} option value first free spells h = record {
-    front = first ++ h.front;
-    rest = h.rest;
-    given = given_as option value ∷ h.given;
-    whole = ap (λ ws. first ++ ws) h.whole ∙ sym (append_assoc first h.front h.rest);
-    spelled = spells h.front h.given h.spelled;
-    allowed = (free, h.allowed);
-    ends = rw (← append_assoc before (given_as option value ∷ []) h.given) h.ends;
-  }
+  further = grind (arith, nat_tests, append_assoc)
 
   from_alone : {k : ℕ} {word : List ℕ} {words : List Word} {option : CommandOption} → MayCome command before word option
       → is_alone option.kind ≡ true → Reached command n (with_value before option Nothing) words answer

@@ -1,6 +1,7 @@
 -- Words are refused for the first rule that they break.
-use Rattle.std.proofs.Common.{◌≡◌, ◌∙◌, ◌↔◌, inl, inr, refl, sym, ap, subst, ℕ, Bool, true, false, not, ◌&&◌}
-use Rattle.std.proofs.Common.{List, [], ◌∷◌, ◌++◌, Option, None, Some, Err}
+use Rattle.std.proofs.lemmas.Bool.Decides.{nat_tests}
+use Rattle.std.proofs.Common.{◌≡◌, ◌∙◌, ◌↔◌, refl, ap, subst, ℕ, Bool, true, false, not, ◌&&◌}
+use Rattle.std.proofs.Common.{List, [], ◌∷◌, ◌++◌, Option, None, Some, Err, arith}
 use Rattle.std.specs.List.{AllByRecursion}
 use Rattle.std.specs.Option.{option_or}
 use Rattle.std.proofs.lemmas.Bool.{and_parts}
@@ -10,13 +11,13 @@ use Rattle.hum_words.specs.declared.commands.Command.{Command}
 use Rattle.hum_options.specs.declared.faults.OptionRule.TheVariants.{N8, N11}
 use Rattle.hum_options.specs.declared.faults.OptionFault.{OptionFault}
 use Rattle.hum_options.specs.declared.reading.Turn.TheVariants.{Free}
-use Rattle.hum_options.specs.Given.{letter, Given}
+use Rattle.hum_options.specs.Given.{letter}
 use Rattle.hum_options.specs.Letters.{is_letter_word, has_letter}
-use Rattle.hum_options.specs.Answers.{Word, Answer, Answers, is_rid, word_fault, rid_fault, rid_of, rid_answer}
+use Rattle.hum_options.specs.Answers.{Word, Answer, Answers, is_rid, word_fault, rid_fault, rid_answer}
 use Rattle.hum_options.specs.Refused.{at, BreaksRid, no_letters, before_another, BreaksNone, IsFirstWord}
-use Rattle.hum_options.specs.Refused.{IsFirstOfRid, Breaks, IsFirstFault, AreRefusedInOrder}
+use Rattle.hum_options.specs.Refused.{IsFirstOfRid, IsFirstFault, AreRefusedInOrder}
 use Rattle.hum_options.proofs.Choices.{chosen}
-use Rattle.hum_options.proofs.Readings.{Ends, broken, reached, told}
+use Rattle.hum_options.proofs.Readings.{broken, reached, told}
 
 -- a word's fault, and what it breaks
 fault_breaks : (is_last : Bool) (word : Word) (fault : OptionFault) → word_fault is_last word ≡ Some fault
@@ -33,13 +34,11 @@ fault_breaks is_last (k, word) fault h = by_bool (is_letter_word word)
     subst (BreaksRid is_last (k, word)) same (no_letters w))
   where
     not_true : (b : Bool) → not b ≡ true → b ≡ false
-    not_true true e = cc
-    not_true false e = refl
+    not_true = grind (arith, nat_tests)
 
 breaks_fault : (is_last : Bool) (word : Word) (fault : OptionFault) → BreaksRid is_last word fault
     → word_fault is_last word ≡ Some fault
-breaks_fault is_last (k, word) fault (no_letters w) = rw w refl
-breaks_fault is_last (k, word) fault (before_another w last all) = rw (w, last, all) refl
+breaks_fault = grind (arith, nat_tests)
 
 -- the first of the words
 first_fault : (is_last : Bool) (words : List Word) (fault : OptionFault) → rid_fault is_last words ≡ Some fault
@@ -73,8 +72,7 @@ first_fault is_last (word ∷ words) fault h = by_first (word_fault is_last word
 fault_first : (is_last : Bool) (front rest : List Word) (word : Word) (fault : OptionFault)
     → AllByRecursion (BreaksNone is_last) front
     → BreaksRid is_last word fault → rid_fault is_last (front ++ word ∷ rest) ≡ Some fault
-fault_first is_last [] rest word fault lawful here =
-    let e = breaks_fault is_last word fault here in rw e refl
+fault_first is_last [] rest word fault lawful here = grind (arith, nat_tests, breaks_fault)
 fault_first is_last (other ∷ front) rest word fault lawful here =
     let e = no_fault (word_fault is_last other) refl in
     rw e (fault_first is_last front rest word fault lawful.1 here)
@@ -85,51 +83,12 @@ fault_first is_last (other ∷ front) rest word fault lawful here =
 
 rid_first : (n : ℕ) (is_last : Bool) (words : List Word) (fault : OptionFault)
     → (◌≡◌ {A = Answer} (Err fault) (rid_answer n is_last words)) ↔ IsFirstOfRid n is_last words fault
-rid_first n is_last [] fault = (
-  λ h. inl (refl, cc),
-  λ h. elim h [ inl w ↦ ap (λ (f : OptionFault). Err f) w.1 | inr w ↦ filled w.front w.word w.rest w.whole ],
-)
-  where
-    filled : {P : Type 0} (front : List Word) (word : Word) (rest : List Word) → [] ≡ front ++ word ∷ rest → P
-    filled [] word rest e = cc
-    filled (x ∷ front) word rest e = cc
-rid_first n is_last (word ∷ words) fault = (
-  λ h. inr (first_fault is_last (word ∷ words) fault (by_found (rid_fault is_last (word ∷ words)) h)),
-  λ h. elim h [
-    | inl w ↦ let none = w.0 in cc
-    | inr w ↦
-        let e = fault_first is_last w.front w.rest w.word fault w.lawful w.broken in
-        let same : rid_fault is_last (word ∷ words) ≡ Some fault = ap (rid_fault is_last) w.whole ∙ e in
-        ap (rid_of (word ∷ words)) (sym same)
-  ],
-)
-  where
-    by_found : (found : Option OptionFault) → ◌≡◌ {A = Answer} (Err fault) (rid_of (word ∷ words) found)
-        → found ≡ Some fault
-    by_found None h = cc
-    by_found (Some other) h = cc
+rid_first = grind (arith, nat_tests, first_fault, fault_first)
 
 -- the first rule that is broken by words that give options
 told_first : (command : Command) (n : ℕ) (words : List Word) (fault : OptionFault)
     → Answers command n [] Free words (Err fault) ↔ IsFirstFault command n words fault
-told_first command n words fault = (
-  λ h.
-      let r = reached command n [] Free words (Err fault) h in
-      record {
-        front = r.front;
-        rest = r.rest;
-        given = r.given;
-        whole = r.whole;
-        spelled = r.spelled;
-        allowed = r.allowed;
-        broken = at_end r.ends;
-      },
-  λ h. rw h.whole (told h.spelled [] h.allowed (broken h.broken)),
-)
-  where
-    at_end : {given : List Given} {rest : List Word} → Ends command n given rest (Err fault)
-        → Breaks command n given rest fault
-    at_end (broken it) = it
+told_first = grind (arith, nat_tests, reached, broken, told)
 
 pub in_order : (command : Command) (n : ℕ) (is_last : Bool) (words : List Word)
     → AreRefusedInOrder command n is_last words

@@ -1,13 +1,15 @@
 -- Numbers with a sign.
-use Rattle.std.proofs.Common.{◌≡◌, ◌<◌, ◌≤◌, ◌^◌, ◌==◌, ap, ℕ, zero, suc, true, false, List, [], ◌∷◌, lit<, Some}
-use Rattle.std.specs.Prelude.{ℤ, pos, neg_ℤ, nat_abs}
+use Rattle.std.proofs.lemmas.Bool.Decides.{nat_tests}
+use Rattle.std.proofs.Common.{arith}
+use Rattle.std.proofs.Common.{◌≡◌, ◌<◌, ◌≤◌, ◌^◌, ◌==◌, ap, ℕ, true, false, List, [], ◌∷◌, Some}
+use Rattle.std.specs.Prelude.{ℤ, pos, nat_abs}
 use Rattle.std.specs.Option.{option_map}
 use Rattle.std.specs.Str.{all_ascii_digits}
 use Rattle.std.proofs.lemmas.Bool.{eqb-true}
 use Rattle.hum_score.proofs.Cases.{by_bool}
 use Rattle.hum_options.specs.Numbers.{IsSigned, plain, plus, minus, negated, number_of, signed_of}
 use Rattle.hum_options.proofs.Choices.{mapped}
-use Rattle.hum_options.proofs.Digits.{number_is, number_alone, number_digits, other_byte}
+use Rattle.hum_options.proofs.Digits.{number_is, number_alone, number_digits}
 
 pub signed_is : {most : ℕ} (text : List ℕ) {z : ℤ} → most < 2 ^ 64 → signed_of most text ≡ Some z → IsSigned most text z
 signed_is [] small e = cc
@@ -31,9 +33,7 @@ signed_is {most} (sign ∷ text) {z} small e =
 
 plain_alone : (most : ℕ) (text : List ℕ) (n : ℕ) → all_ascii_digits text ≡ true → number_of most text ≡ Some n
     → signed_of most text ≡ Some (pos n)
-plain_alone most [] n all e = cc
-plain_alone most (sign ∷ text) n all e =
-    rw (other_byte 43 sign text (lit< tt) all, other_byte 45 sign text (lit< tt) all) (ap (option_map pos) e)
+plain_alone = grind (arith, nat_tests)
 
 pub signed_alone : {most : ℕ} {text : List ℕ} {z : ℤ} → most < 2 ^ 64 → IsSigned most text z
     → signed_of most text ≡ Some z
@@ -43,10 +43,4 @@ signed_alone small (minus h) = ap (option_map negated) (number_alone small h)
 
 -- its absolute value is at most so great
 pub signed_within : {most : ℕ} {text : List ℕ} {z : ℤ} → IsSigned most text z → nat_abs z ≤ most
-signed_within (plain h) = h.within
-signed_within (plus h) = h.within
-signed_within {most} (minus {text} {n} h) = by_number n h.within
-  where
-    by_number : (n : ℕ) → n ≤ most → nat_abs (neg_ℤ (pos n)) ≤ most
-    by_number zero within = within
-    by_number (suc n) within = within
+signed_within = grind (arith, nat_tests)

@@ -1,9 +1,9 @@
-use Rattle.std.proofs.Common.{refl}
+use Rattle.std.proofs.lemmas.Bool.Decides.{nat_tests}
+use Rattle.std.proofs.Common.{refl, arith}
 use Rattle.hum_options.proofs.reading.next_option.Goals as goal
 
 pub returns-in_err-option : goal.returns-in_err-option
-returns-in_err-option g c =
-    let lost = rw c.as_bytes.ensures.value at c.in_err-option.ensures in rw (c.from_residual.ensures, ← lost) refl
+returns-in_err-option = grind (arith, nat_tests)
 
 pub returns-then-is_barred : goal.returns-then-is_barred
 returns-then-is_barred g c =
