@@ -18,11 +18,6 @@ use Rattle.hum_text.proofs.LimitLemmas.{last-short, last-free}
 abbrev pub faulty : {R : Type 0} → Reader R → TextFault → Reader R
 faulty v fault = record v { fault = Some fault }
 
--- a fault that is met is one of the text's
-abbrev FaultOfText : Result Step TextFault → Type 0
-FaultOfText (Ok step) = Unit {0}
-FaultOfText (Err fault) = IsOfText fault
-
 -- a rule that is broken is one of the text's
 abbrev RuleOfText : Option TextFault → Type 0
 RuleOfText None = Unit {0}
