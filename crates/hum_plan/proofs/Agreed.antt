@@ -1,15 +1,14 @@
 -- A text that is accepted is answered otherwise by N12 alone.
+use Rattle.std.proofs.lemmas.Bool.Decides.{nat_tests}
 use Rattle.std.proofs.Common.{◌≡◌, ℕ, ◌&&◌, Bool, true, false, List, [], ◌∷◌, length, Option, None, Some, Ok, Err, sym}
-use Rattle.std.proofs.Common.{ap, subst}
+use Rattle.std.proofs.Common.{ap, subst, arith}
 use Rattle.std.proofs.Common.{option_map}
 use Rattle.std.specs.Bool.{beq}
-use Rattle.std.specs.Prelude.{nat_le}
 use Rattle.hum_score.proofs.Cases.{by_bool}
 use Rattle.hum_words.specs.Branches.{lines_of, branches_of}
 use Rattle.hum_words.specs.Cutting.{Cut, cut_line}
 use Rattle.hum_words.specs.Pieces.{Item}
 use Rattle.hum_words.specs.Text.{fault_of}
-use Rattle.hum_words.specs.Commands.{command_of}
 use Rattle.hum_words.specs.declared.commands.Command.{Command}
 use Rattle.hum_words.specs.declared.commands.Command.TheVariants as command
 use Rattle.hum_options.specs.Answers.{Word}
@@ -20,7 +19,7 @@ use Rattle.hum_plan.specs.Branches.{is_out}
 use Rattle.hum_plan.specs.Lines.{groups}
 use Rattle.hum_plan.specs.Answers.{Outline, Outcome, nothing, is_source, is_end, Begins, Placed, StageAnswer}
 use Rattle.hum_plan.specs.Answers.{StagesAnswer}
-use Rattle.hum_plan.specs.Answers.{Then, Unless, name_fault, ended, NameAnswer, first_name, behind_first, CutAnswer}
+use Rattle.hum_plan.specs.Answers.{Then, Unless, name_fault, ended, NameAnswer, CutAnswer}
 use Rattle.hum_plan.specs.Answers.{LinesAnswer, whole_fault, PlanAnswer}
 use Rattle.hum_plan.specs.Laws.{Agrees, IsOnePlan}
 use Rattle.hum_plan.proofs.Written.{read_as_written}
@@ -32,8 +31,7 @@ abbrev IsOne : {A : Type 0} → (Outcome A → Type 0) → Type 0
 IsOne {A} Lawful = (a : A) (answer : Outcome A) → Lawful (Ok a) → Lawful answer → Agrees a answer
 
 same : {A : Type 0} (fixed : Outcome A) → IsOne (λ answer. answer ≡ fixed)
-same (Ok b) a answer one two = rw two (cc)
-same (Err fault) a answer one two = absurd (cc)
+same = grind (arith, nat_tests)
 
 then_one : {A B : Type 0} (First : Outcome A → Type 0) (Next : A → Outcome B → Type 0) → IsOne First
     → ((a : A) → IsOne (Next a)) → IsOne (Then First Next)
@@ -44,8 +42,7 @@ then_one First Next first next b answer (Err fault, one, is) two = absurd (cc)
 
 unless_one : {B : Type 0} (found : Option PlanFault) (Next : Outcome B → Type 0) → IsOne Next
     → IsOne (Unless found Next)
-unless_one None Next next b answer one two = next b answer one two
-unless_one (Some fault) Next next b answer one two = absurd (cc)
+unless_one = grind (arith, nat_tests)
 
 -- Stages.
 
@@ -54,8 +51,7 @@ begins_one : (line n : ℕ) (is_last : Bool) (old : Outline) (words : List Word)
 begins_one line n is_last old words command.Read new answer one two = same _ new answer one two
 begins_one line n is_last old words command.Assemble new answer one two = same _ new answer one two
 begins_one line n is_last old words kind new answer (Ok options, one, is) (Ok others, two, also) =
-    let fits : options ≡ others = answer_fits kind n is_last words options (Ok others) one two in
-    rw (also, ← fits) (cc)
+    grind (arith, nat_tests, answer_fits kind n is_last words options (Ok others) one two)
 begins_one line n is_last old words kind new answer (Ok options, one, is) (Err fault, two, also) =
     rw also (ap rule_of (answer_fits kind n is_last words options (Err fault) one two).1)
 begins_one line n is_last old words kind new answer (Err fault, one, is) two = absurd (cc)
@@ -69,10 +65,7 @@ placed_one line n is_first is_last old words (Some kind) = λ new answer one two
 
 stage_one : (line : ℕ) (is_first is_last : Bool) (old : Outline) (words : List Word)
     → IsOne (StageAnswer line is_first is_last old words)
-stage_one line is_first is_last old [] = same _
-stage_one line is_first is_last old ((n, word) ∷ words) = λ new answer one two. by_bool (nat_le 64 (length old.stages))
-    (λ w. same _ new answer (rw w at one) (rw w at two))
-    (λ w. placed_one line n is_first is_last old words (command_of word) new answer (rw w at one) (rw w at two))
+stage_one = grind (arith, nat_tests, same, placed_one)
 
 stages_one : (line : ℕ) (ends is_first : Bool) (old : Outline) (stages : List (List Word))
     → IsOne (StagesAnswer line ends is_first old stages)
@@ -91,8 +84,7 @@ name_one line old items (Some name) = unless_one (name_fault line old.branches n
     (then_one _ _ (stages_one line (is_out name) true old (groups items)) (λ next. same (Ok (ended line name next))))
 
 cut_one : (line : ℕ) (old : Outline) (found : Cut) → IsOne (CutAnswer line old found)
-cut_one line old (Ok items) = name_one line old (behind_first items) (first_name items)
-cut_one line old (Err k) = same _
+cut_one = grind (arith, nat_tests, name_one, same)
 
 lines_one : (old : Outline) (lines : List (ℕ × List ℕ)) → IsOne (LinesAnswer old lines)
 unfolding LinesAnswer

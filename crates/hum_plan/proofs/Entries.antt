@@ -1,5 +1,6 @@
 -- The entries of a map, seen as branches by name.
-use Rattle.std.proofs.Common.{◌≡◌, ℕ, List, [], ◌∷◌, refl, ap, map, not}
+use Rattle.std.proofs.lemmas.Bool.Decides.{nat_tests}
+use Rattle.std.proofs.Common.{◌≡◌, ℕ, List, [], ◌∷◌, refl, map, not, arith}
 use denote.Bor.{Bor}
 use Rattle.std.specs.Str.{bytes_eq}
 use Rattle.std.specs.Map.{lookup, values_of}
@@ -21,9 +22,7 @@ pub insert_seen : (es : List (Bor (List ℕ) × Branch)) (name : Bor (List ℕ))
     → map seen_entry (insert_entry (λ x y. bytes_eq x.now y.now) es name branch)
     ≡ with_branch (map seen_entry es) name.now branch
 insert_seen [] name branch = refl
-insert_seen (e ∷ es) name branch = by_bool (bytes_eq name.now e.0.now)
-    (λ w. rw w refl)
-    (λ w. rw w (ap (λ more. seen_entry e ∷ more) (insert_seen es name branch)))
+insert_seen (e ∷ es) name branch = grind (arith, nat_tests, insert_seen es name branch)
 
 pub unused_seen : (es : List (Bor (List ℕ) × Branch))
     → option_map (λ b. b.line) (find (λ b. not b.taken) (values_of es)) ≡ first_unused (map seen_entry es)

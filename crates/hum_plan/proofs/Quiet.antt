@@ -1,4 +1,5 @@
 -- Only rid drops all interpretations, and only as a plan's last stage.
+use Rattle.std.proofs.lemmas.Bool.Decides.{nat_tests}
 use Rattle.std.proofs.Common.{◌≡◌, false, List, Option, None, Some}
 use Rattle.std.proofs.lemmas.Bool.{not-true}
 use Rattle.std.specs.Option.{option_map}
@@ -19,13 +20,11 @@ IsQuiet (Some options) = meant.drops_interpretations options ≡ false
 
 mapped_quiet : {A : Type 0} (f : A → meant.Options) (x : Option A)
     → ((a : A) → meant.drops_interpretations (f a) ≡ false) → IsQuiet (option_map f x)
-mapped_quiet f None quiet = tt
-mapped_quiet f (Some a) quiet = quiet a
+mapped_quiet = grind (arith, nat_tests)
 
 both_quiet : {A B : Type 0} (f : A → B → meant.Options) (x : Option A) (y : Option B)
     → ((a : A) (b : B) → meant.drops_interpretations (f a b) ≡ false) → IsQuiet (both f x y)
-both_quiet f None y quiet = tt
-both_quiet f (Some a) y quiet = mapped_quiet (f a) y (quiet a)
+both_quiet = grind (arith, nat_tests)
 
 -- Only rid drops some, and its letters are no such options.
 meant_quiet : (kind : Command) (given : List Given) (options : meant.Options) → meant_by kind given ≡ Some options

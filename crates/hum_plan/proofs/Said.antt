@@ -1,4 +1,6 @@
 -- What is known behind some lines is what they say.
+use Rattle.std.proofs.lemmas.Grind.{common_steps}
+use Rattle.std.proofs.lemmas.Bool.Decides.{nat_tests}
 use Rattle.std.proofs.Common.{◌≡◌, ℕ, ◌+◌, ◌&&◌, ◌||◌, Bool, true, false, List, [], ◌∷◌, ◌++◌}
 use Rattle.std.proofs.Common.{length, None, Some, is_some, refl, sym, ap, ◌∙◌, arith, cond}
 use Rattle.std.proofs.Math.Bool.{or_assoc, or-false, or-true, and-false, and-true}
@@ -17,7 +19,7 @@ use Rattle.hum_plan.specs.declared.branches.Branch.{Branch}
 use Rattle.hum_plan.specs.Stages.{Options}
 use Rattle.hum_plan.specs.Branches.{Branches, branch_of, with_branch, taken, is_out}
 use Rattle.hum_plan.specs.Lines.{groups}
-use Rattle.hum_plan.specs.Answers.{Outline, nothing, ended, with_stage}
+use Rattle.hum_plan.specs.Answers.{Outline, ended, with_stage}
 use Rattle.hum_plan.specs.Grammar.{TakesBranches, AddsStage, IsStageOf, AddStages, IsBranch, AreBranches}
 use Rattle.hum_plan.specs.Said.{names_cut, stages_cut, is_assembled, is_used, is_taken_in, stage_count, is_taken}
 use Rattle.hum_plan.specs.Said.{LinesSayAll}
@@ -71,12 +73,7 @@ or_nothing : (a o : Bool) → a ≡ (a || (false || (o && false)))
 or_nothing a o = rw (and-false, or-false) refl
 
 none_said : (old : Outline) → HaveSaid old old (λ x. false) (λ x. false) 0 0
-none_said old = record {
-  names = λ x. sym (or-false _);
-  taken = λ x. or_nothing _ (is_out x);
-  branches = omega arith;
-  stages = omega arith;
-}
+none_said = grind (arith, nat_tests)
 
 -- one after the other
 both_said : {old middle new : Outline} {used0 used1 used taken0 taken1 taken : List ℕ → Bool}
@@ -99,12 +96,7 @@ both_said {used0 = used0} {used1 = used1} {taken0 = taken0} {taken1 = taken1} a 
   where
     taken_on : (a t o u ts us : Bool)
         → ((a || (t || (o && u))) || (ts || (o && us))) ≡ (a || ((t || ts) || (o && (u || us))))
-    taken_on true t o u ts us = refl
-    taken_on false true o u ts us = refl
-    taken_on false false false u ts us = refl
-    taken_on false false true false ts us = refl
-    taken_on false false true true true us = refl
-    taken_on false false true true false us = refl
+    taken_on = grind (arith, nat_tests)
 
 -- a branch that is taken
 one_taken : (old : Outline) (name : List ℕ) (branch : Branch)
@@ -115,9 +107,7 @@ one_taken old name branch found free = record {
   names = λ x. by_bool (bytes_eq x name)
       (λ w. let e = same_text x name w in rw (look x name (taken branch) old.branches, w, e, found) refl)
       (λ w. rw (look x name (taken branch) old.branches, w) (sym (or-false _)));
-  taken = λ x. by_bool (bytes_eq x name)
-      (λ w. let e = same_text x name w in rw (look x name (taken branch) old.branches, w, e, found, free) refl)
-      (λ w. rw (look x name (taken branch) old.branches, w) (or_nothing _ (is_out x)));
+  taken = grind (arith, nat_tests, same_text, look, or_nothing);
   branches = let e = kept_size name (taken branch) old.branches found in omega (arith, e);
   stages = omega arith;
 }
@@ -134,12 +124,7 @@ words_said old ((k, name) ∷ words) sources after (branch, more, found, free, i
 
 pushed : (old : Outline) (kind : Command) (sources : List ℕ) (options : Options)
     → HaveSaid old (with_stage old kind sources options) (λ x. false) (λ x. false) 0 1
-pushed old kind sources options = record {
-  names = λ x. sym (or-false _);
-  taken = λ x. or_nothing _ (is_out x);
-  branches = omega arith;
-  stages = length-append old.stages (record { command = kind; sources = sources; options = options } ∷ []);
-}
+pushed = grind (arith, common_steps)
 
 stage_said : {is_first is_last : Bool} {old new : Outline} {words : List Word}
     → IsStageOf is_first is_last old words new → HaveSaid old new (λ x. false) (λ x. is_assembled x words) 0 1
@@ -148,10 +133,8 @@ stage_said {is_last = is_last} {old = old} {new = new} h = rw h.whole (by_kind h
     by_kind : (n : ℕ) (words : List Word) (kind : Command) → AddsStage is_last old words kind new
         → HaveSaid old new (λ x. false) (λ x. is_assembled x ((n, word_of kind) ∷ words)) 0 1
     by_kind n words command.Read h = rw h.4 (pushed old _ _ _)
-    by_kind n words command.Assemble (sources, branches, takes, some, bound, is) = rw is
-        (both_said (words_said old words sources branches takes)
-        (pushed (record old { branches = branches }) _ sources _)
-        (λ x. refl) (λ x. sym (or-false _)) refl refl)
+    by_kind n words command.Assemble (sources, branches, takes, some, bound, is) =
+        grind (arith, nat_tests, both_said, words_said, pushed, or-false)
     by_kind n words kind h = rw h.2 (pushed old _ _ _)
 
 pub stages_said : (ends is_first : Bool) (old new : Outline) (stages : List (List Word))
@@ -167,9 +150,7 @@ pub end_said : (line : ℕ) (name : List ℕ) (next : Outline) → branch_of nam
 end_said line name next absent =
     let put : Branch = record { last = length next.stages; taken = is_out name; line = line } in
     record {
-      names = λ x. by_bool (bytes_eq x name)
-          (λ w. rw (look x name put next.branches, w) (sym (or-true _)))
-          (λ w. rw (look x name put next.branches, w) (sym (or-false _)));
+      names = grind (arith, nat_tests, look, or-true, or-false);
       taken = λ x. by_bool (bytes_eq x name)
           (λ w. let e = same_text x name w in rw (look x name put next.branches, w, e, absent) (sym (and-true _)))
           (λ w. rw (look x name put next.branches, w) (or_nothing _ (is_out x)));
@@ -180,8 +161,7 @@ end_said line name next absent =
 -- a name that isn't there is not there behind the stages of a line
 pub stays_new : (x : List ℕ) (ends is_first : Bool) (old next : Outline) (stages : List (List Word))
     → AddStages ends is_first old stages next → branch_of x old.branches ≡ None → branch_of x next.branches ≡ None
-stays_new x ends is_first old next stages h new =
-    not_there _ ((stages_said ends is_first old next stages h).names x ∙ (rw new refl))
+stays_new = grind (arith, nat_tests, not_there, stages_said)
 
 line_said : {old new : Outline} {line : ℕ} {text : List ℕ} → IsBranch old line text new
     → HaveSaid old new (λ x. names_cut x (cut_line text))
@@ -199,8 +179,4 @@ lines_said old new ((line, text) ∷ lines) (next, one, h) =
     both_said (line_said one) (lines_said next new lines h) (λ x. refl) (λ x. refl) (omega arith) (omega arith)
 
 pub say_all : (lines : List (ℕ × List ℕ)) → LinesSayAll lines
-say_all lines old h =
-    let s = lines_said nothing old lines h in
-    let a = s.branches in
-    let b = s.stages in
-    record { names = s.names; taken = s.taken; branches = omega (arith, a); stages = omega (arith, b) }
+say_all = grind (arith, nat_tests, lines_said)

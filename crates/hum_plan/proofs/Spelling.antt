@@ -1,13 +1,12 @@
 -- The words behind a command: what they are answered, and what they spell or which rule they break.
 use Rattle.std.proofs.Common.{◌≡◌, ◌≢◌, ◌↔◌, inl, inr, ℕ, ◌+◌, ◌<◌, ◌≤◌, ◌==◌, ◌&&◌, ◌||◌, not, Bool, true, false}
 use Rattle.std.proofs.Common.{List, [], ◌∷◌, ◌++◌, length, map, Option, None, Some, is_none, Ok, Err, refl, sym, ap}
-use Rattle.std.proofs.Common.{◌∙◌, arith, length-append, append_assoc, if◌then◌else◌}
-use Rattle.std.proofs.Math.Bool.{and-false, or-true}
+use Rattle.std.proofs.Common.{◌∙◌, arith, length-append, append_assoc}
+use Rattle.std.proofs.Math.Bool.{or-true}
 use Rattle.std.proofs.lemmas.List.{append-nil}
 use Rattle.std.proofs.lemmas.Bool.{and_parts, and_from}
 use Rattle.std.proofs.lemmas.Bool.Decides.{nat_tests}
 use Rattle.std.specs.List.{list_all}
-use Rattle.std.specs.Option.{option_or}
 use lib.Chars.{codes}
 use Rattle.hum_score.proofs.Cases.{by_bool}
 use Rattle.hum_choices.specs.Options as meant
@@ -16,13 +15,12 @@ use Rattle.hum_words.specs.declared.commands.Command.{Command}
 use Rattle.hum_words.specs.declared.commands.Command.TheVariants as command
 use Rattle.hum_options.specs.declared.faults.OptionFault.{OptionFault}
 use Rattle.hum_options.specs.Answers.{Word, IsAnswer, is_rid, has_none, text_of_word, rid_answer, rid_of, rid_fault}
-use Rattle.hum_options.specs.Letters.{is_letter_word, has_letter, drops, dropped}
+use Rattle.hum_options.specs.Letters.{is_letter_word, drops, dropped}
 use Rattle.hum_options.specs.Given.{letter}
 use Rattle.hum_options.proofs.Spelled.{read_as_spelled}
 use Rattle.hum_options.proofs.Refusing.{in_order}
 use Rattle.hum_plan.specs.declared.branches.Branch.{Branch}
 use Rattle.hum_plan.specs.declared.faults.PlanFault.{PlanFault}
-use Rattle.hum_plan.specs.declared.faults.PlanRule.TheVariants.{N11}
 use Rattle.hum_plan.specs.Faults.{broken}
 use Rattle.hum_plan.specs.Branches.{Branches, branch_of, with_branch, taken}
 use Rattle.hum_plan.specs.Answers.{Outline, Outcome, Joined, joined, name_joined, branch_joined, names_joined, and_then}
@@ -61,27 +59,14 @@ I = letter (codes "I")
 clear : (is_last : Bool) (words : List Word) → is_none (rid_fault is_last words)
     ≡ (list_all is_letter_word (texts_of words) && (is_last || not (drops I (texts_of words))))
 clear is_last [] = sym (or-true is_last)
-clear is_last ((n, word) ∷ words) =
-    one_more_word (is_letter_word word) (has_letter I word) is_last _ _ _ _ (rid_fault is_last words)
-    (clear is_last words)
-  where
-    one_more_word : (is_letters drop is_last all more : Bool) (f g : OptionFault) (rest : Option OptionFault)
-        → is_none rest ≡ (all && (is_last || not more))
-        → is_none (option_or (if not is_letters then Some f else if not is_last && drop then Some g else None) rest)
-        ≡ ((is_letters && all) && (is_last || not (drop || more)))
-    one_more_word false drop is_last all more f g rest h = refl
-    one_more_word true drop true all more f g rest h = h
-    one_more_word true true false all more f g rest h = sym (and-false all)
-    one_more_word true false false all more f g rest h = h
+clear is_last ((n, word) ∷ words) = grind (arith, nat_tests, clear is_last words)
 
 rid_there : (words : List Word) (found : Option OptionFault) {options : meant.Options} → Ok options ≡ rid_of words found
     → (is_none found ≡ true) × (options ≡ meant.Rid (dropped (texts_of words)))
-rid_there words None h = (refl, (cc))
-rid_there words (Some fault) h = absurd (cc)
+rid_there = grind (arith, nat_tests)
 
 pub none_there : {A : Type 0} {found : Option A} → is_none found ≡ true → found ≡ None
-none_there {found = None} h = refl
-none_there {found = Some fault} h = absurd (cc)
+none_there = grind (arith, nat_tests)
 
 -- The words of a command.
 spelled : (kind : Command) (n : ℕ) (is_last : Bool) (words : List Word) (options : meant.Options)
@@ -211,8 +196,7 @@ names_read line n before ((k, name) ∷ words) most some =
       broken = let count : length before.sources + 0 ≡ length before.sources = omega arith in rw count b;
     })
     one_name (gives (joins {branch} less found free)) rest =
-        let size = length-append before.sources (branch.last ∷ []) in
-        joined_on before found free (rest _ (omega (arith, size)) (omega (arith, size)))
+        grind (arith, nat_tests, length-append, joined_on)
 
 -- names that take branches are passed over
 names_pass : (line n : ℕ) (before : Joined) (front rest : List Word) (sources : List ℕ) (after : Branches)
@@ -231,21 +215,11 @@ names_pass line n before ((k, name) ∷ front) rest sources after (branch, more,
 name_breaks : {line k count : ℕ} {name : List ℕ} (before : Joined) {fault : PlanFault}
     → NameBreaks line k name count before.branches fault
     → count ≡ length before.sources → name_joined line k name before ≡ Err fault
-name_breaks before (sixteenth is) same =
-    let w : (length before.sources == 15) ≡ true = grind (arith, nat_tests) in rw w refl
-name_breaks {line} {k} {name = name} before (not_free less held) same =
-    let w : (length before.sources == 15) ≡ false = grind (arith, nat_tests) in
-    rw w (by_found (branch_of name before.branches) refl)
-  where
-    by_found : (found : Option Branch) → branch_of name before.branches ≡ found
-        → branch_joined line k name before found ≡ Err (broken line k N11)
-    by_found None e = refl
-    by_found (Some branch) e = rw (held branch e) refl
+name_breaks = grind (arith, nat_tests)
 
 at_most : {line k count : ℕ} {name : List ℕ} {branches : Branches} {fault : PlanFault}
     → NameBreaks line k name count branches fault → count ≤ 15
-at_most (sixteenth is) = omega arith
-at_most (not_free less held) = omega arith
+at_most = grind (arith, nat_tests)
 
 -- A command with its words.
 
@@ -259,12 +233,7 @@ module _ (line n : ℕ) (is_last : Bool) (old : Outline) where
 
   read_answers : {words : List Word} {answer : Outcome Outline}
       → CommandReads line n is_last old words command.Read answer → answer ≡ with_read old (name_read line n words)
-  read_answers (gives (k, [], is, some, new)) = absurd (some refl)
-  read_answers (gives (k, b ∷ name, is, some, new)) = rw (new, is) refl
-  read_answers (refuses nothing_read) = refl
-  read_answers (refuses empty_name) = refl
-  read_answers (refuses (one_more {name = []} some)) = absurd (some refl)
-  read_answers (refuses (one_more {name = b ∷ name} some)) = refl
+  read_answers = grind (arith, nat_tests)
 
   assemble_read : (words : List Word) → CommandReads line n is_last old words command.Assemble
       (with_joined old (names_joined line n (joined [] old.branches) words))

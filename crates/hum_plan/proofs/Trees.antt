@@ -1,7 +1,8 @@
 -- The stages of a plan are a tree.
-use Rattle.std.proofs.Common.{◌≡◌, ◌⊎◌, inl, inr, ℕ, zero, suc, ◌+◌, ◌<◌, ◌≤◌, ◌==◌, ◌&&◌, not, Bool, true, false}
-use Rattle.std.proofs.Common.{List, [], ◌∷◌, ◌++◌, length, None, Some, is_some, Ok, slice_get, refl, sym, ap, subst}
-use Rattle.std.proofs.Common.{◌∙◌, if◌then◌else◌, arith, length-append, append_assoc, zero-add}
+use Rattle.std.proofs.lemmas.Grind.{common_steps}
+use Rattle.std.proofs.Common.{◌≡◌, ◌⊎◌, ℕ, suc, ◌+◌, ◌<◌, ◌≤◌, ◌==◌, ◌&&◌, not, Bool, true, false}
+use Rattle.std.proofs.Common.{List, [], ◌∷◌, ◌++◌, length, None, Some, is_some, Ok, slice_get, refl, sym, subst}
+use Rattle.std.proofs.Common.{◌∙◌, if◌then◌else◌, arith, length-append, zero-add}
 use Rattle.std.proofs.Math.Bool.{and-false, and-true}
 use Rattle.std.proofs.lemmas.List.{append-nil}
 use Rattle.std.proofs.lemmas.Bool.{eq-eqb, false≢true, both_ways, false_from_ne_true}
@@ -13,7 +14,6 @@ use Rattle.std.specs.Prelude.{IsSome, nat_le}
 use Rattle.std.specs.Str.{bytes_eq}
 use lib.Chars.{codes}
 use Rattle.hum_score.proofs.Cases.{by_bool}
-use Rattle.hum_words.specs.Branches.{branches_of}
 use Rattle.hum_words.specs.declared.commands.Command.{Command}
 use Rattle.hum_words.specs.declared.commands.Command.TheVariants as command
 use Rattle.hum_options.specs.Answers.{Word}
@@ -56,19 +56,13 @@ all_that_come P (x ∷ xs) h =
 sources_append : (stages : List Stage) (stage : Stage)
     → all_sources (stages ++ stage ∷ []) ≡ all_sources stages ++ stage.sources
 sources_append [] stage = append-nil stage.sources
-sources_append (first ∷ stages) stage =
-    rw (sources_append stages stage) (sym (append_assoc first.sources (all_sources stages) stage.sources))
+sources_append (first ∷ stages) stage = grind (arith, common_steps, sources_append stages stage)
 
 -- an element behind one more
 last_or_before : {A : Type 0} (xs : List A) (y : A) (k : ℕ) (x : A) → slice_get (xs ++ y ∷ []) k ≡ Some x
     → (slice_get xs k ≡ Some x) ⊎ ((k ≡ length xs) × (x ≡ y))
-last_or_before [] y zero x h = inr (refl, sym (same_Some y x h))
-last_or_before [] y (suc k) x h = absurd (cc)
-last_or_before (z ∷ xs) y zero x h = inl h
-last_or_before (z ∷ xs) y (suc k) x h = elim (last_or_before xs y k x h) [
-  | inl p ↦ inl p
-  | inr p ↦ inr (ap suc p.0, p.1)
-]
+last_or_before (z ∷ xs) y (suc k) x h = grind (arith, nat_tests, last_or_before xs y k x h)
+last_or_before xs y k x h = grind (arith, nat_tests)
 
 -- Stages, and ends that are still loose: each number of a stage is a source once, or an end. All give scores, but the
 -- last may give none where it is loud.
@@ -90,22 +84,10 @@ grows is_last stages stage ends next grown room may parts quiet =
     let longer = length-append stages (stage ∷ []) in
     record {
       bound = omega (arith, longer);
-      counts = λ k one h. elim (last_or_before stages stage k one h) [
-        | inl p ↦ grown.counts k one p
-        | inr p ↦ rw p.1 may
-      ];
-      lower = λ k one h. elim (last_or_before stages stage k one h) [
-        | inl p ↦ grown.lower k one p
-        | inr p ↦ rw (p.0, p.1) (all_that_come (λ s. (1 ≤ s) × (s ≤ length stages)) stage.sources
-            (λ n c. among_some (length stages) n (omega (arith, grown.each n, parts n))))
-      ];
-      each = λ n. rw (sources_append stages stage, times_append n (all_sources stages) stage.sources, longer)
-          (omega (arith, grown.each n, parts n, among_more (length stages) n));
-      scores = λ k one h front. elim (last_or_before stages stage k one h) [
-        | inl p ↦ grown.scores k one p (λ e. absurd (false≢true e))
-        | inr p ↦ rw p.1 (quiet (false_from_ne_true is_last
-            (λ e. let less = front e in let last = p.0 in omega (arith, longer))))
-      ];
+      counts = grind (arith, nat_tests, last_or_before);
+      lower = grind (arith, nat_tests, last_or_before, all_that_come, among_some);
+      each = grind (arith, nat_tests, sources_append, times_append, among_more);
+      scores = grind (arith, nat_tests, last_or_before, false≢true, false_from_ne_true);
     }
 
 -- Branches.
@@ -136,9 +118,7 @@ takes_loose before ((k, name) ∷ words) sources after (branch, more, found, fre
 loose_behind : (name : List ℕ) (branch : Branch) (bs : Branches)
     → loose (bs ++ (name, branch) ∷ []) ≡ loose bs ++ (if branch.taken then [] else branch.last ∷ [])
 loose_behind name branch [] = refl
-loose_behind name branch (entry ∷ more) = by_bool entry.1.taken
-    (λ t. rw t (loose_behind name branch more))
-    (λ t. rw t (ap (λ all. entry.1.last ∷ all) (loose_behind name branch more)))
+loose_behind name branch (entry ∷ more) = grind (arith, nat_tests, loose_behind name branch more)
 
 none_loose : (bs : Branches) → first_unused bs ≡ None → loose bs ≡ []
 none_loose [] h = refl
@@ -185,12 +165,7 @@ abbrev IsSound : Outline → Type 0
 IsSound outline = IsGrown (has_out outline) outline.stages (ends_at (not (has_out outline)) outline)
 
 eq_sym : (xs ys : List ℕ) → bytes_eq xs ys ≡ bytes_eq ys xs
-eq_sym xs ys = by_bool (bytes_eq xs ys)
-    (λ w. w ∙ sym (turned xs ys w))
-    (λ w. w ∙ sym (false_from_ne_true _ (λ v. both_ways _ w (turned ys xs v))))
-  where
-    turned : (xs ys : List ℕ) → bytes_eq xs ys ≡ true → bytes_eq ys xs ≡ true
-    turned xs ys w = (bytes_eq-Decides ys xs).1 (sym ((bytes_eq-Decides xs ys).0 w))
+eq_sym = grind (arith, nat_tests, false_from_ne_true, both_ways, bytes_eq-Decides)
 
 -- the branch of a line is entered
 enters : (line : ℕ) (name : List ℕ) (next : Outline) → branch_of name next.branches ≡ None
@@ -223,17 +198,8 @@ lines_sound old new [] h sound = rw h sound
 lines_sound old new ((line, text) ∷ lines) (next, one, h) sound =
     lines_sound next new lines h (line_sound old next line text one sound)
 
-no_stage : {P : Type 0} (k : ℕ) (stage : Stage) → IsStage [] k stage → P
-no_stage k stage h = absurd (cc)
-
 nothing_sound : IsSound nothing
-nothing_sound = record {
-  bound = omega arith;
-  counts = λ k stage h. no_stage k stage h;
-  lower = λ k stage h. no_stage k stage h;
-  each = λ n. grind (arith, nat_tests);
-  scores = λ k stage h. no_stage k stage h;
-}
+nothing_sound = grind (arith, nat_tests)
 
 -- a plan that has come to its end
 ends_as_tree : (whole : Outline) → IsSome (branch_of (codes "out") whole.branches) → first_unused whole.branches ≡ None
@@ -249,16 +215,12 @@ ends_as_tree whole out used sound =
       bound = grown.bound;
       counts = grown.counts;
       lower = grown.lower;
-      once = λ n low high.
-          let other : (m == n) ≡ false = grind (arith, nat_tests) in
-          let total = rw (other, among_one m n low (omega arith)) at (grown.each n) in
-          omega (arith, total);
+      once = grind (arith, nat_tests, among_one);
       scores = λ k stage h front. grown.scores k stage h (λ e. front);
     }
 
 pub has_a_tree : (bytes : List ℕ) → HasATree bytes
-has_a_tree bytes stages plan = rw plan.meaning (ends_as_tree plan.whole plan.out plan.taken
-    (lines_sound nothing plan.whole (branches_of bytes) plan.branches nothing_sound))
+has_a_tree = grind (arith, nat_tests, ends_as_tree, lines_sound, nothing_sound)
 
 -- so the stages of a plan that is answered are a tree
 pub answers_a_tree : (bytes : List ℕ) (stages : List Stage) → PlanAnswer bytes (Ok stages) → IsTree stages

@@ -93,8 +93,7 @@ module _ (line : ℕ) (is_first is_last : Bool) (old : Outline) where
   placed : {n : ℕ} {words : List Word} (kind : Command) {answer : Outcome Outline} → length old.stages < 64
       → is_source kind ≡ is_first → CommandReads line n is_last old words kind answer
       → StageReads line is_first is_last old ((n, word_of kind) ∷ words) answer
-  placed {n = n} {words = words} kind room place (gives h) =
-      gives (record { number = n; kind = kind; behind = words; whole = refl; place = place; room = room; adds = h })
+  placed {n = n} {words = words} kind room place (gives h) = grind (arith, nat_tests, gives)
   placed kind room place (refuses h) = refuses (behind kind room place h)
 
   stage_read : (words : List Word) {answer : Outcome Outline} → is_filled words ≡ true
@@ -115,18 +114,13 @@ module _ (line : ℕ) (is_first is_last : Bool) (old : Outline) where
 
   stage_answers : (words : List Word) {answer : Outcome Outline} → StageReads line is_first is_last old words answer
       → StageAnswer line is_first is_last old words answer
-  stage_answers words (gives h) =
-      rw (h.whole, lt-leb _ _ h.room, command_known h.kind, (fits h.kind).1 h.place)
-      (begins_answers line h.number is_last old h.behind h.kind (gives h.adds))
-  stage_answers words (refuses (too_many many)) =
-      let full : nat_le 64 (length old.stages) ≡ true = grind (arith, nat_tests) in rw full refl
+  stage_answers words (gives h) = grind (arith, nat_tests, lt-leb, command_known, fits, begins_answers, gives)
+  stage_answers words (refuses (too_many many)) = grind (arith, nat_tests)
   stage_answers words (refuses (unknown room none)) = rw (lt-leb _ _ room, not_known none) refl
   stage_answers words (refuses (misplaced kind room apart)) =
-      let place = false_from_ne_true _ (λ w. apart ((fits kind).0 w)) in
-      rw (lt-leb _ _ room, command_known kind, place) refl
+      grind (arith, nat_tests, false_from_ne_true, fits, lt-leb, command_known)
   stage_answers words (refuses (behind {n} {words = more} kind room place h)) =
-      rw (lt-leb _ _ room, command_known kind, (fits kind).1 place)
-      (begins_answers line n is_last old more kind (refuses h))
+      grind (arith, nat_tests, lt-leb, command_known, fits, begins_answers, refuses)
 
 -- The stages of a line.
 
@@ -191,15 +185,13 @@ module _ (line : ℕ) (ends : Bool) where
   )
     where
       at_end : (front : List (List Word)) → ((ends && is_end rest) && is_end front) ≡ (ends && is_end (front ++ rest))
-      at_end [] = and-true _
-      at_end (words ∷ front) = and-false _ ∙ sym (and-false ends)
+      at_end = grind (arith, nat_tests)
 
   stages_answer : (is_first : Bool) (old : Outline) (stages : List (List Word)) {answer : Outcome Outline}
       → StagesRead line ends is_first old stages answer → StagesAnswer line ends is_first old stages answer
   unfolding StagesAnswer
   stages_answer is_first old stages (gives {given = new} h) =
-      subst (λ all. StagesAnswer line ends is_first old all (Ok new)) (append-nil stages)
-      (stages_pass is_first old new stages [] (Ok new) (rw (← and-true ends) at h) refl)
+      grind (arith, nat_tests, append-nil stages, stages_pass is_first old new stages, and-true ends)
   stages_answer is_first old stages (refuses {fault} b) =
       let front = rw (← and-false ends) at b.lawful in
       let one = stage_answers line (is_first && is_end b.front) (ends && is_end b.behind) b.next b.words in
@@ -211,12 +203,10 @@ module _ (line : ℕ) (ends : Bool) where
 -- no stage is found to lack words where each has some
 lacks_none : (n : ℕ) (lacks : Bool) (items : List Item) → is_none (empty_stage n lacks items)
     ≡ ((not lacks || is_filled (words_before_bar items)) && list_all is_filled (groups_behind items))
-lacks_none n true [] = refl
-lacks_none n false [] = refl
-lacks_none n true (item.Bar m ∷ items) = refl
 lacks_none n false (item.Bar m ∷ items) = lacks_none m true items
 lacks_none n true (item.Word m word ∷ items) = lacks_none m false items
 lacks_none n false (item.Word m word ∷ items) = lacks_none m false items
+lacks_none n lacks items = grind (arith, nat_tests)
 
 stages_filled : (ends is_first : Bool) (old new : Outline) (stages : List (List Word))
     → AddStages ends is_first old stages new → list_all is_filled stages ≡ true
@@ -258,19 +248,14 @@ cut_named {text} {name} (item.Word n word ∷ items) cut is =
 
 unnamed : {text name : List ℕ} {items rest : List Item} → cut_line text ≡ Ok items → first_name items ≡ None
     → ¬ IsNamed text name rest
-unnamed {name = name} {items = items} {rest = rest} cut none named =
-    let c = named_cut named in
-    let same : items ≡ item.Word named.number (name ++ 58 ∷ []) ∷ rest = cc in
-    let no : None ≡ Some name = sym none ∙ ap first_name same ∙ c.1 in
-    absurd (cc)
+unnamed {name = name} {items = items} {rest = rest} cut none named = grind (arith, nat_tests, named_cut named)
 
 -- whether a line before has the name, or is `out`
 abbrev is_old : Outline → List ℕ → Bool
 is_old old name = is_some (branch_of (codes "out") old.branches) || is_some (branch_of name old.branches)
 
 pub not_there : {A : Type 0} (x : Option A) → is_some x ≡ false → x ≡ None
-not_there None h = refl
-not_there (Some a) h = absurd (cc)
+not_there = grind (arith, nat_tests)
 
 new_name : {old : Outline} {name : List ℕ} → is_old old name ≡ false → IsNew old name
 new_name h = let p = or_parts _ _ h in record { goes_on = not_there _ p.0; is_new = not_there _ p.1 }
@@ -302,16 +287,8 @@ module _ (line : ℕ) (old : Outline) where
           (λ next answer. answer ≡ Ok (ended line name next))) answer
           → LineReads old line text answer
       by_empty new room (Some n) e h = rw h (refuses (wordless named new room e))
-      by_empty new room None e (Ok next, stages, is) = rw is (gives (record {
-        name = name;
-        items = items;
-        next = next;
-        named = named;
-        is_new = new;
-        room = room;
-        stages = given (stages_read line (is_out name) true old (groups items) (full e) stages);
-        ends = refl;
-      }))
+      by_empty new room None e (Ok next, stages, is) =
+          grind (arith, nat_tests, gives, given, stages_read, full)
       by_empty new room None e (Err fault, stages, is) = rw is (refuses (at_stage named new room e
           (broken_by (stages_read line (is_out name) true old (groups items) (full e) stages))))
 
@@ -429,9 +406,7 @@ text_there bytes h = by_bool (nat_lt longest (length bytes))
 
 no_fault : (bytes : List ℕ) → length bytes ≤ longest → IsUtf8 bytes → fault_of bytes ≡ None
 unfolding fault_of
-no_fault bytes short utf8 =
-    let w : nat_lt longest (length bytes) ≡ false = grind (arith, nat_tests) in
-    rw (w, is_utf8-from_IsUtf8 bytes utf8) refl
+no_fault = grind (arith, nat_tests, is_utf8-from_IsUtf8)
 
 -- a text is a plan, or breaks a rule
 abbrev PlanReads : List ℕ → Outcome (List Stage) → Type 0
@@ -472,19 +447,16 @@ plan_read bytes {answer} h = by_text (fault_of bytes) refl h
         (Then (LinesAnswer nothing (branches_of bytes)) (WholeAnswer (length (lines_of bytes)))) answer
         → PlanReads bytes answer
     by_text (Some fault) e h = rw h (refuses (unread e))
-    by_text None e (Ok whole, lines, h) =
-        whole_read bytes whole e (given (lines_read nothing (branches_of bytes) lines)) h
+    by_text None e (Ok whole, lines, h) = grind (arith, nat_tests, whole_read, given, lines_read)
     by_text None e (Err fault, lines, is) =
         rw is (refuses (at_line e (broken_by (lines_read nothing (branches_of bytes) lines))))
 
 is_there : {A : Type 0} (x : Option A) → IsSome x → is_none x ≡ false
-is_there None h = absurd (cc)
-is_there (Some a) h = refl
+is_there = grind (arith, nat_tests)
 
 whole_fails : {bytes : List ℕ} {fault : PlanFault} → WholeBreaks bytes fault → (all : Outline)
     × AreBranches nothing (branches_of bytes) all × WholeAnswer (length (lines_of bytes)) all (Err fault)
-whole_fails (outless all lines e) = (all, lines, rw e refl)
-whole_fails (unused all lines out e) = (all, lines, rw (is_there _ out, e) refl)
+whole_fails = grind (arith, nat_tests)
 
 plan_answers : (bytes : List ℕ) {answer : Outcome (List Stage)} → PlanReads bytes answer → PlanAnswer bytes answer
 unfolding PlanAnswer

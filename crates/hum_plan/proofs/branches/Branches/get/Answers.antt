@@ -1,7 +1,7 @@
-use Rattle.std.proofs.Common.{◌∙◌}
+use Rattle.std.proofs.lemmas.Bool.Decides.{nat_tests}
+use Rattle.std.proofs.Common.{arith}
 use Rattle.hum_plan.proofs.Entries.{lookup_seen}
 use Rattle.hum_plan.proofs.branches.Branches.get.Goals as goal
 
 pub returns : goal.returns
-returns c = rw (← c.self.view_is)
-    (c.copied.ensures ∙ c.get.ensures.value ∙ lookup_seen c.args.name.now c.self.inside.index.entries)
+returns c = grind (arith, nat_tests, lookup_seen c.args.name.now c.self.inside.index.entries)
