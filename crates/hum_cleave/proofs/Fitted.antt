@@ -1,19 +1,19 @@
 -- What is written of lawful tokens is lawful, and no longer than they are.
-use Rattle.std.proofs.Common.{◌≡◌, ◌≢◌, ◌∙◌, refl, ap, ℕ, suc, ◌+◌, ◌≤◌, Bool, true, false, not, ◌||◌, cond, subst}
+use Rattle.std.proofs.lemmas.Grind.{common_steps}
+use Rattle.std.proofs.Common.{◌≡◌, ◌≢◌, refl, ap, ℕ, ◌+◌, ◌≤◌, Bool, true, false, not, cond}
 use Rattle.std.proofs.Common.{List, [], ◌∷◌, ◌++◌, length, map, arith, rules}
-use Rattle.std.specs.Prelude.{◌==◌, nat_lt, Ok}
+use Rattle.std.specs.Prelude.{◌==◌, Ok}
 use Rattle.std.proofs.lemmas.Bool.Decides.{nat_tests}
 use Rattle.std.specs.List.{list_any, AllByRecursion}
-use Rattle.std.proofs.lemmas.Bool.{and_parts, or_parts, or_from, eqb-true}
+use Rattle.std.proofs.lemmas.Bool.{or_parts}
 use lib.Chars.{codes}
 use Rattle.hum_score.specs.declared.records.SpinedKind.{SpinedKind}
-use Rattle.hum_score.specs.declared.records.SpinedKind.TheVariants.{Local, Interpretation, Values}
-use Rattle.hum_score.specs.Row.{Row, Comment, Spined, tokens_of, text_of, chosen}
+use Rattle.hum_score.specs.declared.records.SpinedKind.TheVariants.{Interpretation, Values}
+use Rattle.hum_score.specs.Row.{Row, Spined, tokens_of, text_of, chosen}
 use Rattle.hum_score.specs.Spelling.{IsToken, IsTokenOf, IsTextOf, has_byte, is_comment, kind_of_token}
 use Rattle.hum_record.specs.Building.{spelled}
 use Rattle.hum_score.specs.Sign.{sign_of, is_join}
 use Rattle.hum_path.specs.Onward.{beginnings}
-use Rattle.hum_score.proofs.Cases.{by_bool}
 use Rattle.hum_columns.specs.Spread.{piece, tokens_in}
 use Rattle.hum_columns.specs.Writing.{Fit}
 use Rattle.hum_columns.proofs.Spreading.{marks}
@@ -21,7 +21,7 @@ use Rattle.hum_columns.proofs.Weights.{weight, no_longer}
 use Rattle.hum_columns.proofs.OneByOne.{Lawful, null_lawful}
 use Rattle.hum_columns.specs.Chosen.{others}
 use Rattle.hum_cleave.specs.Columns.{together}
-use Rattle.hum_cleave.specs.Tokens.{leftmost, comment_of, is_silent, interpretation_of, is_left_out, taken, following, joined, data_of}
+use Rattle.hum_cleave.specs.Tokens.{leftmost, is_silent, interpretation_of, taken, following, data_of}
 use Rattle.hum_columns.specs.Chosen.{each_piece}
 use Rattle.hum_choices.specs.Cleave.{fits_in_token, is_name}
 use Rattle.hum_cleave.specs.Cleave.{pieces, text_told}
@@ -39,105 +39,56 @@ together_map {X} {Y} f one (false ∷ fs) (x ∷ xs) = ap (λ (ys : List Y). f x
 together_map f one fs xs = grind (arith, nat_tests)
 
 pub pieces_tokens : (fs : List Bool) (ts : List (List ℕ)) → tokens_in (pieces fs ts) ≡ together (interpretation_of (chosen fs ts)) fs ts
-pieces_tokens fs ts =
-    together_map (λ p. p.token) (piece false (interpretation_of (chosen fs ts))) fs (each_piece false ts)
-    ∙ ap (λ (us : List (List ℕ)). together (interpretation_of (chosen fs ts)) fs us) (each_tokens false ts)
+pieces_tokens = grind (arith, nat_tests, together_map, each_tokens)
 
 pub pieces_marks : (fs : List Bool) (ts : List (List ℕ)) → marks (pieces fs ts) ≡ together false fs (beginnings false (map sign_of ts))
-pieces_marks fs ts =
-    together_map (λ p. p.begins) (piece false (interpretation_of (chosen fs ts))) fs (each_piece false ts)
-    ∙ ap (λ (bs : List Bool). together false fs bs) (each_marks false ts)
+pieces_marks = grind (arith, nat_tests, together_map, each_marks)
 
 -- lawful tokens
 
 leftmost_is : (P : List ℕ → Type 0) (test : List ℕ → Bool) (other : List ℕ) (ts : List (List ℕ)) → P other → AllByRecursion P ts
     → P (leftmost test other ts)
 leftmost_is P test other [] o h = o
-leftmost_is P test other (t ∷ ts) o h = either (test t) (leftmost_is P test other ts o h.1)
-  where
-    either : (b : Bool) → P (leftmost test other ts) → P (cond b (leftmost test other ts) t)
-    either true more = more
-    either false more = h.0
+leftmost_is P test other (t ∷ ts) o h = grind (arith, nat_tests, leftmost_is P test other ts o h.1)
 
 pub lawful_tokens : (kind : SpinedKind) (row : Row) → row ≡ Spined kind (tokens_of row) → IsTextOf row (text_of row)
     → AllByRecursion (IsToken kind) (tokens_of row) × (length (spelled (tokens_of row)) ≤ 1048576)
-lawful_tokens kind (Comment text) e h = cc
-lawful_tokens kind (Spined other ts) e h =
-    let k : other ≡ kind = cc in (subst (λ (x : SpinedKind). AllByRecursion (IsToken x) ts) k h.2, h.3)
+lawful_tokens = grind (arith, nat_tests)
 
 pub token_lawful : (kind : SpinedKind) (row : Row) (token : List ℕ) → row ≡ Spined kind (tokens_of row) → IsTokenOf row token → IsToken kind token
-token_lawful kind (Comment text) token e h = cc
-token_lawful kind (Spined other ts) token e h = let k : other ≡ kind = cc in subst (λ (x : SpinedKind). IsToken x token) k h
+token_lawful = grind (arith, nat_tests)
 
 -- data
 
 no_byte : (b : ℕ) (xs ys : List ℕ) → has_byte b xs ≡ false → has_byte b ys ≡ false → has_byte b (xs ++ ys) ≡ false
-no_byte b [] ys h k = k
-no_byte b (x ∷ xs) ys h k =
-    let both = or_parts (x == b) (has_byte b xs) h in or_from (x == b) (has_byte b (xs ++ ys)) both.0 (no_byte b xs ys both.1 k)
+no_byte = grind (arith, common_steps)
 
 none_following : (b : ℕ) (text : List ℕ) (ts : List (List ℕ)) → has_byte b text ≡ false
     → AllByRecursion (λ t. has_byte b t ≡ false) ts → has_byte b (following text ts) ≡ false
 none_following b text [] h all = refl
-none_following b text (t ∷ ts) h all =
-    no_byte b text (t ++ following text ts) h (no_byte b t (following text ts) all.0 (none_following b text ts h all.1))
+none_following b text (t ∷ ts) h all = grind (arith, common_steps, none_following b text ts h all.1)
 
 taken_all : (P : List ℕ → Type 0) (before ts : List (List ℕ)) → AllByRecursion P ts → AllByRecursion P (taken before ts)
 taken_all P before [] h = tt
-taken_all P before (t ∷ ts) h = either (is_left_out before t) (taken_all P (before ++ t ∷ []) ts h.1)
-  where
-    either : (b : Bool) → AllByRecursion P (taken (before ++ t ∷ []) ts)
-        → AllByRecursion P (cond b (taken (before ++ t ∷ []) ts) (t ∷ taken (before ++ t ∷ []) ts))
-    either true more = more
-    either false more = (h.0, more)
+taken_all P before (t ∷ ts) h = grind (arith, nat_tests, taken_all P (before ++ t ∷ []) ts h.1)
 
 all_map : (P Q : List ℕ → Type 0) (ts : List (List ℕ)) → ((t : List ℕ) → P t → Q t) → AllByRecursion P ts → AllByRecursion Q ts
 all_map P Q [] f h = tt
 all_map P Q (t ∷ ts) f h = (f t h.0, all_map P Q ts f h.1)
 
 no_exclamation : (b : ℕ) (bs rest : List ℕ) → kind_of_token (b ∷ bs) ≡ Values → is_comment ((b ∷ bs) ++ rest) ≡ false
-no_exclamation b bs rest h = by_bool (is_comment ((b ∷ bs) ++ rest))
-    (λ w.
-    let at : 33 ≡ b = eqb-true 33 b (and_parts _ _ w).0 in
-    let same : (b == 33) ≡ true = rw (← at) refl in
-    absurd (never (rw same at h)))
-    (λ w. w)
-  where
-    never : Local ≡ Values → ⊥
-    never h = cc
+no_exclamation = grind (arith, nat_tests)
 
 begun : (token rest : List ℕ) → IsToken Values token → has_byte 9 rest ≡ false → has_byte 13 rest ≡ false → has_byte 10 rest ≡ false
     → IsToken Values (token ++ rest)
-begun [] rest h tab return feed = absurd (h.filled refl)
-begun (b ∷ bs) rest h tab return feed = record {
-  filled = λ e. cc;
-  one_token = no_byte 9 (b ∷ bs) rest h.one_token tab;
-  one_line = no_byte 13 (b ∷ bs) rest h.one_line return;
-  no_line_end = no_byte 10 (b ∷ bs) rest h.no_line_end feed;
-  of_kind = h.of_kind;
-  no_comment = no_exclamation b bs rest h.of_kind;
-}
+begun = grind (arith, nat_tests, no_byte, no_exclamation)
 
 null_data : IsToken Values (codes ".")
 null_data = record { filled = λ e. cc; one_token = refl; one_line = refl; no_line_end = refl; of_kind = refl; no_comment = refl }
 
 pub data_lawful : (text : List ℕ) (ts : List (List ℕ)) → fits_in_token text ≡ true → AllByRecursion (IsToken Values) ts
     → IsToken Values (data_of text ts)
-data_lawful text ts fits all = from (taken [] ts) (taken_all (IsToken Values) [] ts all)
-  where
-    from : (us : List (List ℕ)) → AllByRecursion (IsToken Values) us → IsToken Values (joined text us)
-    from [] h = null_data
-    from (u ∷ us) h =
-        let out = or_parts (has_byte 9 text) (has_byte 13 text || has_byte 10 text) (not_true _ fits) in
-        let out2 = or_parts (has_byte 13 text) (has_byte 10 text) out.1 in
-        begun u (following text us) h.0
-        (none_following 9 text us out.0 (all_map (IsToken Values) (λ t. has_byte 9 t ≡ false) us (λ t l. l.one_token) h.1))
-        (none_following 13 text us out2.0 (all_map (IsToken Values) (λ t. has_byte 13 t ≡ false) us (λ t l. l.one_line) h.1))
-        (none_following 10 text us out2.1 (all_map (IsToken Values) (λ t. has_byte 10 t ≡ false) us (λ t l. l.no_line_end) h.1))
-      where
-        not_true : (b : Bool) → not b ≡ true → b ≡ false
-        not_true true h = cc
-        not_true false h = refl
+data_lawful = grind (arith, nat_tests, taken_all, null_data, or_parts, begun, none_following, all_map)
 
 -- interpretations
 
@@ -153,36 +104,26 @@ together_lawful b one (true ∷ fs) (t ∷ ts) o h = (o, others_lawful (is_join 
 together_lawful b one (false ∷ fs) (t ∷ ts) o h = (h.0, together_lawful (is_join (sign_of t)) one fs ts o h.1)
 together_lawful b one fs ts h k = grind (arith, nat_tests)
 
-filled_length : (token : List ℕ) → token ≢ [] → 1 ≤ length token
-filled_length [] h = absurd (h refl)
-filled_length (b ∷ bs) h = omega arith
-
 either_weight : (b : Bool) (one t : List ℕ) (ts : List (List ℕ)) → length one + 1 ≤ length t + 1 + weight ts
     → length (cond b one t) + 1 ≤ length t + 1 + weight ts
-either_weight true one t ts h = h
-either_weight false one t ts h = omega arith
+either_weight = grind (arith, nat_tests)
 
 leftmost_weight : (test : List ℕ → Bool) (other t : List ℕ) (ts : List (List ℕ)) → length other ≤ 1
     → AllByRecursion (IsToken Interpretation) (t ∷ ts) → length (leftmost test other (t ∷ ts)) + 1 ≤ weight (t ∷ ts)
-leftmost_weight test other t [] short h =
-    let some = filled_length t h.0.filled in either_weight (test t) other t [] (omega (arith, some, short))
+leftmost_weight test other t [] short h = grind (arith, nat_tests)
 leftmost_weight test other t (u ∷ us) short h =
     let ih = leftmost_weight test other u us short h.1 in
     either_weight (test t) (leftmost test other (u ∷ us)) t (u ∷ us) (omega (arith, ih))
 
 others_weight : (fs : List Bool) (ts : List (List ℕ)) → weight (others fs ts) + weight (chosen fs ts) ≤ weight ts
-others_weight [] ts = omega arith
-others_weight (f ∷ fs) [] = omega arith
 others_weight (true ∷ fs) (t ∷ ts) = let ih = others_weight fs ts in omega (arith, ih)
 others_weight (false ∷ fs) (t ∷ ts) = let ih = others_weight fs ts in omega (arith, ih)
+others_weight fs ts = grind (arith, nat_tests)
 
 together_weight : (one : List ℕ) (fs : List Bool) (ts : List (List ℕ))
     → (1 ≤ length (chosen fs ts) → length one + 1 ≤ weight (chosen fs ts)) → weight (together one fs ts) ≤ weight ts
-together_weight one [] ts h = omega arith
-together_weight one (f ∷ fs) [] h = omega arith
-together_weight one (true ∷ fs) (t ∷ ts) h =
-    let less = others_weight fs ts in let most = h (omega arith) in omega (arith, less, most)
 together_weight one (false ∷ fs) (t ∷ ts) h = let ih = together_weight one fs ts h in omega (arith, ih)
+together_weight one fs ts h = grind (arith, nat_tests, others_weight)
 
 one_weight : (ts : List (List ℕ)) → AllByRecursion (IsToken Interpretation) ts → 1 ≤ length ts → length (interpretation_of ts) + 1 ≤ weight ts
 one_weight [] h some = absurd (omega (arith, some))
@@ -206,30 +147,16 @@ pieces_fit fs row e h =
 -- a record in which no column is cleaved stays
 pub stays : (text : List ℕ) (fs : List Bool) (row : Row) → list_any (λ b. b) fs ≡ false → AsWide fs row → IsTextOf row (text_of row)
     → is_interpretation row ≡ false → text_told text fs row ≡ Ok (row ∷ [])
-stays text fs (Spined Local ts) none wide h other =
-    let most = h.3 in
-    let short : nat_lt 1048576 (length (spelled ts)) ≡ false = grind (arith, nat_tests, most) in
-    rw (together_none (comment_of (chosen fs ts)) fs ts wide none, short) refl
-stays text fs (Spined Values ts) none wide h other =
-    let most = h.3 in
-    let short : nat_lt 1048576 (length (spelled ts)) ≡ false = grind (arith, nat_tests, most) in
-    rw (together_none (data_of text (chosen fs ts)) fs ts wide none, short) refl
-stays text fs row h k w e = grind (arith, nat_tests)
+stays = grind (arith, nat_tests, together_none)
 
 pub some_tokens : (kind : SpinedKind) (row : Row) → row ≡ Spined kind (tokens_of row) → IsTextOf row (text_of row) → tokens_of row ≢ []
-some_tokens kind (Comment text) e h = cc
-some_tokens kind (Spined other ts) e h = h.1
+some_tokens = grind (arith, nat_tests)
 
 pub no_bytes : (xs : List ℕ) → (length xs == 0) ≡ true → xs ≡ []
-no_bytes [] h = refl
-no_bytes (x ∷ xs) h = absurd (nothing (length xs) h)
-  where
-    nothing : (n : ℕ) → (suc n == 0) ≡ true → ⊥
-    nothing n h = grind (arith, nat_tests)
+no_bytes = grind (arith, common_steps)
 
 pub some_bytes : (xs : List ℕ) → (length xs == 0) ≡ false → xs ≢ []
-some_bytes [] h e = cc
-some_bytes (x ∷ xs) h e = cc
+some_bytes = grind (arith, nat_tests)
 
 pub chosen_lawful : (fs : List Bool) (ts : List (List ℕ)) → AllByRecursion (IsToken Values) ts → AllByRecursion (IsToken Values) (chosen fs ts)
 chosen_lawful = chosen_all (IsToken Values)

@@ -1,6 +1,8 @@
 -- Data tokens that are joined, one by one.
-use Rattle.std.proofs.Common.{◌≡◌, ◌∙◌, refl, sym, ap, ℕ, zero, suc, ◌+◌, ◌<◌, ◌≤◌, Bool, true, false, cond}
-use Rattle.std.proofs.Common.{List, [], ◌∷◌, ◌++◌, length, map, drop, take, get_or, arith, add-one, append_assoc, append-nil}
+use Rattle.std.proofs.lemmas.Grind.{common_steps}
+use Rattle.std.proofs.lemmas.Bool.Decides.{nat_tests}
+use Rattle.std.proofs.Common.{◌≡◌, refl, ap, ℕ, suc, ◌+◌, ◌<◌, ◌≤◌, Bool, true, false, cond}
+use Rattle.std.proofs.Common.{List, [], ◌∷◌, ◌++◌, length, map, drop, take, get_or, arith, add-one, append-nil}
 use Rattle.std.specs.List.{list_any}
 use Rattle.std.proofs.lemmas.List.{drop_all}
 use lib.Chars.{codes}
@@ -16,12 +18,9 @@ so_far text (byte ∷ bytes) tokens = (byte ∷ bytes) ++ following text tokens
 chosen_take : {X : Type 0} (fs : List Bool) (xs : List X) (j : ℕ) (d : X) → j < length fs → length fs ≡ length xs
     → chosen (take (suc j) fs) (take (suc j) xs)
     ≡ chosen (take j fs) (take j xs) ++ cond (get_or fs j false) (get_or xs j d ∷ []) []
-chosen_take [] xs j d h e = absurd (omega (arith, h))
-chosen_take (f ∷ fs) [] j d h e = absurd (omega (arith, e))
-chosen_take (true ∷ fs) (x ∷ xs) zero d h e = refl
-chosen_take (false ∷ fs) (x ∷ xs) zero d h e = refl
 chosen_take {X} (true ∷ fs) (x ∷ xs) (suc j) d h e = ap (λ (ys : List X). x ∷ ys) (chosen_take fs xs j d (omega (arith, h)) (omega (arith, e)))
 chosen_take (false ∷ fs) (x ∷ xs) (suc j) d h e = chosen_take fs xs j d (omega (arith, h)) (omega (arith, e))
+chosen_take fs xs j d h k = grind (arith, nat_tests)
 
 -- what is left to take, from place j on
 abbrev pub taken_from : List Bool → List (List ℕ) → ℕ → List (List ℕ)
@@ -49,29 +48,20 @@ takes fs ts j h e on out =
 
 pub adds : (text before token : List ℕ) (rest : List (List ℕ)) → (token ≡ [] → ⊥)
     → so_far text (added text before token) rest ≡ so_far text before (token ∷ rest)
-adds text [] [] rest some = absurd (some refl)
-adds text [] (b ∷ bs) rest some = refl
-adds text (b ∷ bs) token rest some =
-    append_assoc ((b ∷ bs) ++ text) token (following text rest) ∙ append_assoc (b ∷ bs) text (token ++ following text rest)
+adds = grind (arith, common_steps)
 
 -- what each cleaved column has
 
 mapped_skips : {X Y : Type 0} (f : X → Y) (fs : List Bool) (xs : List X) (j : ℕ) → j < length fs → length fs ≡ length xs
     → get_or fs j false ≡ false → chosen (drop (suc j) fs) (map f (drop (suc j) xs)) ≡ chosen (drop j fs) (map f (drop j xs))
-mapped_skips f [] xs j h e off = absurd (omega (arith, h))
-mapped_skips f (g ∷ fs) [] j h e off = absurd (omega (arith, e))
-mapped_skips f (true ∷ fs) (x ∷ xs) zero h e off = cc
-mapped_skips f (false ∷ fs) (x ∷ xs) zero h e off = refl
 mapped_skips f (g ∷ fs) (x ∷ xs) (suc j) h e off = mapped_skips f fs xs j (omega (arith, h)) (omega (arith, e)) off
+mapped_skips f fs xs j h k w = grind (arith, nat_tests)
 
 mapped_next : {X Y : Type 0} (f : X → Y) (fs : List Bool) (xs : List X) (j : ℕ) (d : X) → j < length fs → length fs ≡ length xs
     → get_or fs j false ≡ true
     → chosen (drop j fs) (map f (drop j xs)) ≡ f (get_or xs j d) ∷ chosen (drop (suc j) fs) (map f (drop (suc j) xs))
-mapped_next f [] xs j d h e on = absurd (omega (arith, h))
-mapped_next f (g ∷ fs) [] j d h e on = absurd (omega (arith, e))
-mapped_next f (true ∷ fs) (x ∷ xs) zero d h e on = refl
-mapped_next f (false ∷ fs) (x ∷ xs) zero d h e on = cc
 mapped_next f (g ∷ fs) (x ∷ xs) (suc j) d h e on = mapped_next f fs xs j d (omega (arith, h)) (omega (arith, e)) on
+mapped_next f fs xs j d h k w = grind (arith, nat_tests)
 
 module _ {Y : Type 0} (p : Y → Bool) (f : List ℕ → Y) (fs : List Bool) (ts : List (List ℕ)) (j : ℕ) (h : j < length fs) (e : length fs ≡ length ts) where
   pub any_skips : get_or fs j false ≡ false
@@ -98,21 +88,15 @@ module _ (test : List ℕ → Bool) (other : List ℕ) (fs : List Bool) (ts : Li
       → leftmost test other (chosen (drop (j + 1) fs) (drop (j + 1) ts)) ≡ leftmost test other (chosen (drop j fs) (drop j ts))
   left_passes on out = rw add-one (rw (chosen_at fs ts j [] h e, on) (rw out refl))
 
-chosen_nothing : {X : Type 0} (fs : List Bool) (xs : List X) (j : ℕ) → length fs ≤ j → chosen (drop j fs) (drop j xs) ≡ []
-chosen_nothing fs xs j h = rw (drop_all j fs h) refl
-
 -- all columns were passed, and what was taken is there
 pub all_taken : (text so : List ℕ) (fs : List Bool) (ts : List (List ℕ)) (j : ℕ) → length fs ≤ j → (so ≡ [] → ⊥)
     → so_far text so (taken_from fs ts j) ≡ data_of text (chosen fs ts) → so ≡ data_of text (chosen fs ts)
-all_taken text [] fs ts j h some e = absurd (some refl)
-all_taken text (b ∷ bs) fs ts j h some e =
-    sym (append-nil (b ∷ bs)) ∙ rw (chosen_nothing fs ts j h) at e
+all_taken = grind (arith, common_steps)
 
 -- all columns were passed, and nothing was taken
 pub none_taken : (text so : List ℕ) (fs : List Bool) (ts : List (List ℕ)) (j : ℕ) → length fs ≤ j → so ≡ []
     → so_far text so (taken_from fs ts j) ≡ data_of text (chosen fs ts) → codes "." ≡ data_of text (chosen fs ts)
-none_taken text [] fs ts j h none e = rw (chosen_nothing fs ts j h) at e
-none_taken text (b ∷ bs) fs ts j h none e = cc
+none_taken = grind (arith, common_steps)
 
 -- what stands to the left of the next place
 pub front_passes : (fs : List Bool) (ts : List (List ℕ)) (j : ℕ) → j < length fs → length fs ≡ length ts → get_or fs j false ≡ false

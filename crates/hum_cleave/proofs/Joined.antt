@@ -1,5 +1,6 @@
 -- Joins that aren't torn stay joins beside the one column.
-use Rattle.std.proofs.Common.{◌≡◌, ◌∙◌, refl, sym, ℕ, Bool, true, false, ◌&&◌, List, [], ◌∷◌, length, map, arith}
+use Rattle.std.proofs.lemmas.Bool.Decides.{nat_tests}
+use Rattle.std.proofs.Common.{◌≡◌, ◌∙◌, refl, sym, ℕ, Bool, true, false, List, [], ◌∷◌, length, map, arith}
 use Rattle.std.proofs.lemmas.Bool.{or_parts, false≢true}
 use Rattle.hum_score.specs.declared.spines.Sign.{Sign}
 use Rattle.hum_score.specs.declared.spines.Sign.TheVariants.{Plain}
@@ -8,19 +9,16 @@ use Rattle.hum_score.specs.Rules.{first_is, has_lone_join, has_mixed_join}
 use Rattle.hum_columns.specs.Spread.{piece}
 use Rattle.hum_columns.proofs.Spreading.{next_goes_on, Formed}
 use Rattle.hum_columns.proofs.TornJoins.{torn_start}
-use Rattle.hum_columns.proofs.ChosenJoins.{join_too, goes, begins_well, goes_well, others_formed, mixed_start}
+use Rattle.hum_columns.proofs.ChosenJoins.{begins_well, goes_well, others_formed, mixed_start}
 use Rattle.hum_cleave.specs.Columns.{together}
-use Rattle.hum_columns.specs.Chosen.{differ, is_torn, each_piece}
+use Rattle.hum_columns.specs.Chosen.{is_torn, each_piece}
 
 next_together : (one : List ℕ) (s : Sign) (fs : List Bool) (ts : List (List ℕ)) → length fs ≡ length ts → is_join s ≡ true
     → first_is is_join (map sign_of ts) ≡ true
     → is_torn (false ∷ fs) (s ∷ map sign_of ts) ≡ false → next_goes_on (together (piece false one) fs (each_piece (is_join s) ts)) ≡ true
 next_together one s fs [] len join first torn = absurd (false≢true first)
 next_together one s [] (t ∷ ts) len join first torn = absurd (omega (arith, len))
-next_together one s (g ∷ fs) (t ∷ ts) len join first torn =
-    let here = (or_parts (is_join s && (is_join (sign_of t) && differ false g)) (is_torn (g ∷ fs) (map sign_of (t ∷ ts))) torn).0 in
-    let with = join_too (is_join s) (is_join (sign_of t)) false g join first here in
-    rw with (goes (is_join s) (is_join (sign_of t)) join first)
+next_together one s (g ∷ fs) (t ∷ ts) len join first torn = grind (arith, nat_tests)
 
 together_formed : (one new_name : List ℕ) → is_join (sign_of one) ≡ false → (f : Bool) (s : Sign) (name : List ℕ) (b : Bool) (before : List ℕ)
     (fs : List Bool) (ts ns : List (List ℕ))
@@ -46,16 +44,7 @@ together_formed one new_name o f s name b before (false ∷ fs) (t ∷ ts) (n �
       ),
     )
 together_formed one new_name o f s name b before (true ∷ fs) (t ∷ ts) (n ∷ ns) len wide torn lone mixed at =
-    let signs = map sign_of ts in
-    let tear = or_parts _ (is_torn (true ∷ fs) (sign_of t ∷ signs)) torn in
-    let alone = or_parts _ (has_lone_join (is_join (sign_of t)) signs) lone in
-    let mix = or_parts _ (has_mixed_join (n ∷ ns) (sign_of t ∷ signs)) mixed in (
-      λ e. absurd (false≢true e),
-      (
-        λ e. absurd (false≢true (rw o at e)),
-        others_formed (sign_of t) n (is_join (sign_of one)) new_name fs ts ns (omega (arith, len)) (omega (arith, wide)) tear.1 alone.1 mix.1,
-      ),
-    )
+    grind (arith, nat_tests, or_parts, false≢true, others_formed)
 together_formed one new_name o f s name b before fs ts ns len wide torn lone mixed at = absurd (omega (arith, len, wide))
 
 -- The tokens are formed, where no join is torn, lone or mixed.

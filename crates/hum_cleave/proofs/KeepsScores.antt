@@ -1,5 +1,5 @@
 -- What is cleaved of a score is a score.
-use Rattle.std.proofs.Common.{◌≡◌, ◌∙◌, refl, sym, ap, ℕ, ◌==◌, Bool, true, false, not, ◌&&◌, List, [], ◌∷◌, length, map}
+use Rattle.std.proofs.Common.{◌≡◌, refl, ap, ℕ, ◌==◌, Bool, true, false, not, ◌&&◌, List, [], ◌∷◌, length, map}
 use Rattle.std.proofs.Common.{arith}
 use Rattle.std.specs.Prelude.{None, Ok}
 use Rattle.std.specs.List.{list_all, find}
@@ -44,8 +44,7 @@ named name h =
     }
   where
     filled : (name : List ℕ) → is_exclusive (sign_of name) ≡ true → (length name == 0) ≡ false
-    filled [] h = absurd (false≢true h)
-    filled (b ∷ bs) h = grind (arith, nat_tests)
+    filled = grind (arith, nat_tests)
 
 one_made : (kind : SpinedKind) (us : List (List ℕ)) (rows : List Row) → one_record kind us ≡ Ok rows → Spined kind us ∷ [] ≡ rows
 one_made = grind (arith, nat_tests)
@@ -56,13 +55,7 @@ text_merged : (name one : List ℕ) (fs : List Bool) (kind : SpinedKind) (names 
     → find (breaks_as_text (Spines names) tokens) in_order ≡ None → together one fs tokens ≡ us
     → Reach (Spines (together name fs names)) (Spined kind us ∷ []) (Spines (together name fs names))
 text_merged name one fs kind names tokens [] is len other h e =
-    let wide = text_width (Spines names) tokens h in
-    let none = ap length (together_filled one fs tokens (omega (arith, len, wide)) e) in
-    let some = (text_parts names tokens h).0 in
-    absurd (let l : length names ≡ 0 = omega (arith, none, wide) in false≢true (sym some ∙ zero_length names l))
-  where
-    zero_length : (ns : List (List ℕ)) → length ns ≡ 0 → (length ns == 0) ≡ true
-    zero_length ns l = rw l refl
+    grind (arith, nat_tests, text_width, together_filled, text_parts, false≢true)
 text_merged name one fs kind names tokens (u ∷ us) is len other h e =
     let size = together_length one name fs tokens names (text_width (Spines names) tokens h) in
     let same = ap length e in
@@ -81,27 +74,19 @@ others_exclusive fs ts h = refl
 together_exclusive : (one : List ℕ) (fs : List Bool) (ts : List (List ℕ)) → is_exclusive (sign_of one) ≡ true
     → list_all is_exclusive (map sign_of ts) ≡ true → list_all is_exclusive (map sign_of (together one fs ts)) ≡ true
 together_exclusive one (true ∷ fs) (t ∷ ts) o h =
-    let both = and_parts (is_exclusive (sign_of t)) (list_all is_exclusive (map sign_of ts)) h in
-    and_from (is_exclusive (sign_of one)) (list_all is_exclusive (map sign_of (others fs ts))) o (others_exclusive fs ts both.1)
+    grind (arith, nat_tests, and_parts, and_from, others_exclusive)
 together_exclusive one (false ∷ fs) (t ∷ ts) o h =
     let both = and_parts (is_exclusive (sign_of t)) (list_all is_exclusive (map sign_of ts)) h in
     and_from (is_exclusive (sign_of t)) (list_all is_exclusive (map sign_of (together one fs ts))) both.0 (together_exclusive one fs ts o both.1)
 together_exclusive one fs ts o h = refl
 
 together_opens : (name : List ℕ) (fs : List Bool) (tokens : List (List ℕ)) → IsNamed name → Opens tokens → Opens (together name fs tokens)
-together_opens name fs tokens is h = record {
-  exclusive = together_exclusive name fs tokens is.exclusive h.exclusive;
-  bare = together_lacks (bytes_eq (codes "**")) name fs tokens is.bare h.bare;
-  few = let most = h.few in let fewer = together_fewer name fs tokens in omega (arith, most, fewer);
-}
+together_opens = grind (arith, nat_tests, together_exclusive, together_lacks, together_fewer)
 
 open_merged : (options : Options) (tokens : List (List ℕ)) (rows : List Row) → IsNamed options.new_name → Opens tokens
     → opened options tokens ≡ Ok rows
     → Reach Unopened rows (Spines (together options.new_name (opening_flags options.name tokens) tokens))
-open_merged options tokens rows is h e =
-    let us = together options.new_name (opening_flags options.name tokens) tokens in
-    rw (← one_made Interpretation us rows e)
-    (opening_reaches us (together_opens options.new_name (opening_flags options.name tokens) tokens is h))
+open_merged = grind (arith, nat_tests, one_made, opening_reaches, together_opens)
 
 cleave_selects : (options : Options) → IsNamed options.new_name → Selects (column_command options) (together options.new_name)
 cleave_selects options is = record {
@@ -121,5 +106,4 @@ cleave_selects options is = record {
 
 -- The command cleave makes scores of scores.
 pub cleave_keeps : (options : Options) → is_name options.new_name ≡ true → KeepsScore (λ p. limit 4294967295 (decisions (cleave options) [] p))
-cleave_keeps options is =
-    columns_keep (column_command options) (together options.new_name) (cleave_selects options (named options.new_name is))
+cleave_keeps = grind (arith, nat_tests, columns_keep, cleave_selects, named)

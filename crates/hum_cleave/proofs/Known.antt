@@ -1,29 +1,23 @@
 -- Barlines that are known.
+use Rattle.std.proofs.Common.{arith}
 use Rattle.std.proofs.Common.{◌≡◌, ◌∙◌, refl, sym, ap, ℕ, Bool, true, false, cond, ◌||◌, not, List, [], ◌∷◌, map, subst}
 use denote.Bor.{Bor}
 use Rattle.std.specs.List.{list_any}
 use Rattle.std.specs.Str.{bytes_eq}
-use Rattle.std.proofs.Math.Bool.{or_comm}
-use Rattle.std.proofs.lemmas.Bool.Decides.{Decides-like}
+use Rattle.std.proofs.lemmas.Bool.Decides.{nat_tests}
 use Rattle.std.proofs.lemmas.List.Folds.{list_any-append}
 use Rattle.std.proofs.lemmas.Slice.Eq.{bytes_eq-Decides}
-use Rattle.std.specs.Bool.{one_answer}
 use Rattle.hum_record.specs.Contents.{is_null, is_barline}
 use Rattle.hum_cleave.specs.Tokens.{is_left_out}
 use Rattle.hum_cleave.specs.Barlines.{Tells}
 
 pub bytes_eq_sym : (a b : List ℕ) → bytes_eq a b ≡ bytes_eq b a
-bytes_eq_sym a b = one_answer (bytes_eq a b) (bytes_eq b a) (bytes_eq-Decides a b)
-    (Decides-like (bytes_eq b a) (λ (e : b ≡ a). sym e) (λ (e : a ≡ b). sym e) (bytes_eq-Decides b a))
+bytes_eq_sym = grind (arith, nat_tests, bytes_eq-Decides)
 
 any_seen : (token : List ℕ) (keys : List (Bor (List ℕ)))
     → list_any (λ k. bytes_eq token k.now) keys ≡ list_any (bytes_eq token) (map (λ k. k.now) keys)
 any_seen token [] = refl
 any_seen token (k ∷ keys) = ap (λ b. bytes_eq token k.now || b) (any_seen token keys)
-
-one_more : (same kept before : Bool) → kept ≡ before → cond same true kept ≡ (before || (same || false))
-one_more true kept before h = or_comm true before
-one_more false kept before h = h ∙ or_comm false before
 
 -- keys that one more is put among
 abbrev pub Puts : List (Bor (List ℕ)) → List (Bor (List ℕ)) → Bor (List ℕ) → Type 0
@@ -32,8 +26,7 @@ Puts old new token =
     ≡ cond (bytes_eq token.now k.now) true (list_any (λ q. bytes_eq k.now q.now) old)
 
 again : (same rest : Bool) → (same || rest) ≡ ((same || rest) || (same || false))
-again true rest = refl
-again false rest = sym (or_comm rest false)
+again = grind (arith, nat_tests)
 
 tells_same : (token : List ℕ) (rest : List (List ℕ)) → is_null token ≡ false
     → is_barline token ≡ true → Tells (token ∷ rest) (token ∷ rest) token true
@@ -53,8 +46,7 @@ tells_again first token rest e filled bar =
     (sym ((bytes_eq-Decides first token).0 e)) (tells_same token rest filled bar)
 
 beside : (first same kept : Bool) → (first || cond same true kept) ≡ ((first || kept) || (same || false))
-beside true same kept = refl
-beside false same kept = one_more same kept kept refl
+beside = grind (arith, nat_tests)
 
 -- one that isn't the first
 pub tells_other : (first : List ℕ) (old new : List (Bor (List ℕ))) (token : Bor (List ℕ)) (is_new : Bool)
@@ -72,5 +64,4 @@ tells_other first old new token is_new apart puts is filled bar before knows = (
   where
     answer : (known : Bool) → known ≡ list_any (bytes_eq token.now) before → is_new ≡ not known
         → not is_new ≡ is_left_out before token.now
-    answer true h e = rw (filled, bar, e) h
-    answer false h e = rw (filled, bar, e) h
+    answer = grind (arith, nat_tests)

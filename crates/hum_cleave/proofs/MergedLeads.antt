@@ -3,10 +3,8 @@ use Rattle.std.proofs.Common.{◌≡◌, ◌∙◌, refl, ap, ℕ, ◌≤◌, �
 use Rattle.std.proofs.lemmas.Bool.Decides.{nat_tests}
 use Rattle.std.specs.Prelude.{Result, Ok, Err}
 use Rattle.std.specs.List.{list_any}
-use Rattle.std.specs.Str.{bytes_eq}
 use Rattle.std.proofs.lemmas.Bool.{or_parts, or_from}
 use Rattle.std.proofs.lemmas.List.{length-map}
-use lib.Chars.{codes}
 use Rattle.hum_score.specs.declared.spines.Sign.{Sign}
 use Rattle.hum_score.specs.declared.spines.Sign.TheVariants.{End, Plain}
 use Rattle.hum_score.specs.Sign.{sign_of, is_exclusive, is_path_indicator}
@@ -62,8 +60,7 @@ module _ (name : List ℕ) (some : (length name == 0) ≡ false) where
 
   together_unnamed : (sign : Sign) (fs : List Bool) (ns : List (List ℕ)) (ss : List Sign) → has_unnamed ns ss ≡ false
       → has_unnamed (together name fs ns) (together sign fs ss) ≡ false
-  together_unnamed sign (true ∷ fs) (n ∷ ns) (s ∷ ss) h =
-      rw some (others_unnamed fs ns ss (or_parts (stays_unnamed n s) (has_unnamed ns ss) h).1)
+  together_unnamed sign (true ∷ fs) (n ∷ ns) (s ∷ ss) h = grind (arith, nat_tests, others_unnamed, or_parts)
   together_unnamed sign (false ∷ fs) (n ∷ ns) (s ∷ ss) h =
       let both = or_parts (stays_unnamed n s) (has_unnamed ns ss) h in
       or_from (stays_unnamed n s) (has_unnamed (together name fs ns) (together sign fs ss)) both.0 (together_unnamed sign fs ns ss both.1)
@@ -78,8 +75,7 @@ lacks : (p : Sign → Bool) (fs : List Bool) (ts : List (List ℕ)) → p Plain 
 lacks p fs ts o h = one_lacks p (chosen fs ts) o (ap (λ (ss : List Sign). list_any p ss) (chosen_map sign_of fs ts) ∙ h)
 
 pieces_signs : (fs : List Bool) (ts : List (List ℕ)) → signs_in (pieces fs ts) ≡ together (one_sign fs ts) fs (map sign_of ts)
-pieces_signs fs ts =
-    ap (λ (us : List (List ℕ)). map sign_of us) (pieces_tokens fs ts) ∙ together_map sign_of (interpretation_of (chosen fs ts)) fs ts
+pieces_signs = grind (arith, nat_tests, pieces_tokens, together_map)
 
 steers_not : (fs : List Bool) (ts : List (List ℕ)) → is_exclusive (one_sign fs ts) ≡ false → names_and_steers (map sign_of ts) ≡ false
     → names_and_steers (together (one_sign fs ts) fs (map sign_of ts)) ≡ false
@@ -94,8 +90,7 @@ steers_not fs ts o h = by_bool (list_any is_exclusive (map sign_of ts))
     rw left refl)
   where
     never : (b : Bool) → (b && false) ≡ false
-    never true = refl
-    never false = refl
+    never = grind (arith, nat_tests)
 
 pair_of : (xs ys : List ℕ) → length xs ≡ length ys → is_pair_or_none ys ≡ true → is_pair_or_none xs ≡ true
 pair_of xs ys e h = rw e h
@@ -111,16 +106,11 @@ merged_fits name some fs names tokens len keeps m =
     let count = length-map tokens sign_of in
     let exchange = none_moved (chosen fs (map sign_of tokens)) m.unmoved in
     record {
-      formed = pieces_formed one name fs tokens names (not_inner (sign_of one) (one_outer (chosen fs tokens))) len keeps.wide m.whole keeps.lone
-          keeps.mixed;
+      formed = grind (arith, nat_tests, pieces_formed, not_inner, one_outer);
       unnamed = rw signs (together_unnamed name some (one_sign fs tokens) fs names (map sign_of tokens) keeps.unnamed);
-      bare = rw (pieces_tokens fs tokens)
-          (together_lacks (bytes_eq (codes "**")) one fs tokens (not_bare one exclusive) keeps.bare);
+      bare = grind (arith, nat_tests, pieces_tokens, together_lacks, not_bare);
       steers = rw signs (steers_not fs tokens exclusive keeps.steers);
-      pair = rw signs
-          (pair_of _ _
-          (together_exchanges (one_sign fs tokens) 0 0 fs (map sign_of tokens) (omega (arith, len, count)) (not_moved (sign_of one) moved) exchange)
-          keeps.pair);
+      pair = grind (arith, nat_tests, pair_of, together_exchanges, not_moved);
     }
 
 -- The one column goes on with the cleaved ones, or ends with them.
@@ -140,9 +130,7 @@ goes_on_together added name fs ts xs len wide m =
     let ends : one_sign fs ts ≡ End = one_ends (chosen fs ts) (rw inside w) (rw inside all) in
     rw ends (together_ended added name fs (beginnings false ss) ss xs size (omega (arith, count, wide)) (omega (arith, len, count)) all))
     (λ w.
-    let plain : one_sign fs ts ≡ Plain =
-    plain_at (one_sign fs ts) (lacks is_end fs ts refl w) (lacks is_moved fs ts refl m.unmoved) (lacks is_exclusive fs ts refl m.kept)
-    (one_outer (chosen fs ts)) in
+    let plain : one_sign fs ts ≡ Plain = grind (arith, nat_tests, plain_at, lacks, one_outer) in
     rw plain
     (together_onward added name Plain fs ss xs (omega (arith, len, count)) (omega (arith, count, wide)) (torn_start false fs ss m.whole) w))
 

@@ -1,8 +1,8 @@
 -- Columns, place by place.
+use Rattle.std.proofs.lemmas.Grind.{common_steps}
 use Rattle.std.proofs.Common.{◌≡◌, ◌∙◌, refl, sym, ap, ℕ, suc, ◌+◌, ◌<◌, ◌≤◌, Bool, true, false, cond}
-use Rattle.std.proofs.Common.{List, [], ◌∷◌, ◌++◌, length, drop, get_or, arith, add-one, append_assoc, append-nil, subst}
+use Rattle.std.proofs.Common.{List, [], ◌∷◌, ◌++◌, length, drop, get_or, arith, add-one, append_assoc}
 use Rattle.std.proofs.lemmas.Bool.Decides.{nat_tests}
-use Rattle.std.proofs.lemmas.List.{drop_all}
 use Rattle.std.specs.List.{list_any}
 use Rattle.hum_score.specs.declared.records.SpinedKind.{SpinedKind}
 use Rattle.hum_record.specs.Building.{Draft}
@@ -65,19 +65,11 @@ put_none kind one fs ts j done draft long h e on is p = record {
     same : (done : Bool) → done ≡ true
         → cond done (others (drop (suc j) fs) (drop (suc j) ts)) (one ∷ others (drop (suc j) fs) (drop (suc j) ts)) ≡ left_of done one (drop j fs) (drop j ts)
         → left_of done one (drop (suc j) fs) (drop (suc j) ts) ≡ left_of done one (drop j fs) (drop j ts)
-    same true is h = h
-    same false is h = cc
-
-left_nothing : {X : Type 0} (done : Bool) (one : X) (fs : List Bool) (xs : List X) → fs ≡ [] → left_of done one fs xs ≡ []
-left_nothing true one fs xs h = rw h refl
-left_nothing false one fs xs h = rw h refl
+    same = grind (arith, nat_tests)
 
 pub put_all : (kind : SpinedKind) (one : List ℕ) (fs : List Bool) (ts : List (List ℕ)) (j : ℕ) (done : Bool) (draft : Draft) (long : Bool)
     → length fs ≤ j → Put kind one fs ts j done draft long → Holds kind draft long (together one fs ts)
-put_all kind one fs ts j done draft long h p =
-    let nothing = left_nothing done one (drop j fs) (drop j ts) (drop_all j fs h) in
-    let whole : p.made ≡ together one fs ts = sym (append-nil p.made) ∙ rw nothing at p.rest in
-    subst (λ (us : List (List ℕ)). Holds kind draft long us) whole p.holds
+put_all = grind (arith, common_steps)
 
 pub together_filled : (one : List ℕ) (fs : List Bool) (ts : List (List ℕ)) → length fs ≡ length ts → together one fs ts ≡ [] → ts ≡ []
 together_filled one [] [] e h = refl
@@ -89,6 +81,5 @@ together_filled one (false ∷ fs) (t ∷ ts) e h = cc
 -- where none is cleaved
 pub together_none : {X : Type 0} (one : X) (fs : List Bool) (xs : List X) → length fs ≡ length xs → list_any (λ b. b) fs ≡ false
     → together one fs xs ≡ xs
-together_none one [] [] e h = refl
 together_none {X} one (false ∷ fs) (x ∷ xs) e h = ap (λ (ys : List X). x ∷ ys) (together_none one fs xs (omega (arith, e)) h)
-together_none one fs xs h k = grind (arith, nat_tests)
+together_none one fs xs h k = grind (arith, common_steps)

@@ -49,9 +49,7 @@ end_at = grind (arith, nat_tests)
 pub one_ends : (ts : List (List ℕ)) → list_any is_end (map sign_of ts) ≡ true → list_all is_end (map sign_of ts) ≡ true
     → sign_of (interpretation_of ts) ≡ End
 one_ends [] some all = absurd (false≢true some)
-one_ends (t ∷ ts) some all =
-    let here = (and_parts (is_end (sign_of t)) (list_all is_end (map sign_of ts)) all).0 in
-    rw (end_speaks t here) (end_at (sign_of t) here)
+one_ends (t ∷ ts) some all = grind (arith, nat_tests, and_parts, end_speaks, end_at)
 
 pub all_or_none : (ss : List Sign) → ends_apart ss ≡ false → list_any is_end ss ≡ true → list_all is_end ss ≡ true
 all_or_none = grind (arith, nat_tests)
@@ -59,9 +57,7 @@ all_or_none = grind (arith, nat_tests)
 -- not all end where one doesn't
 pub some_fails : {X : Type 0} (p : X → Bool) (xs : List X) → list_any (λ x. not (p x)) xs ≡ not (list_all p xs)
 some_fails p [] = refl
-some_fails p (x ∷ xs) = by_bool (p x)
-    (λ w. rw w (some_fails p xs))
-    (λ w. rw w refl)
+some_fails p (x ∷ xs) = grind (arith, nat_tests, some_fails p xs)
 
 pub plain_at : (s : Sign) → is_end s ≡ false → is_moved s ≡ false → is_exclusive s ≡ false → is_inner s ≡ false → s ≡ Plain
 plain_at = grind (arith, nat_tests)

@@ -1,4 +1,5 @@
-use Rattle.std.proofs.Common.{◌≡◌, ◌∙◌, [], get_or, sym, ap}
+use Rattle.std.proofs.lemmas.Bool.Decides.{nat_tests}
+use Rattle.std.proofs.Common.{◌≡◌, ◌∙◌, [], get_or, sym, ap, arith}
 use Rattle.hum_score.specs.Row.{tokens_of}
 use Rattle.hum_score.specs.Sign.{sign_of}
 use Rattle.hum_cleave.proofs.Gathering.{any_skips, any_fails, any_holds, any_ended}
@@ -28,5 +29,4 @@ loop-j-preserved g c = λ p h.
     ])
 
 pub returns : goal.returns
-returns g c = λ p h.
-    any_ended p sign_of c.args.marks.now (tokens_of c.args.row.now) c.loop-j.j c.loop-j-test.false ∙ c.loop-j.invariant p h
+returns = grind (arith, nat_tests, any_ended)
