@@ -1,4 +1,5 @@
 -- Values with dots, over one bottom.
+use Rattle.std.proofs.lemmas.Bool.Decides.{nat_tests}
 use Rattle.std.proofs.Common.{◌≡◌, ℕ, zero, suc, ◌+◌, ◌*◌, ◌<◌, ◌≤◌, refl, sym, ap, ◌∙◌, arith}
 use Rattle.std.proofs.Math.Nat.{mul_left_comm}
 use native.Mathlib.Nat.{mul_assoc, add-mul, mul-pos}
@@ -48,9 +49,7 @@ one_more f b t u w h e is =
 shared_same : (value : Ratio) (dots : ℕ) → IsSame (shared value dots) (dotted value dots)
 shared_same value zero = refl
 shared_same value (suc dots) =
-    rw (added_top value dots) (one_more (shared value dots).top (shared value dots).bottom value.top
-    (dotted value dots).top (dotted value dots).bottom (2 * (added value dots).bottom)
-    (shared_same value dots) (ap (λ (x : ℕ). 2 * x) (added_bottom value dots)))
+    grind (arith, nat_tests, shared_same value dots, added_top, one_more, added_bottom)
 
 pub shared_positive : (value : Ratio) (dots : ℕ) → 0 < value.bottom → 0 < (shared value dots).bottom
 shared_positive value zero q = q

@@ -1,5 +1,7 @@
 -- Where a pitch was read.
-use Rattle.std.proofs.Common.{◌≡◌, ℕ, suc, ◌+◌, ◌-◌, ◌==◌, ◌≤◌, Bool, true, false, ℤ, List, [], ◌∷◌, ◌++◌}
+use Rattle.std.proofs.lemmas.Grind.{common_steps}
+use Rattle.std.proofs.lemmas.Bool.Decides.{nat_tests}
+use Rattle.std.proofs.Common.{◌≡◌, ℕ, suc, ◌+◌, ◌-◌, ◌==◌, ◌≤◌, Bool, true, false, List, [], ◌∷◌, ◌++◌}
 use Rattle.std.proofs.Common.{Option, Some, None, Result, Ok, Err, length, take, drop, refl, sym, ap, ◌∙◌}
 use Rattle.std.proofs.Common.{subst, arith, rules}
 use Rattle.std.specs.Prelude.{◌||◌, not, if◌then◌else◌, IfOk, IfSome, option_map}
@@ -11,7 +13,7 @@ use Rattle.std.proofs.lemmas.List.Folds.{list_any-append}
 use Rattle.hum_pitch.specs.Pitch.{Spelled, IsPitch}
 use Rattle.hum_pitch.specs.Given.{spelled}
 use Rattle.hum_pitch.specs.declared.pitch.Pitch.{Pitch}
-use Rattle.hum_pitch.specs.Spelling.{run, read_letters, read_accidentals, read_pitch, altered_by, spelling}
+use Rattle.hum_pitch.specs.Spelling.{run, read_accidentals, read_pitch, spelling}
 use Rattle.hum_kern.specs.declared.KernFault.{KernFault}
 use Rattle.hum_kern.specs.declared.KernFault.TheVariants.{K1, K2}
 use Rattle.hum_kern.specs.declared.notes.Note.{Note}
@@ -51,23 +53,14 @@ found_by bytes parts are found p e there = go (is_rest bytes) refl (is_empty par
         (length parts.before + length parts.letters + length parts.signs))) → IsFound bytes parts found p
     go true f b d g x h e = absurd (none cc)
     go false f true d g x h e = absurd (none cc)
-    go false f false true g x h e = cc
-    go false f false false g true h e = cc
-    go false f false false g false h e =
-        let is : found ≡ with_pitch (marks_of bytes) (pitch_of parts.letters parts.signs) (length parts.before)
-        (length parts.before + length parts.letters + length parts.signs) = cc in
-        record { are = are; no_rest = f; clear = g; modest = h; is = is; pitch = ap (λ (r : Reading). r.pitch) (sym is) ∙ there }
+    go false f false false g false h e = grind (arith, nat_tests)
+    go a h b d k x w e = grind (arith, nat_tests)
 
 pub found_in : (bytes : List ℕ) (found : Reading) (p : Spelled) → Ok found ≡ note bytes → found.pitch ≡ Some p → IsFound bytes (notation_of bytes) found p
 found_in bytes found p e there = found_by bytes (notation_of bytes) (are_note_parts bytes) found p e there
 
 text_length : (bytes : List ℕ) (parts : Notation) → AreNoteParts bytes parts → length parts.before + length parts.letters + length parts.signs ≤ length bytes
-text_length bytes parts h =
-    let all = ap length h.text in
-    let one = length-append parts.before (parts.letters ++ (parts.signs ++ parts.left)) in
-    let two = length-append parts.letters (parts.signs ++ parts.left) in
-    let three = length-append parts.signs parts.left in
-    omega arith
+text_length = grind (arith, common_steps)
 
 abbrev StandsIn : List ℕ → Result Reading KernFault → Type 0
 StandsIn bytes read = IfOk read (λ found. (found.start ≤ found.end) × (found.end ≤ length bytes))
@@ -84,9 +77,8 @@ stands bytes = go (is_rest bytes) (is_empty parts.letters) (is_doubtful parts) (
         (length parts.before + length parts.letters + length parts.signs)))
     go true b d x = (omega arith, omega arith)
     go false true d x = (omega arith, omega arith)
-    go false false true x = tt
-    go false false false true = tt
     go false false false false = (omega arith, text_length bytes parts (are_note_parts bytes))
+    go a b d x = grind (arith, nat_tests)
 
 pub within : (bytes : List ℕ) (r : Result Note KernFault) → reading_in r ≡ note bytes → IfOk r (λ found. (found.start ≤ found.end) × (found.end ≤ length bytes))
 within bytes (Ok found) e = subst (StandsIn bytes) (sym e) (stands bytes)
@@ -101,11 +93,9 @@ pub left_is : (bytes : List ℕ) (parts : Notation) → AreNoteParts bytes parts
 left_is bytes parts h =
     let front : List ℕ = parts.before ++ (parts.letters ++ parts.signs) in
     let joined : parts.before ++ (parts.letters ++ (parts.signs ++ parts.left)) ≡ front ++ parts.left =
-    ap (λ (xs : List ℕ). parts.before ++ xs) (sym (append_assoc parts.letters parts.signs parts.left))
-    ∙ sym (append_assoc parts.before (parts.letters ++ parts.signs) parts.left) in
+    grind (arith, nat_tests, append_assoc) in
     let counted : length parts.before + length parts.letters + length parts.signs ≡ length front =
-    let one = length-append parts.before (parts.letters ++ parts.signs) in
-    let two = length-append parts.letters parts.signs in omega arith in
+    grind (arith, nat_tests, length-append) in
     ap (λ (n : ℕ). drop n bytes) counted ∙ ap (drop (length front)) (h.text ∙ joined) ∙ drop-append_seam front parts.left
 
 between_is : (bytes : List ℕ) (parts : Notation) → AreNoteParts bytes parts →
@@ -113,8 +103,7 @@ between_is : (bytes : List ℕ) (parts : Notation) → AreNoteParts bytes parts 
     bytes ≡ parts.letters ++ parts.signs
 between_is bytes parts h =
     let rest : drop (length parts.before) bytes ≡ parts.letters ++ (parts.signs ++ parts.left) =
-    ap (drop (length parts.before)) h.text ∙ drop-append_seam parts.before
-    (parts.letters ++ (parts.signs ++ parts.left)) in
+    grind (arith, nat_tests, drop-append_seam) in
     let counted : (length parts.before + length parts.letters + length parts.signs) - length
     parts.before ≡ length (parts.letters ++ parts.signs) =
     let two = length-append parts.letters parts.signs in omega arith in
@@ -124,9 +113,8 @@ between_is bytes parts h =
 
 run_alone : (b : ℕ) (more rest : List ℕ) → IsMaximal (Repeat b) more rest → run b (more ++ rest) ≡ length more
 unfolding run
-run_alone b [] [] h = refl
-run_alone b [] (x ∷ rest) h = rw h.ends refl
 run_alone b (x ∷ more) rest h = rw h.all_in.0 (ap suc (run_alone b more rest (record { all_in = h.all_in.1; ends = h.ends })))
+run_alone b more rest h = grind (arith, nat_tests)
 
 run_same : (b : ℕ) (more : List ℕ) → list_all (λ (x : ℕ). x == b) more ≡ true → run b more ≡ length more
 unfolding run
@@ -137,9 +125,7 @@ eqb_self : (x : ℕ) → (x == x) ≡ true
 eqb_self x = search rules
 
 as_long : (b : ℕ) (more : List ℕ) → list_all (λ (x : ℕ). x == b) more ≡ true → (run b (b ∷ more) == length (b ∷ more)) ≡ true
-as_long b more h =
-    let all : list_all (λ (x : ℕ). x == b) (b ∷ more) ≡ true = rw (eqb_self b) h in
-    rw (run_same b (b ∷ more) all) (eqb_self (length (b ∷ more)))
+as_long = grind (arith, nat_tests, eqb_self, run_same)
 
 no_sharps : (more : List ℕ) → (run 35 (45 ∷ more) == length (45 ∷ more)) ≡ false
 unfolding run
@@ -157,24 +143,10 @@ flats more h = rw (no_sharps more, as_long 45 more h) refl
 signs_read : (signs : List ℕ) → AllByRecursion (λ (x : ℕ). is_sign x ≡ true) signs → is_uniform signs ≡ true →
     list_any is_natural_sign signs ≡ false → read_accidentals signs ≡ Some (alteration_of signs)
 unfolding read_accidentals run
-signs_read [] all same none = refl
-signs_read (s ∷ signs) all same none = go (s == 35) refl (s == 45) refl (s == 110) refl
-  where
-    IsSame : ℕ → Type 0
-    IsSame b = list_all (λ (x : ℕ). x == b) signs ≡ true
-
-    Reads : ℕ → Type 0
-    Reads b = read_accidentals (b ∷ signs) ≡ Some (alteration_of (b ∷ signs))
-
-    go : (a : Bool) → (s == 35) ≡ a → (b : Bool) → (s == 45) ≡ b → (d : Bool) → (s == 110) ≡ d → Reads s
-    go true e b f d g = let is : s ≡ 35 = search rules in subst Reads (sym is) (sharps signs (subst IsSame is same))
-    go false e true f d g = let is : s ≡ 45 = search rules in subst Reads (sym is) (flats signs (subst IsSame is same))
-    go false e false f true g = let no = (no_more (s == 110) (list_any is_natural_sign signs) none).0 in absurd (let two : true ≡ false = sym g ∙ no in cc)
-    go false e false f false g = absurd (let here = all.0 in let no : is_sign s ≡ false = rw (e, f, g) refl in let two : true ≡ false = sym here ∙ no in cc)
+signs_read = grind (arith, nat_tests, sharps, flats, no_more)
 
 first_ends : (b : ℕ) (signs left : List ℕ) → EndsBefore (Repeat b) (signs ++ left) → EndsBefore (Repeat b) signs
-first_ends b [] left h = tt
-first_ends b (s ∷ signs) left h = h
+first_ends = grind (arith, nat_tests)
 
 run_front : (b : ℕ) (more signs : List ℕ) → IsMaximal (Repeat b) more signs → run b ((b ∷ more) ++ signs) ≡ length (b ∷ more)
 unfolding run
@@ -184,13 +156,7 @@ run_front b more signs h = rw (eqb_self b) (ap suc (run_alone b more signs h))
 pitch_read : (b : ℕ) (more signs : List ℕ) (p : Spelled) → IsMaximal (Repeat b) more signs →
     read_accidentals signs ≡ Some (alteration_of signs) → pitch_of (b ∷ more) signs ≡ Some p →
     read_pitch ((b ∷ more) ++ signs) ≡ Some p
-pitch_read b more signs p h read there =
-    let text : List ℕ = (b ∷ more) ++ signs in
-    let here : run b text ≡ length (b ∷ more) = run_front b more signs h in
-    ap (λ (count : ℕ). altered_by (read_letters b count) (read_accidentals (drop count text))) here
-    ∙ ap (λ (rest : List ℕ). altered_by (read_letters b (length (b ∷ more))) (read_accidentals rest)) (drop-append_seam (b ∷ more) signs)
-    ∙ ap (λ (o : Option ℤ). altered_by (read_letters b (length (b ∷ more))) o) read
-    ∙ there
+pitch_read = grind (arith, nat_tests, run_front, drop-append_seam)
 
 text_read_in : (letters signs left : List ℕ) (p : Spelled) → IsRepeated letters (signs ++ left) →
     AllByRecursion (λ (x : ℕ). is_sign x ≡ true) signs → is_uniform signs ≡ true →
@@ -204,8 +170,7 @@ text_read_in (b ∷ more) signs left p h all same there none =
     pitch_read b more signs p (record { all_in = h.all_in; ends = first_ends b signs left h.ends }) (signs_read signs all same no) there
 
 uniform_of : (b : Bool) → not b ≡ false → b ≡ true
-uniform_of true e = refl
-uniform_of false e = cc
+uniform_of = grind (arith, nat_tests)
 
 read_there : (bytes : List ℕ) (found : Reading) (p : Spelled) → Ok found ≡ note bytes → found.pitch ≡ Some p →
     list_any is_natural_sign (between found.start found.end bytes) ≡ false →
@@ -241,16 +206,10 @@ letters_all (b ∷ more) rest h begins = let letter = uniform_of (is_letter b) b
 
 -- What stands round a pitch that was read is as before, whatever pitch is written there.
 marks_round : (bytes : List ℕ) (parts : Notation) → AreNoteParts bytes parts → marks_of bytes ≡ marks_of (parts.before ++ parts.left)
-marks_round bytes parts h = ap marks_of h.text ∙ marks_beside parts.before parts.letters parts.signs parts.left
-    (letters_all parts.letters (parts.signs ++ parts.left) h.letters h.before.ends) h.signs.all_in
+marks_round = grind (arith, nat_tests, marks_beside, letters_all)
 
 pub is_round : (bytes : List ℕ) (parts : Notation) (found : Reading) (p : Spelled) → IsFound bytes parts found p → IsRound parts.before parts.left
-is_round bytes parts found p h = record {
-  letterless = h.are.before.all_in;
-  no_letter = (no_more (list_any is_letter parts.left) (not (is_uniform parts.signs)) h.clear).0;
-  no_sign = h.are.signs.ends;
-  no_rest = ap (λ (m : Reading). m.rest) (sym (marks_round bytes parts h.are)) ∙ h.no_rest;
-}
+is_round = grind (arith, nat_tests, no_more, marks_round)
 
 -- A pitch that is written in the place of one that was read is read there.
 pub placed_there : (bytes : List ℕ) (found : Reading) (p : Spelled) → Ok found ≡ note bytes →

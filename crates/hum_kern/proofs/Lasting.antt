@@ -1,12 +1,12 @@
 -- A pitch in the place of another one leaves the duration as it is.
+use Rattle.std.proofs.lemmas.Grind.{common_steps}
 use Rattle.std.proofs.Common.{◌≡◌, ◌∙◌, refl, sym, ap, subst, ℕ, suc}
-use Rattle.std.proofs.Common.{◌+◌, ◌-◌, ◌≤◌, ◌==◌, Bool, true, false, ◌&&◌, cond}
+use Rattle.std.proofs.Common.{◌+◌, ◌-◌, ◌==◌, Bool, true, false, ◌&&◌, cond}
 use Rattle.std.proofs.Common.{List, [], ◌∷◌, ◌++◌, length, take, drop, Option, None, Some, Result, Ok, Err, arith}
 use Rattle.std.proofs.Common.{append_assoc, append-nil, length-append}
 use Rattle.std.specs.Prelude.{nat_le, IfOk, IfSome, option_map, if◌then◌else◌}
 use Rattle.std.specs.List.{list_any, AllByRecursion}
 use Rattle.std.proofs.Math.Seq.{drop-append-add}
-use Rattle.std.proofs.lemmas.List.{take-append-le, drop-append-le, length-drop}
 use Rattle.std.proofs.lemmas.Bool.Decides.{nat_tests}
 use Rattle.hum_frac.specs.Ratio.{Ratio, reduced}
 use Rattle.hum_pitch.specs.Pitch.{Spelled, IsPitch}
@@ -26,7 +26,7 @@ use Rattle.hum_kern.specs.Duration.{Spelling, spelling_of, second_of, behind_dig
 use Rattle.hum_kern.specs.Parts.{EndsBefore, IsMaximal}
 use Rattle.hum_kern.specs.Note.{Notation, Reading, pitch_of, marks_of, note, notation_of, reading, reading_in}
 use Rattle.hum_kern.specs.NoteParts.{between, replaced}
-use Rattle.hum_kern.specs.Lasting.{lasting_by, lasting_in, lasting, KeepsDuration}
+use Rattle.hum_kern.specs.Lasting.{lasting_in, lasting, KeepsDuration}
 use Rattle.hum_kern.proofs.Parts.{run_maximal, front-behind, StandsIn, said_stands}
 use Rattle.hum_kern.proofs.Unique.{front_is, behind_is, same}
 use Rattle.hum_kern.proofs.Placing.{are_letters, are_signs, all_in, marks_beside}
@@ -36,8 +36,7 @@ use Rattle.hum_kern.proofs.Found.{found_in, before_is, left_is, letters_all}
 
 ends_more : (class : Class) (rest : List ℕ) (z : ℕ) (more : List ℕ) → EndsBefore class rest → is_in class z ≡ false
     → EndsBefore class (rest ++ (z ∷ more))
-ends_more class [] z more h off = off
-ends_more class (b ∷ rest) z more h off = h
+ends_more = grind (arith, nat_tests)
 
 goes_through : (class : Class) (xs : List ℕ) (z : ℕ) (more : List ℕ) → is_in class z ≡ false
     → IsMaximal class (front (is_in class) xs) (behind (is_in class) xs ++ (z ∷ more))
@@ -77,19 +76,14 @@ tail_through (b ∷ rest) z more h = by (b == 37)
   where
     by : (t : Bool) → cond t (behind (is_in Digit) (rest ++ (z ∷ more))) (b ∷ (rest ++ (z ∷ more)))
         ≡ cond t (behind (is_in Digit) rest) (b ∷ rest) ++ (z ∷ more)
-    by true = behind_through Digit rest z more h.no_digit
-    by false = refl
+    by = grind (arith, nat_tests, behind_through)
 
 abbrev with_more : Spelling → List ℕ → Spelling
 with_more parts more = record parts { left = parts.left ++ more }
 
 filled_through : (xs : List ℕ) (z : ℕ) (more : List ℕ) → is_empty (behind (is_in Other) xs) ≡ false
     → IsMaximal Other (front (is_in Other) xs) (behind (is_in Other) xs ++ (z ∷ more))
-filled_through xs z more some = let m = run_maximal Other xs in record { all_in = m.all_in; ends = by (behind (is_in Other) xs) some m.ends }
-  where
-    by : (rest : List ℕ) → is_empty rest ≡ false → EndsBefore Other rest → EndsBefore Other (rest ++ (z ∷ more))
-    by [] e h = cc
-    by (b ∷ rest) e h = h
+filled_through xs z more some = grind (arith, nat_tests, run_maximal Other xs)
 
 spelling_through : (xs : List ℕ) (z : ℕ) (more : List ℕ) → IsApart z → is_empty (behind (is_in Other) xs) ≡ false
     → spelling_of (xs ++ (z ∷ more)) ≡ with_more (spelling_of xs) (z ∷ more)
@@ -110,41 +104,22 @@ spelling_through xs z more h some =
     (ap (front (is_in Dot)) last ∙ front_through Dot (behind_digits (behind (is_in Digit) rest)) z more h.no_dot)
     (ap (behind (is_in Dot)) last ∙ behind_through Dot (behind_digits (behind (is_in Digit) rest)) z more h.no_dot)
 
-starts_through : (left : List ℕ) (z : ℕ) (more : List ℕ) → IsApart z → starts_with 37 (left ++ (z ∷ more)) ≡ starts_with 37 left
-starts_through [] z more h = h.no_percent
-starts_through (b ∷ left) z more h = refl
-
 abbrev torn_by : Option (List ℕ) → List ℕ → Bool → Bool
 torn_by None dots starts = false
 torn_by (Some second) dots starts = is_empty dots && starts
 
 torn_is : (parts : Spelling) → is_torn parts ≡ torn_by parts.second parts.dots (starts_with 37 parts.left)
-torn_is parts = by parts.second
-  where
-    by : (o : Option (List ℕ)) → is_torn (record parts { second = o }) ≡ torn_by o parts.dots (starts_with 37 parts.left)
-    by None = refl
-    by (Some second) = refl
+torn_is = grind (arith, nat_tests)
 
 said_through : (parts : Spelling) (z : ℕ) (more : List ℕ) → IsApart z → said (with_more parts (z ∷ more)) ≡ said parts
-said_through parts z more h =
-    let torn : is_torn (with_more parts (z ∷ more)) ≡ is_torn parts =
-    torn_is (with_more parts (z ∷ more)) ∙ ap (torn_by parts.second parts.dots) (starts_through parts.left z more h) ∙ sym (torn_is parts) in
-    rw torn refl
+said_through = grind (arith, nat_tests)
 
 -- What parts say, in a text with or without the sign of a grace note.
 abbrev by_grace : Bool → Spelling → Result Length KernFault
 by_grace grace parts = if grace then Ok no_length else if is_empty parts.digits then Ok no_length else said parts
 
-between_front : (start end : ℕ) (xs more : List ℕ) → start ≤ end → end ≤ length xs → between start end (xs ++ more) ≡ between start end xs
-between_front start end xs more low high =
-    let long = length-drop start xs in
-    let fits : end - start ≤ length (drop start xs) = omega (arith, low, high, long) in
-    ap (take (end - start)) (drop-append-le start xs more (omega (arith, low, high)))
-    ∙ take-append-le (end - start) (drop start xs) more fits
-
 in_front : (xs more : List ℕ) (r : Result Length KernFault) → StandsIn xs r → lasting_in (xs ++ more) r ≡ lasting_in xs r
-in_front xs more (Err fault) h = refl
-in_front xs more (Ok found) h = ap (λ (text : List ℕ). Ok (lasting_by found.value text)) (between_front found.start found.end xs more h.0 h.1)
+in_front = grind (arith, common_steps)
 
 lasting_front : (xs : List ℕ) (z : ℕ) (more : List ℕ) → IsApart z → is_empty (behind (is_in Other) xs) ≡ false
     → lasting (xs ++ (z ∷ more)) ≡ lasting_in xs (by_grace (list_any is_grace_sign (xs ++ (z ∷ more))) (spelling_of xs))
@@ -160,9 +135,7 @@ lasting_front xs z more h some =
 
 all_before : (xs ys rest : List ℕ) → AllByRecursion (λ (x : ℕ). is_in Other x ≡ true) xs → IsMaximal Other ys rest
     → IsMaximal Other (xs ++ ys) rest
-all_before [] ys rest h m = m
-all_before (x ∷ xs) ys rest h m =
-    let more = all_before xs ys rest h.1 m in record { all_in = (h.0, more.all_in); ends = more.ends }
+all_before = grind (arith, common_steps)
 
 abbrev put_before : List ℕ → Spelling → Spelling
 put_before xs parts = record parts { before = xs ++ parts.before }
@@ -181,9 +154,7 @@ spelling_behind xs ys h =
     (ap (λ (zs : List ℕ). behind (is_in Dot) (behind_digits (behind (is_in Digit) zs))) from)
 
 between_behind : (start end : ℕ) (xs ys : List ℕ) → between (length xs + start) (length xs + end) (xs ++ ys) ≡ between start end ys
-between_behind start end xs ys =
-    let count : (length xs + end) - (length xs + start) ≡ end - start = omega arith in
-    ap (λ (n : ℕ). take n (drop (length xs + start) (xs ++ ys))) count ∙ ap (take (end - start)) (drop-append-add xs ys start)
+between_behind = grind (arith, nat_tests, drop-append-add)
 
 dots_behind : (xs ys : List ℕ) (start end : ℕ) (o : Option Ratio) (dots : ℕ)
     → lasting_in (xs ++ ys) (with_dots (length xs + start) (length xs + end) o dots) ≡ lasting_in ys (with_dots start end o dots)
@@ -198,10 +169,7 @@ dots_behind xs ys start end (Some value) dots = by (nat_le dots 6)
 
     by : (b : Bool) → lasting_in (xs ++ ys) (there (xs ++ ys) (length xs + start) ((length xs + end) + dots) b)
         ≡ lasting_in ys (there ys start (end + dots) b)
-    by false = refl
-    by true =
-        ap (λ (n : ℕ). Ok (lasting_by (Some (reduced (dotted value dots))) (between (length xs + start) n (xs ++ ys)))) far
-        ∙ ap (λ (text : List ℕ). Ok (lasting_by (Some (reduced (dotted value dots))) text)) (between_behind start (end + dots) xs ys)
+    by = grind (arith, nat_tests, far, between_behind)
 
 said_behind : (xs ys : List ℕ) (parts : Spelling) → lasting_in (xs ++ ys) (said (put_before xs parts)) ≡ lasting_in ys (said parts)
 said_behind xs ys parts =
@@ -226,17 +194,10 @@ said_behind xs ys parts =
     end = omega (arith, start)
 
     there : lasting_in (xs ++ ys) digits ≡ lasting_in ys own
-    there =
-        ap (λ (n : ℕ). lasting_in (xs ++ ys) (with_dots n
-        (length (xs ++ parts.before) + length parts.digits + second_length parts.second) (value_of parts.digits parts.second) (length parts.dots))) start
-        ∙ ap (λ (n : ℕ). lasting_in (xs ++ ys) (with_dots (length xs + length parts.before) n
-        (value_of parts.digits parts.second) (length parts.dots))) end
-        ∙ dots_behind xs ys (length parts.before) (length parts.before + length parts.digits + second_length parts.second)
-        (value_of parts.digits parts.second) (length parts.dots)
+    there = grind (arith, nat_tests, start, end, dots_behind)
 
     by : (b : Bool) → lasting_in (xs ++ ys) (if b then Err K3 else digits) ≡ lasting_in ys (if b then Err K3 else own)
-    by true = refl
-    by false = there
+    by = grind (arith, nat_tests, there)
 
 lasting_behind : (xs ys : List ℕ) → AllByRecursion (λ (x : ℕ). is_in Other x ≡ true) xs
     → lasting (xs ++ ys) ≡ lasting_in ys (by_grace (list_any is_grace_sign (xs ++ ys)) (spelling_of ys))
@@ -247,9 +208,8 @@ lasting_behind xs ys h =
     by : (grace none : Bool)
         → lasting_in (xs ++ ys) (if grace then Ok no_length else if none then Ok no_length else said (put_before xs (spelling_of ys)))
         ≡ lasting_in ys (if grace then Ok no_length else if none then Ok no_length else said (spelling_of ys))
-    by true none = refl
-    by false true = refl
     by false false = said_behind xs ys (spelling_of ys)
+    by grace none = grind (arith, nat_tests)
 
 -- Bytes that no duration holds, one at least.
 record ArePlain (xs : List ℕ) : Type 0 where
@@ -261,8 +221,7 @@ record ArePlain (xs : List ℕ) : Type 0 where
 
 all_one : (xs ys : List ℕ) → AllByRecursion (λ (x : ℕ). is_in Other x ≡ true) xs → AllByRecursion (λ (x : ℕ). is_in Other x ≡ true) ys
     → AllByRecursion (λ (x : ℕ). is_in Other x ≡ true) (xs ++ ys)
-all_one [] ys h k = k
-all_one (x ∷ xs) ys h k = (h.0, all_one xs ys h.1 k)
+all_one = grind (arith, common_steps)
 
 no_digits : (xs : List ℕ) → behind (is_in Other) xs ≡ [] → AllByRecursion (λ (x : ℕ). is_in Other x ≡ true) xs
 no_digits xs e =
@@ -286,16 +245,7 @@ in_either before old new left o n grace = by (behind (is_in Other) before) refl
         (ap (list_any is_grace_sign) one ∙ grace ∙ ap (list_any is_grace_sign) (sym two))
         ∙ sym (lasting_behind (before ++ new) left (all_one before new quiet n.all))
         ∙ ap lasting two
-    by (d ∷ rest) e =
-        let some : is_empty (behind (is_in Other) before) ≡ false = ap is_empty e in
-        let one : before ++ (old ++ left) ≡ before ++ (o.first ∷ (o.more ++ left)) = ap (λ (xs : List ℕ). before ++ (xs ++ left)) o.is in
-        let two : before ++ (new ++ left) ≡ before ++ (n.first ∷ (n.more ++ left)) = ap (λ (xs : List ℕ). before ++ (xs ++ left)) n.is in
-        ap lasting one
-        ∙ lasting_front before o.first (o.more ++ left) o.apart some
-        ∙ ap (λ (b : Bool). lasting_in before (by_grace b (spelling_of before)))
-        (ap (list_any is_grace_sign) (sym one) ∙ grace ∙ ap (list_any is_grace_sign) two)
-        ∙ sym (lasting_front before n.first (n.more ++ left) n.apart some)
-        ∙ ap lasting (sym two)
+    by (d ∷ rest) e = grind (arith, nat_tests, lasting_front)
 
 letter_apart : (x : ℕ) → is_letter x ≡ true → IsApart x
 letter_apart x h = record { no_digit = grind (arith, nat_tests, h); no_dot = grind (arith, nat_tests, h); no_percent = grind (arith, nat_tests, h) }
@@ -325,8 +275,7 @@ plain_pitch (x ∷ letters) signs e h k = record {
 }
 
 some_letter : (letters signs : List ℕ) (p : Spelled) → pitch_of letters signs ≡ Some p → is_empty letters ≡ false
-some_letter [] signs p e = cc
-some_letter (x ∷ letters) signs p e = refl
+some_letter = grind (arith, nat_tests)
 
 pub keeps_there : (bytes : List ℕ) (found : Reading) (p : Spelled) → Ok found ≡ note bytes → found.pitch ≡ Some p → (pitch : Spelled)
     → IsPitch pitch.step pitch.octave pitch.alteration → lasting (take found.start bytes ++ (spelling pitch ++ drop found.end bytes)) ≡ lasting bytes

@@ -1,6 +1,8 @@
 -- Tokens that are one subtoken and begin with their digits.
-use Rattle.std.proofs.Common.{◌≡◌, ℕ, ◌==◌, Bool, true, false, List, [], ◌∷◌, ◌++◌, length, take, drop, refl, sym, ap, ◌∙◌, arith}
-use Rattle.std.proofs.Common.{add-one, rules, not, ◌&&◌}
+use Rattle.std.proofs.lemmas.Grind.{common_steps}
+use Rattle.std.proofs.lemmas.Bool.Decides.{nat_tests}
+use Rattle.std.proofs.Common.{◌≡◌, ℕ, ◌==◌, Bool, true, false, List, [], ◌∷◌, ◌++◌, length, refl, sym, ap, ◌∙◌, arith}
+use Rattle.std.proofs.Common.{add-one, not, ◌&&◌}
 use Rattle.std.specs.List.{list_any, AllByRecursion}
 use Rattle.hum_kern.specs.declared.runs.Class.TheVariants.{Digit, Other}
 use Rattle.hum_kern.specs.Runs.{run, front, behind}
@@ -14,20 +16,11 @@ pub record IsPlain (bytes : List ℕ) : Type 0 where
   pub alone : subtokens bytes ≡ bytes ∷ []
 
 more_plain : (b : ℕ) (bytes : List ℕ) → (b == 32) ≡ false → is_grace_sign b ≡ false → IsPlain bytes → IsPlain (b ∷ bytes)
-more_plain b bytes space grace more = record {
-  graceless = rw (grace, more.graceless) refl;
-  alone = rw (space, more.alone) refl;
-}
+more_plain = grind (arith, nat_tests)
 
 undivided : (bytes : List ℕ) → list_any is_divider bytes ≡ false → IsPlain bytes
 undivided [] none = record { graceless = refl; alone = refl }
-undivided (b ∷ bytes) none = go (undivided bytes) (b == 32) refl (is_grace_sign b) refl
-  where
-    go : (list_any is_divider bytes ≡ false → IsPlain bytes) → (s : Bool) → (b == 32) ≡ s → (g : Bool)
-        → is_grace_sign b ≡ g → IsPlain (b ∷ bytes)
-    go more true e g f = absurd (search rules)
-    go more false e true f = absurd (search rules)
-    go more false e false f = more_plain b bytes e f (more (search rules))
+undivided (b ∷ bytes) none = grind (arith, nat_tests, undivided bytes)
 
 -- a digit is neither
 digit_plain : (b : ℕ) → is_digit b ≡ true → ((b == 32) ≡ false) × (is_grace_sign b ≡ false)
@@ -36,8 +29,7 @@ digit_plain b digit = (grind (arith, digit), grind (arith, digit))
 -- nor is it where digits stand in front
 pub digits_plain : (digits rest : List ℕ) → AllByRecursion (λ b. is_digit b ≡ true) digits → list_any is_divider rest ≡ false → IsPlain (digits ++ rest)
 digits_plain [] rest all none = undivided rest none
-digits_plain (b ∷ digits) rest all none =
-    let plain = digit_plain b all.0 in more_plain b (digits ++ rest) plain.0 plain.1 (digits_plain digits rest all.1 none)
+digits_plain (b ∷ digits) rest all none = grind (arith, nat_tests, digits_plain digits rest all.1 none)
 
 behind_more : (b : ℕ) (bytes : List ℕ) → is_digit b ≡ true
     → behind (is_in Digit) (b ∷ bytes) ≡ behind (is_in Digit) bytes
@@ -50,25 +42,15 @@ leading_plain (b ∷ bytes) none = go (leading_plain bytes) (is_digit b) refl
   where
     go : (list_any is_divider (behind (is_in Digit) bytes) ≡ false → IsPlain bytes) → (t : Bool)
         → is_digit b ≡ t → IsPlain (b ∷ bytes)
-    go more true e =
-        let plain = digit_plain b e in
-        more_plain b bytes plain.0 plain.1 (more (ap (list_any is_divider) (sym (behind_more b bytes e)) ∙ none))
-    go more false e = undivided (b ∷ bytes) (search rules)
+    go = grind (arith, nat_tests, digit_plain, more_plain, behind_more, undivided)
 
 -- What begins with digits has nothing before them.
 begins : (bytes : List ℕ) → is_empty (front (is_in Digit) bytes) ≡ false → run (is_in Other) bytes ≡ 0
-begins [] some = refl
-begins (b ∷ bytes) some = go (is_digit b) refl
-  where
-    go : (t : Bool) → is_digit b ≡ t → run (is_in Other) (b ∷ bytes) ≡ 0
-    go true e = rw e refl
-    go false e = absurd (search rules)
+begins = grind (arith, nat_tests)
 
 leading_spelling : (bytes : List ℕ) → is_empty (front (is_in Digit) bytes) ≡ false
     → spelling_of bytes ≡ spelling [] (front (is_in Digit) bytes) (behind (is_in Digit) bytes)
-leading_spelling bytes some =
-    ap (λ (n : ℕ). spelling (take n bytes) (front (is_in Digit) (drop n bytes)) (behind (is_in Digit) (drop n bytes)))
-    (begins bytes some)
+leading_spelling = grind (arith, nat_tests, begins)
 
 pub leading_duration : (bytes : List ℕ) → is_empty (front (is_in Digit) bytes) ≡ false
     → list_any is_divider (behind (is_in Digit) bytes) ≡ false
@@ -82,14 +64,7 @@ leading_duration bytes some none =
 
 any_behind : (bytes : List ℕ) → list_any is_divider (behind (is_in Digit) bytes) ≡ list_any is_divider bytes
 any_behind [] = refl
-any_behind (b ∷ bytes) = go (any_behind bytes) (is_digit b) refl
-  where
-    go : list_any is_divider (behind (is_in Digit) bytes) ≡ list_any is_divider bytes → (t : Bool) → is_digit b ≡ t
-        → list_any is_divider (behind (is_in Digit) (b ∷ bytes)) ≡ list_any is_divider (b ∷ bytes)
-    go more true e =
-        let plain = digit_plain b e in
-        ap (list_any is_divider) (behind_more b bytes e) ∙ more ∙ rw (plain.0, plain.1) refl
-    go more false e = rw e refl
+any_behind (b ∷ bytes) = grind (arith, common_steps, any_behind bytes)
 
 leads_first : (b : ℕ) (bytes : List ℕ) (t : Bool) → is_digit b ≡ t
     → leads (b ∷ bytes) ≡ (not (is_empty (front (is_in Digit) (b ∷ bytes))) && not (list_any is_divider (b ∷ bytes)))
@@ -98,15 +73,10 @@ leads_first b bytes false e = rw e refl
 
 pub leads_by : (bytes : List ℕ) → leads bytes
     ≡ (not (is_empty (front (is_in Digit) bytes)) && not (list_any is_divider (behind (is_in Digit) bytes)))
-leads_by [] = refl
-leads_by (b ∷ bytes) =
-    leads_first b bytes (is_digit b) refl
-    ∙ ap (λ d. not (is_empty (front (is_in Digit) (b ∷ bytes))) && not d) (sym (any_behind (b ∷ bytes)))
+leads_by = grind (arith, nat_tests, leads_first, any_behind)
 
 pub empty_is : (bytes : List ℕ) → (length bytes == 0) ≡ is_empty bytes
-empty_is [] = refl
-empty_is (b ∷ bytes) = search rules
+empty_is = grind (arith, nat_tests)
 
 pub not_empty : (bytes : List ℕ) → (length bytes == 0) ≡ false → is_empty bytes ≡ false
-not_empty [] some = absurd (search rules)
-not_empty (b ∷ bytes) some = refl
+not_empty = grind (arith, nat_tests)

@@ -1,30 +1,23 @@
 -- Durations that one or two digits at the front of a token tell.
 use Rattle.std.proofs.Common.{◌≡◌, ◌∙◌, ℕ, ◌+◌, ◌-◌, ◌*◌, ◌<◌, ◌≤◌, ◌==◌, List, [], ◌∷◌, length, refl, sym, ap, arith, subst}
 use Rattle.std.proofs.Common.{Bool, true, false, Option, None, Some}
-use Rattle.std.specs.Prelude.{not, nat_lt, nat_le, is_some, IfSome, ◌&&◌, ◌++◌, if◌then◌else◌}
+use Rattle.std.specs.Prelude.{is_some, IfSome, ◌++◌, if◌then◌else◌}
 use Rattle.std.specs.List.{list_any}
-use Rattle.std.proofs.lemmas.Bool.{and_parts}
 use Rattle.std.proofs.lemmas.Bool.Decides.{nat_tests}
 use Rattle.hum_frac.specs.Ratio.{Ratio, reduced}
 use Rattle.hum_kern.specs.declared.runs.Class.TheVariants.{Digit}
 use Rattle.hum_kern.specs.Classes.{is_in, is_digit, is_dot, is_divider, is_rest_sign}
 use Rattle.hum_kern.specs.Runs.{run, front, behind}
-use Rattle.hum_kern.specs.Value.{number, breves, one_by, plain_value}
+use Rattle.hum_kern.specs.Value.{number, plain_value}
 use Rattle.hum_kern.specs.Duration.{spelling, said, duration, value_in, is_refused, is_empty}
-use Rattle.hum_kern.specs.Subtokens.{ends_plainly, ends_shortly, leads_shortly, part_of_whole, IsLed}
-use Rattle.hum_kern.specs.Usual.{Leading, behind_digit, leading}
+use Rattle.hum_kern.specs.Subtokens.{ends_plainly, leads_shortly, part_of_whole, IsLed}
+use Rattle.hum_kern.specs.Usual.{Leading, leading}
 use Rattle.hum_kern.proofs.Leading.{leading_plain, leading_duration, leads_by}
 
 -- ---- what stands behind the digits
 
-not_true : (b : Bool) → not b ≡ true → b ≡ false
-not_true true e = cc
-not_true false e = refl
-
 pub undivided : (rest : List ℕ) → ends_plainly rest ≡ true → list_any is_divider rest ≡ false
-undivided [] plain = refl
-undivided (b ∷ bytes) plain =
-    not_true (list_any is_divider (b ∷ bytes)) (and_parts (nat_lt 57 b) (not (list_any is_divider (b ∷ bytes))) plain).1
+undivided = grind (arith, nat_tests)
 
 -- its first byte
 pub record IsFree (b : ℕ) : Type 0 where
@@ -33,13 +26,10 @@ pub record IsFree (b : ℕ) : Type 0 where
   pub dot : is_dot b ≡ false
 
 pub free : (b : ℕ) (bytes : List ℕ) → ends_plainly (b ∷ bytes) ≡ true → IsFree b
-free b bytes plain =
-    let above = (and_parts (nat_lt 57 b) (not (list_any is_divider (b ∷ bytes))) plain).0 in
-    record { digit = grind (arith, nat_tests, above); percent = grind (arith, nat_tests, above); dot = grind (arith, nat_tests, above) }
+free = grind (arith, nat_tests)
 
 pub no_run : (rest : List ℕ) → ends_plainly rest ≡ true → run (is_in Digit) rest ≡ 0
-no_run [] ends = refl
-no_run (b ∷ bytes) ends = rw (free b bytes ends).digit refl
+no_run = grind (arith, nat_tests)
 
 -- ---- what the digits say
 
@@ -48,10 +38,7 @@ record Tells (digits rest : List ℕ) (value : Ratio) : Type 0 where
   read : is_refused (said (spelling [] digits rest)) ≡ false
 
 tells : (digits rest : List ℕ) (value : Ratio) → ends_plainly rest ≡ true → plain_value digits ≡ Some value → Tells digits rest value
-tells digits [] value ends is = record { told = rw is refl; read = rw is refl }
-tells digits (b ∷ bytes) value ends is =
-    let first = free b bytes ends in
-    record { told = rw (first.percent, first.dot, is) refl; read = rw (first.percent, first.dot, is) refl }
+tells = grind (arith, nat_tests)
 
 led : (token digits rest : List ℕ) (value : Ratio) → front (is_in Digit) token ≡ digits → behind (is_in Digit) token ≡ rest
     → is_empty digits ≡ false → plain_value digits ≡ Some value → ends_plainly rest ≡ true → IsLed token (reduced value)
@@ -59,9 +46,7 @@ led token digits rest value in_front at_end some is ends =
     let none : list_any is_divider (behind (is_in Digit) token) ≡ false = ap (list_any is_divider) at_end ∙ undivided rest ends in
     let begins : is_empty (front (is_in Digit) token) ≡ false = ap is_empty in_front ∙ some in
     let means : said (spelling [] digits rest) ≡ duration token =
-    sym (ap (λ (digits : List ℕ). said (spelling [] digits (behind (is_in Digit) token))) in_front
-    ∙ ap (λ (rest : List ℕ). said (spelling [] digits rest)) at_end)
-    ∙ leading_duration token begins none in
+    grind (arith, nat_tests, leading_duration) in
     let says = tells digits rest value ends is in
     record {
       value = sym (ap value_in means) ∙ says.told;
@@ -78,13 +63,7 @@ digit_is a above below = grind (arith, nat_tests)
 -- no zero stands in front, so the number is the denominator
 pub value_is : (a : ℕ) (digits : List ℕ) → 48 < a → 0 < number (a ∷ digits) → number (a ∷ digits) ≤ 4096
     → plain_value (a ∷ digits) ≡ Some (record { top = 1; bottom = number (a ∷ digits) })
-value_is a digits above some few =
-    let zero : (a == 48) ≡ false = grind (arith, nat_tests) in
-    let more : nat_lt 0 (number (a ∷ digits)) ≡ true = grind (arith, nat_tests, some) in
-    let less : nat_le (number (a ∷ digits)) 4096 ≡ true = grind (arith, nat_tests, few) in
-    let breves_none : breves (a ∷ digits) ≡ None = rw zero refl in
-    let one : one_by (a ∷ digits) ≡ Some (record { top = 1; bottom = number (a ∷ digits) }) = rw (zero, more, less) refl in
-    rw (breves_none, plain_value) one
+value_is = grind (arith, nat_tests)
 
 one_number : (a : ℕ) (rest : List ℕ) → 48 < a → a ≤ 57 → ends_plainly rest ≡ true
     → IsLed (a ∷ rest) (part_of_whole (number (a ∷ [])))
@@ -122,16 +101,6 @@ chosen two a b bytes =
     if two then record { number = 10 * (a - 48) + (b - 48); digits = 2; rest = bytes }
     else record { number = a - 48; digits = 1; rest = b ∷ bytes }
 
-digit_range : (b : ℕ) → is_digit b ≡ true → (48 ≤ b) × (b ≤ 57)
-digit_range b digit =
-    let both = and_parts (nat_le 48 b) (nat_le b 57) digit in
-    (grind (arith, nat_tests, both.0), grind (arith, nat_tests, both.1))
-
-first_range : (a : ℕ) → (nat_lt 48 a && nat_le a 57) ≡ true → (48 < a) × (a ≤ 57)
-first_range a digit =
-    let both = and_parts (nat_lt 48 a) (nat_le a 57) digit in
-    (grind (arith, nat_tests, both.0), grind (arith, nat_tests, both.1))
-
 -- how a token is cut that begins so
 pub record IsCut (token : List ℕ) (found : Leading) : Type 0 where
   pub front : List ℕ
@@ -147,24 +116,8 @@ module _ (P : List ℕ → Leading → Type 0)
     (one : (a : ℕ) (rest : List ℕ) → 48 < a → a ≤ 57 → P (a ∷ rest) (record { number = a - 48; digits = 1; rest = rest }))
     (two : (a b : ℕ) (rest : List ℕ) → 48 < a → a ≤ 57 → 48 ≤ b → b ≤ 57
     → P (a ∷ b ∷ rest) (record { number = 10 * (a - 48) + (b - 48); digits = 2; rest = rest })) where
-  behind_holds : (a : ℕ) (bytes : List ℕ) → 48 < a → a ≤ 57 → P (a ∷ bytes) (behind_digit a bytes)
-  behind_holds a [] above below = one a [] above below
-  behind_holds a (b ∷ bytes) above below = go (is_digit b) refl
-    where
-      go : (t : Bool) → is_digit b ≡ t → P (a ∷ b ∷ bytes) (chosen t a b bytes)
-      go true digit = let range = digit_range b digit in two a b bytes above below range.0 range.1
-      go false digit = one a (b ∷ bytes) above below
-
   pub leading_holds : (token : List ℕ) (found : Leading) → leading token ≡ Some found → P token found
-  leading_holds [] found is = cc
-  leading_holds (a ∷ bytes) found is = go (nat_lt 48 a && nat_le a 57) refl is
-    where
-      go : (t : Bool) → (nat_lt 48 a && nat_le a 57) ≡ t → (if t then Some (behind_digit a bytes) else None) ≡ Some found → P (a ∷ bytes) found
-      go true digit e =
-          let same : behind_digit a bytes ≡ found = cc in
-          let range = first_range a digit in
-          subst (P (a ∷ bytes)) same (behind_holds a bytes range.0 range.1)
-      go false digit e = cc
+  leading_holds = grind (arith, nat_tests)
 
 pub leading_cut : (token : List ℕ) (found : Leading) → leading token ≡ Some found → IsCut token found
 leading_cut token found is =
@@ -190,17 +143,7 @@ ends_by (Some found) = ends_plainly found.rest
 ends_by None = false
 
 shortly_is : (token : List ℕ) → leads_shortly token ≡ ends_by (leading token)
-shortly_is [] = refl
-shortly_is (a ∷ bytes) = go (nat_lt 48 a && nat_le a 57) bytes
-  where
-    go : (t : Bool) (bytes : List ℕ) → (t && ends_shortly bytes) ≡ ends_by (if t then Some (behind_digit a bytes) else None)
-    go false bytes = refl
-    go true [] = refl
-    go true (b ∷ bytes) = two (is_digit b)
-      where
-        two : (d : Bool) → (if d then ends_plainly bytes else ends_plainly (b ∷ bytes)) ≡ ends_plainly (chosen d a b bytes).rest
-        two true = refl
-        two false = refl
+shortly_is = grind (arith, nat_tests)
 
 -- ---- what is answered
 
@@ -213,5 +156,4 @@ some_leads token found part is ends = ends ∙ ap ends_by is ∙ sym (shortly_is
 
 pub answered_led : (token : List ℕ) (found : Leading) (part : Option Ratio) → Some found ≡ leading token → is_some part ≡ ends_plainly found.rest
     → IfSome part (λ lasting. lasting ≡ part_of_whole found.number) → IfSome part (IsLed token)
-answered_led token found None is some holds = tt
-answered_led token found (Some lasting) is some holds = subst (IsLed token) (sym holds) (leading_led token found (sym is) (sym some))
+answered_led = grind (arith, nat_tests, leading_led)

@@ -1,11 +1,13 @@
 -- Every text has parts round its pitch, in one way alone.
-use Rattle.std.proofs.Common.{◌≡◌, ℕ, Bool, true, false, List, [], ◌∷◌, ◌++◌, refl, sym, ap, ◌∙◌, subst, arith, get_or}
-use Rattle.std.specs.Prelude.{length, ◌≤◌, Result, not}
+use Rattle.std.proofs.lemmas.Grind.{common_steps}
+use Rattle.std.proofs.lemmas.Bool.Decides.{nat_tests}
+use Rattle.std.proofs.Common.{◌≡◌, ℕ, true, List, [], ◌∷◌, ◌++◌, refl, sym, ap, ◌∙◌, subst, arith, get_or}
+use Rattle.std.specs.Prelude.{length, ◌≤◌, Result}
 use Rattle.hum_kern.specs.declared.runs.Class.TheVariants.{NoLetter, Repeat, Sign}
 use Rattle.hum_kern.specs.declared.KernFault.{KernFault}
 use Rattle.hum_kern.specs.Runs.{front, behind}
 use Rattle.hum_kern.specs.Classes.{is_in, is_letter}
-use Rattle.hum_kern.specs.Parts.{IsMaximal, EndsBefore}
+use Rattle.hum_kern.specs.Parts.{IsMaximal}
 use Rattle.hum_kern.specs.Note.{Notation, Reading, repeated, behind_repeated, notation_of, note_by, note}
 use Rattle.hum_kern.specs.NoteParts.{IsRepeated, AreNoteParts}
 use Rattle.hum_kern.proofs.Parts.{run_maximal, front-behind}
@@ -13,15 +15,10 @@ use Rattle.hum_kern.proofs.Unique.{front_is, behind_is}
 
 -- what stands at the front behind other bytes is a letter
 begins_with_letter : (bytes : List ℕ) (letter : ℕ) (rest : List ℕ) → letter ∷ rest ≡ behind (is_in NoLetter) bytes → is_letter letter ≡ true
-begins_with_letter bytes letter rest e = of (is_letter letter) (subst (EndsBefore NoLetter) (sym e) (run_maximal NoLetter bytes).ends)
-  where
-    of : (b : Bool) → not b ≡ false → b ≡ true
-    of true e = refl
-    of false e = cc
+begins_with_letter bytes letter rest e = grind (arith, nat_tests, run_maximal NoLetter bytes)
 
 repeated-behind : (bytes : List ℕ) → repeated bytes ++ behind_repeated bytes ≡ bytes
-repeated-behind [] = refl
-repeated-behind (b ∷ bytes) = ap (λ (xs : List ℕ). b ∷ xs) (front-behind (Repeat b) bytes)
+repeated-behind = grind (arith, common_steps)
 
 repeated_maximal : (bytes : List ℕ) → IsRepeated (repeated bytes) (behind_repeated bytes)
 repeated_maximal [] = refl
@@ -43,35 +40,21 @@ are_note_parts bytes =
     }
 
 repeated_is : (letters rest : List ℕ) → IsRepeated letters rest → repeated (letters ++ rest) ≡ letters
-repeated_is [] rest h = rw h refl
-repeated_is (b ∷ letters) rest h = ap (λ (xs : List ℕ). b ∷ xs) (front_is (Repeat b) letters rest h)
+repeated_is = grind (arith, nat_tests, front_is)
 
 behind_repeated_is : (letters rest : List ℕ) → IsRepeated letters rest → behind_repeated (letters ++ rest) ≡ rest
-behind_repeated_is [] rest h = rw h refl
-behind_repeated_is (b ∷ letters) rest h = behind_is (Repeat b) letters rest h
+behind_repeated_is = grind (arith, nat_tests, behind_is)
 
 same : {b c l m s t o p : List ℕ} → b ≡ c → l ≡ m → s ≡ t → o ≡ p →
     ◌≡◌ {A = Notation} (record { before = b; letters = l; signs = s; left = o })
     (record { before = c; letters = m; signs = t; left = p })
-same {b} {c} {l} {m} {s} {t} {o} {p} u v w x =
-    ap (λ (y : List ℕ). made y l s o) u ∙ ap (λ (y : List ℕ). made c y s o) v ∙ ap (λ (y : List ℕ). made c m y o) w ∙ ap (λ (y : List ℕ). made c m t y) x
-  where
-    made : List ℕ → List ℕ → List ℕ → List ℕ → Notation
-    made b l s o = record { before = b; letters = l; signs = s; left = o }
+same = grind (arith, nat_tests)
 
 pub of_parts : (parts : Notation) → IsMaximal NoLetter parts.before
     (parts.letters ++ (parts.signs ++ parts.left)) → IsRepeated parts.letters (parts.signs ++ parts.left) →
     IsMaximal Sign parts.signs parts.left → notation_of
     (parts.before ++ (parts.letters ++ (parts.signs ++ parts.left))) ≡ parts
-of_parts parts before letters signs =
-    let first = behind_is NoLetter parts.before (parts.letters ++ (parts.signs ++ parts.left)) before in
-    let rest : behind_repeated (behind (is_in NoLetter)
-    (parts.before ++ (parts.letters ++ (parts.signs ++ parts.left)))) ≡ parts.signs ++ parts.left =
-    ap behind_repeated first ∙ behind_repeated_is parts.letters (parts.signs ++ parts.left) letters in
-    same (front_is NoLetter parts.before (parts.letters ++ (parts.signs ++ parts.left)) before)
-    (ap repeated first ∙ repeated_is parts.letters (parts.signs ++ parts.left) letters)
-    (ap (front (is_in Sign)) rest ∙ front_is Sign parts.signs parts.left signs)
-    (ap (behind (is_in Sign)) rest ∙ behind_is Sign parts.signs parts.left signs)
+of_parts = grind (arith, nat_tests, behind_is, behind_repeated_is, same, front_is, repeated_is)
 
 -- the parts that a text has are those that its note is defined by
 pub one_notation : (bytes : List ℕ) (parts : Notation) → AreNoteParts bytes parts → notation_of bytes ≡ parts

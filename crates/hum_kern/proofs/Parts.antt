@@ -1,22 +1,23 @@
 -- Every text has parts, and a duration stands within its text.
-use Rattle.std.proofs.Common.{◌≡◌, ℕ, suc, ◌+◌, ◌==◌, Bool, true, false, List, [], ◌∷◌, ◌++◌, take, drop}
-use Rattle.std.proofs.Common.{Option, None, Some, refl, sym, ap, ◌∙◌, subst, arith, rules}
-use Rattle.std.specs.Prelude.{if◌then◌else◌, nat_le, length, ◌≤◌, Result, Ok, Err, IfOk}
+use Rattle.std.proofs.lemmas.Grind.{common_steps}
+use Rattle.std.proofs.lemmas.Bool.Decides.{nat_tests}
+use Rattle.std.proofs.Common.{◌≡◌, ℕ, suc, ◌+◌, Bool, true, false, List, [], ◌∷◌, ◌++◌, take, drop}
+use Rattle.std.proofs.Common.{Option, refl, sym, ap, ◌∙◌, subst, arith}
+use Rattle.std.specs.Prelude.{if◌then◌else◌, length, ◌≤◌, Result, Ok, Err, IfOk}
 use Rattle.std.specs.List.{list_any}
-use Rattle.std.proofs.Common.{length-append}
-use Rattle.hum_frac.specs.Ratio.{Ratio, reduced}
+use Rattle.hum_frac.specs.Ratio.{Ratio}
 use Rattle.hum_kern.specs.declared.KernFault.{KernFault}
 use Rattle.hum_kern.specs.declared.KernFault.TheVariants.{K3}
 use Rattle.hum_kern.specs.declared.Length.{Length}
-use Rattle.hum_kern.specs.Value.{value_of, dotted}
+use Rattle.hum_kern.specs.Value.{value_of}
 use Rattle.std.proofs.lemmas.List.{take-append-drop}
 use Rattle.hum_kern.specs.declared.runs.Class.{Class}
 use Rattle.hum_kern.specs.declared.runs.Class.TheVariants.{Digit, Other, Dot}
-use Rattle.hum_kern.specs.Runs.{run, front, behind, starts_with}
+use Rattle.hum_kern.specs.Runs.{run, front, behind}
 use Rattle.hum_kern.specs.Classes.{is_in, is_grace_sign}
 use Rattle.hum_kern.specs.Duration.{Spelling, spelling, spelling_of, second_of, behind_digits, is_empty}
 use Rattle.hum_kern.specs.Duration.{is_torn, second_length, with_dots, said, no_length, duration}
-use Rattle.hum_kern.specs.Parts.{IsMaximal, quotient_text, IsSecond, behind_first, AreParts}
+use Rattle.hum_kern.specs.Parts.{IsMaximal, IsSecond, behind_first, AreParts}
 
 pub run_maximal : (class : Class) (bytes : List ℕ) → IsMaximal class (front (is_in class) bytes) (behind (is_in class) bytes)
 run_maximal class [] = record { all_in = tt; ends = tt }
@@ -35,35 +36,15 @@ front-behind class bytes = take-append-drop (run (is_in class) bytes) bytes
 
 -- what stands behind the first digits, in its parts
 rest_text : (before digits rest : List ℕ) → behind_first (spelling before digits rest) ≡ rest
-rest_text before digits [] = refl
-rest_text before digits (b ∷ bytes) = go (b == 37) refl
-  where
-    go : (t : Bool) → (b == 37) ≡ t → quotient_text
-        (if t then Some (front (is_in Digit) bytes) else None) ++ (front (is_in Dot)
-        (if t then behind (is_in Digit) bytes else b ∷ bytes) ++ behind (is_in Dot)
-        (if t then behind (is_in Digit) bytes else b ∷ bytes)) ≡ b ∷ bytes
-    go true e =
-        let is : b ≡ 37 = search rules in
-        ap (λ (xs : List ℕ). 37 ∷ (front (is_in Digit) bytes ++ xs)) (front-behind Dot (behind (is_in Digit) bytes))
-        ∙ ap (λ (xs : List ℕ). 37 ∷ xs) (front-behind Digit bytes)
-        ∙ ap (λ (x : ℕ). x ∷ bytes) (sym is)
-    go false e = front-behind Dot (b ∷ bytes)
+rest_text = grind (arith, common_steps)
 
 rest_second : (before digits rest : List ℕ) → IsSecond (second_of rest) ((spelling before digits rest).dots ++ (spelling before digits rest).left)
-rest_second before digits [] = refl
-rest_second before digits (b ∷ bytes) = go (b == 37) refl
-  where
-    go : (t : Bool) → (b == 37) ≡ t → IsSecond (if t then Some (front (is_in Digit) bytes) else None)
-        (front (is_in Dot) (if t then behind (is_in Digit) bytes else b ∷ bytes) ++ behind (is_in Dot)
-        (if t then behind (is_in Digit) bytes else b ∷ bytes))
-    go true e = subst (IsMaximal Digit (front (is_in Digit) bytes)) (sym (front-behind Dot (behind (is_in Digit) bytes))) (run_maximal Digit bytes)
-    go false e = subst (λ (xs : List ℕ). starts_with 37 xs ≡ false) (sym (front-behind Dot (b ∷ bytes))) e
+rest_second = grind (arith, nat_tests, front-behind, run_maximal)
 
 pub are_parts : (bytes : List ℕ) → AreParts bytes (spelling_of bytes)
 are_parts bytes =
     let last : behind_first (spelling_of bytes) ≡ behind (is_in Digit) (behind (is_in Other) bytes) =
-    rest_text (front (is_in Other) bytes) (front (is_in Digit) (behind (is_in Other) bytes))
-    (behind (is_in Digit) (behind (is_in Other) bytes)) in
+    grind (arith, nat_tests, rest_text) in
     let from : front (is_in Digit) (behind (is_in Other) bytes) ++ behind_first (spelling_of bytes) ≡ behind
     (is_in Other) bytes = ap (λ (xs : List ℕ). front (is_in Digit) (behind (is_in Other) bytes) ++ xs) last
     ∙ front-behind Digit (behind (is_in Other) bytes) in
@@ -77,18 +58,7 @@ are_parts bytes =
 
 text_length : (bytes : List ℕ) (parts : Spelling) → AreParts bytes parts →
     length parts.before + length parts.digits + second_length parts.second + length parts.dots ≤ length bytes
-text_length bytes parts h =
-    let all = ap length h.text in
-    let one = length-append parts.before (parts.digits ++ behind_first parts) in
-    let two = length-append parts.digits (behind_first parts) in
-    let three = length-append (quotient_text parts.second) (parts.dots ++ parts.left) in
-    let four = length-append parts.dots parts.left in
-    let five = second parts.second in
-    omega arith
-  where
-    second : (o : Option (List ℕ)) → second_length o ≡ length (quotient_text o)
-    second None = refl
-    second (Some digits) = omega arith
+text_length = grind (arith, common_steps)
 
 -- where a duration is read, it stands within a text
 abbrev pub StandsIn : List ℕ → Result Length KernFault → Type 0
@@ -96,13 +66,7 @@ StandsIn bytes read = IfOk read (λ found. (found.start ≤ found.end) × (found
 
 with_dots_in : (bytes : List ℕ) (start end : ℕ) (value : Option Ratio) (dots : ℕ) → start ≤ end →
     end + dots ≤ length bytes → StandsIn bytes (with_dots start end value dots)
-with_dots_in bytes start end None dots p q = tt
-with_dots_in bytes start end (Some value) dots p q = elim (nat_le dots 6) as
-    (λ (b : Bool). StandsIn bytes (if b then Ok
-    (record { value = Some (reduced (dotted value dots)); start = start; end = end + dots }) else Err K3)) [
-      | true ↦ (omega arith, q)
-      | false ↦ tt
-    ]
+with_dots_in = grind (arith, nat_tests)
 
 said_in : (bytes : List ℕ) (parts : Spelling) → AreParts bytes parts → StandsIn bytes (said parts)
 said_in bytes parts h = elim (is_torn parts) as (λ (b : Bool). StandsIn bytes
@@ -110,9 +74,7 @@ said_in bytes parts h = elim (is_torn parts) as (λ (b : Bool). StandsIn bytes
     (length parts.before + length parts.digits + second_length parts.second)
     (value_of parts.digits parts.second) (length parts.dots))) [
       | true ↦ tt
-      | false ↦ with_dots_in bytes (length parts.before)
-          (length parts.before + length parts.digits + second_length parts.second)
-          (value_of parts.digits parts.second) (length parts.dots) (omega arith) (text_length bytes parts h)
+      | false ↦ grind (arith, nat_tests, with_dots_in, text_length)
     ]
 
 -- whatever is asked first

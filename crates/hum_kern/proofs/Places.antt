@@ -1,4 +1,5 @@
 -- Runs and notes by the places where they begin and end in a text.
+use Rattle.std.proofs.lemmas.Bool.Decides.{nat_tests}
 use Rattle.std.proofs.Common.{◌≡◌, ◌∙◌, refl, sym, ap, subst, ℕ, ℤ, ◌+◌, ◌-◌, ◌<◌, ◌≤◌, Bool, true, false, List, [], ◌∷◌, ◌++◌}
 use Rattle.std.proofs.Common.{Option, Some, take, drop, length, arith}
 use Rattle.std.specs.Prelude.{if◌then◌else◌}
@@ -19,8 +20,7 @@ run_within class [] = omega arith
 run_within class (b ∷ bytes) = go (is_in class b) (run_within class bytes)
   where
     go : (t : Bool) → run (is_in class) bytes ≤ length bytes → (if t then run (is_in class) bytes + 1 else 0) ≤ length (b ∷ bytes)
-    go true h = omega (arith, h)
-    go false h = omega arith
+    go = grind (arith, nat_tests)
 
 -- the note of a letter behind plain bytes
 abbrev noted : Option Spelled → ℕ → ℕ → Bool → Reading
@@ -54,8 +54,7 @@ usual_at bytes start letter place signs last continued step octave alteration be
     let letters : place - start ≡ length more + 1 = omega (arith, long, is_place) in
     let pitch = pitch_is letter more (take signs next) step octave alteration (ap (λ (n : ℕ). read_letters letter n) (sym letters) ∙ read)
     (by ∙ ap (λ (xs : List ℕ). alteration_of (take signs xs)) next_is) in
-    let whole : take start bytes ++ (letter ∷ rest) ≡ bytes =
-    ap (λ (xs : List ℕ). take start bytes ++ xs) (sym at) ∙ take-append-drop start bytes in
+    let whole : take start bytes ++ (letter ∷ rest) ≡ bytes = grind (arith, nat_tests, take-append-drop) in
     let end : length (take start bytes) + length (letter ∷ more) + length (take signs next) ≡ place + signs = omega (arith, counted, long, size, is_place) in
     subst (λ (xs : List ℕ). IsReadAlone xs (noted (Some (record { step = step; octave = octave; alteration = alteration })) start (place + signs) continued)) whole
     (subst (λ (p : Option Spelled). IsReadAlone (take start bytes ++ (letter ∷ rest)) (noted p start (place + signs) continued)) pitch
@@ -68,7 +67,5 @@ pub rest_at : (bytes : List ℕ) (start first : ℕ) → AllByRecursion (λ b. i
     → drop start bytes ≡ first ∷ drop (start + 1) bytes → first ≡ 114 → start + 1 ≡ length bytes → IsReadAlone bytes lone_rest
 rest_at bytes start first plain at is last =
     let none : drop (start + 1) bytes ≡ [] = drop_all (start + 1) bytes (omega (arith, last)) in
-    let whole : take start bytes ++ (114 ∷ []) ≡ bytes =
-    ap (λ (b : ℕ). take start bytes ++ (b ∷ [])) (sym is) ∙ ap (λ (xs : List ℕ). take start bytes ++ (first ∷ xs)) (sym none)
-    ∙ ap (λ (xs : List ℕ). take start bytes ++ xs) (sym at) ∙ take-append-drop start bytes in
+    let whole : take start bytes ++ (114 ∷ []) ≡ bytes = grind (arith, nat_tests, take-append-drop) in
     subst (λ (xs : List ℕ). IsReadAlone xs lone_rest) whole (rest_at_end (take start bytes) plain)

@@ -1,4 +1,5 @@
 -- A pitch that is written among other bytes is read there.
+use Rattle.std.proofs.lemmas.Bool.Decides.{nat_tests}
 use Rattle.std.proofs.Common.{◌≡◌, ℕ, zero, suc, ◌+◌, ◌==◌, ◌<◌, ◌≤◌, Bool, true, false, ℤ, pos, negsuc, ◌+ℤ◌}
 use Rattle.std.proofs.Common.{◌-ℤ◌, List, [], ◌∷◌, ◌++◌, Option, Some, None, Ok, length, refl, sym, ap, ◌∙◌}
 use Rattle.std.proofs.Common.{subst, arith, rules}
@@ -66,8 +67,7 @@ are_letters p h = go (p.octave -ℤ pos 4) (omega (arith, ints))
           more = k;
           is = refl;
           letter_is = read.0;
-          few =
-              omega (arith, ints);
+          few = grind (arith, nat_tests, ints);
           read = read.1 ∙ ap (λ (o : ℤ). Some (natural_note p.step o)) octave;
         }
     go (negsuc k) e =
@@ -108,15 +108,10 @@ are_signs (negsuc k) h =
     record { all_in = all_in is_sign 45 (suc k) refl; few = omega (arith, ints); uniform = all_same 45 k; alteration = ap (λ (n : ℕ). negsuc n) counted }
 
 differs : (c x : ℕ) → is_letter c ≡ false → is_letter x ≡ true → (c == x) ≡ false
-differs c x f t = go (c == x) refl
-  where
-    go : (b : Bool) → (c == x) ≡ b → b ≡ false
-    go false e = refl
-    go true e = let is : c ≡ x = search rules in absurd (let no : true ≡ false = sym t ∙ ap is_letter (sym is) ∙ f in cc)
+differs = grind (arith, nat_tests)
 
 pub no_more : (a b : Bool) → (a || b) ≡ false → (a ≡ false) × (b ≡ false)
-no_more true b e = cc
-no_more false b e = (refl, e)
+no_more = grind (arith, nat_tests)
 
 -- no letter begins what stands behind the letters
 ends_letters : (x : ℕ) (a : ℤ) (left : List ℕ) → is_letter x ≡ true → list_any is_letter left ≡ false → EndsBefore (Repeat x) (accidentals a ++ left)
@@ -166,10 +161,7 @@ continued_sign b h = grind arith
 pub same_marks : {a b c d e f : Bool} → a ≡ b → c ≡ d → e ≡ f → ◌≡◌ {A = Reading}
     (record { pitch = None; start = 0; end = 0; rest = a; grace = c; continued = e })
     (record { pitch = None; start = 0; end = 0; rest = b; grace = d; continued = f })
-same_marks {a} {b} {c} {d} {e} {f} p q r = ap (λ (x : Bool). made x c e) p ∙ ap (λ (x : Bool). made b x e) q ∙ ap (λ (x : Bool). made b d x) r
-  where
-    made : Bool → Bool → Bool → Reading
-    made a c e = record { pitch = None; start = 0; end = 0; rest = a; grace = c; continued = e }
+same_marks = grind (arith, nat_tests)
 
 -- A pitch bears no marks.
 pub marks_beside : (before letters signs left : List ℕ) → AllByRecursion (λ (x : ℕ). is_letter x ≡ true) letters
@@ -188,20 +180,16 @@ pub record IsRound (before left : List ℕ) : Type 0 where
   pub no_rest : is_rest (before ++ left) ≡ false
 
 pub otherwise : {A : Type 0} (b : Bool) (x y : A) → b ≡ false → (if b then x else y) ≡ y
-otherwise true x y e = cc
-otherwise false x y e = refl
+otherwise = grind (arith, nat_tests)
 
 pub not_over : (k n : ℕ) → n ≤ k → nat_lt k n ≡ false
 not_over k n h = grind arith
 
 pub neither : (a b : Bool) → a ≡ false → b ≡ false → (a || b) ≡ false
-neither false false p q = refl
-neither true b p q = cc
-neither false true p q = cc
+neither = grind (arith, nat_tests)
 
 pub not_of : (b : Bool) → b ≡ true → not b ≡ false
-not_of true e = refl
-not_of false e = cc
+not_of = grind (arith, nat_tests)
 
 pitch_there : (p : Spelled) (xs : List ℕ) → AreLetters p xs → (ys : List ℕ) → AreSigns p.alteration ys → pitch_of xs ys ≡ Some p
 pitch_there p xs l ys s =
@@ -218,8 +206,7 @@ letters_alone : (p : Spelled) (left : List ℕ) (letter more : ℕ) → is_lette
 letters_alone p left letter more h none = let same : (letter == letter) ≡ true = search rules in
     record {
       all_in = all_in (λ (x : ℕ). x == letter) letter more same;
-      ends =
-          ends_letters letter p.alteration left h none;
+      ends = grind (arith, nat_tests, ends_letters);
     }
 
 some_letters : (p : Spelled) (xs : List ℕ) → AreLetters p xs → (marks : Reading) (before ys left : List ℕ) →
@@ -227,8 +214,7 @@ some_letters : (p : Spelled) (xs : List ℕ) → AreLetters p xs → (marks : Re
     is_excessive (record { before = before; letters = xs; signs = ys; left = left }) ≡ false →
     pitched marks (record { before = before; letters = xs; signs = ys; left = left }) ≡ Ok
     (with_pitch marks (pitch_of xs ys) (length before) (length before + length xs + length ys))
-some_letters p [] l marks before ys left d e = let no = l.is in cc
-some_letters p (x ∷ xs) l marks before ys left d e = otherwise _ _ _ d ∙ otherwise _ _ _ e
+some_letters = grind (arith, nat_tests)
 
 placed_in : (before left : List ℕ) → IsRound before left → (p : Spelled) (xs : List ℕ) → AreLetters p xs →
     IsRepeated xs (accidentals p.alteration ++ left) → AreSigns p.alteration (accidentals p.alteration) →
@@ -242,9 +228,7 @@ placed_in before left h p xs l repeated s =
     let all : AllByRecursion (λ (x : ℕ). is_letter x ≡ true) xs =
     subst (AllByRecursion (λ (x : ℕ). is_letter x ≡ true)) (sym l.is)
     (all_in is_letter l.letter (suc l.more) l.letter_is) in
-    let begins : EndsBefore NoLetter (xs ++ (ys ++ left)) =
-    subst (λ (zs : List ℕ). EndsBefore NoLetter (zs ++ (ys ++ left))) (sym l.is)
-    (not_of (is_letter l.letter) l.letter_is) in
+    let begins : EndsBefore NoLetter (xs ++ (ys ++ left)) = grind (arith, nat_tests, not_of) in
     let cut : notation_of text ≡ parts = of_parts parts (record { all_in = h.letterless; ends = begins })
     repeated (record { all_in = s.all_in; ends = h.no_sign }) in
     let marks : marks_of text ≡ marks_of (before ++ left) = marks_beside before xs ys left all s.all_in in
@@ -252,8 +236,7 @@ placed_in before left h p xs l repeated s =
     let counted : length xs ≡ suc l.more = ap length l.is ∙ length-replicate (suc l.more) l.letter in
     let few : length xs ≤ 8 = let bound = l.few in omega arith in
     let clear : is_doubtful parts ≡ false = neither (list_any is_letter left) (not (is_uniform ys)) h.no_letter (not_of (is_uniform ys) s.uniform) in
-    let modest : is_excessive parts ≡ false = neither (nat_lt 8 (length xs)) (nat_lt 7 (length ys))
-    (not_over 8 (length xs) few) (not_over 7 (length ys) s.few) in
+    let modest : is_excessive parts ≡ false = grind (arith, nat_tests, neither, not_over) in
     ap (note_by text) cut
     ∙ otherwise (is_rest text) (Ok (marks_of text)) (pitched (marks_of text) parts) no_rest
     ∙ ap (λ (m : Reading). pitched m parts) marks
@@ -265,16 +248,8 @@ placed_in before left h p xs l repeated s =
 pub placed : (before left : List ℕ) → IsRound before left → (p : Spelled) →
     IsPitch p.step p.octave p.alteration → note (before ++ (spelling p ++ left)) ≡ Ok
     (with_pitch (marks_of (before ++ left)) (Some p) (length before) (length before + length (spelling p)))
-placed before left h p range =
-    let xs : List ℕ = letters_of p in
-    let ys : List ℕ = accidentals p.alteration in
-    let l = are_letters p range in
-    let repeated : IsRepeated xs (ys ++ left) = subst (λ (zs : List ℕ). IsRepeated zs (ys ++ left)) (sym l.is)
-    (letters_alone p left l.letter l.more l.letter_is h.no_letter) in
-    let counted : length before + length xs + length ys ≡ length before + length (xs ++ ys) = let both = length-append xs ys in omega arith in
-    ap (λ (zs : List ℕ). note (before ++ zs)) (append_assoc xs ys left)
-    ∙ placed_in before left h p xs l repeated (are_signs p.alteration range.2)
-    ∙ ap (λ (n : ℕ). Ok (with_pitch (marks_of (before ++ left)) (Some p) (length before) n)) counted
+placed =
+    grind (arith, nat_tests, are_letters, letters_alone, length-append, append_assoc, placed_in, are_signs)
 
 pub written : (bytes : List ℕ) (p : Pitch) → bytes ≡ spelling (spelled p) → note bytes ≡ Ok (with_pitch (marks_of []) (Some (spelled p)) 0 (length bytes))
 written bytes p e =

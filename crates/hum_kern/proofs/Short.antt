@@ -1,6 +1,6 @@
 -- A duration is short.
 use Rattle.std.proofs.Common.{◌≡◌, refl, ap, ℕ, ◌+◌, ◌≤◌, ◌==◌, Bool, true, false, ◌&&◌, cond}
-use Rattle.std.proofs.Common.{List, [], ◌∷◌, ◌++◌, length, Option, None, Some, Result, Ok, Err, arith}
+use Rattle.std.proofs.Common.{List, [], ◌∷◌, ◌++◌, length, Option, None, Some, Result, Ok, arith}
 use Rattle.std.specs.List.{AllByRecursion}
 use Rattle.std.specs.Str.{all_ascii_digits, bytes_eq}
 use lib.Chars.{codes}
@@ -48,10 +48,7 @@ breves_short digits plain all h =
     go : (a : Bool) → bytes_eq digits (codes "0") ≡ a → (b : Bool) → bytes_eq digits (codes "00") ≡ b → (c : Bool) → bytes_eq digits (codes "000") ≡ c
         → worth_by (cond a (Some 2) (cond b (Some 4) (cond c (Some 8) None))) (one_by digits) ≡ Some plain
         → length digits ≤ 4
-    go true x b y c z e = is (codes "0") x (omega arith)
-    go false x true y c z e = is (codes "00") y (omega arith)
-    go false x false y true z e = is (codes "000") z (omega arith)
-    go false x false y false z e = one (is_part digits) refl e
+    go = grind (arith, nat_tests, is, one)
 
 digits_short : (parts : Spelling) (plain : Ratio) (rest : List ℕ) → AllByRecursion (λ b. is_in Digit b ≡ true) parts.digits → IsSecond parts.second rest
     → value_of parts.digits parts.second ≡ Some plain → length parts.digits + second_length parts.second ≤ 9
@@ -64,12 +61,8 @@ digits_short parts plain rest all second h = by parts.second second h
         both : (a : Bool) → is_part parts.digits ≡ a → (b : Bool) → is_part digits ≡ b
             → cond (a && b) (Some (record { top = number digits; bottom = number parts.digits })) None ≡ Some plain
             → length parts.digits + (length digits + 1) ≤ 9
-        both true x true y e =
-            let p = part_short parts.digits all x in
-            let q = part_short digits s.all_in y in
-            omega (arith, p, q)
-        both true x false y e = cc
-        both false x b y e = cc
+        both true x true y e = grind (arith, nat_tests, part_short)
+        both a h b k w = grind (arith, nat_tests)
 
 -- a text that is a duration
 pub recip_short : (bytes : List ℕ) (value : Ratio) → recip bytes ≡ Ok value → length bytes ≤ 15
@@ -77,8 +70,6 @@ recip_short bytes value h = by_read (duration bytes) refl h
   where
     by_value : (found : Length) → duration bytes ≡ Ok found → (o : Option Ratio) → found.value ≡ o → (b : Bool)
         → (found.start == 0 && found.end == length bytes) ≡ b → recip_in o b ≡ Ok value → length bytes ≤ 15
-    by_value found d None v b w e = cc
-    by_value found d (Some x) v false w e = cc
     by_value found d (Some x) v true w e =
         let tests = and_parts (found.start == 0) (found.end == length bytes) w in
         let whole : found.end ≡ length bytes = grind (arith, nat_tests, tests.1) in
@@ -90,7 +81,7 @@ recip_short bytes value h = by_read (duration bytes) refl h
         let start = r.start in
         let end = r.end in
         omega (arith, whole, begin, few, dots, start, end)
+    by_value found h o k b w e = grind (arith, nat_tests)
 
     by_read : (r : Result Length KernFault) → duration bytes ≡ r → recip_of bytes r ≡ Ok value → length bytes ≤ 15
-    by_read (Ok found) d e = by_value found d found.value refl (found.start == 0 && found.end == length bytes) refl e
-    by_read (Err fault) d e = cc
+    by_read = grind (arith, nat_tests, by_value)

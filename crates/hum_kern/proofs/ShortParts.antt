@@ -1,14 +1,13 @@
 -- Durations of one or two digits and at most one dot.
-use Rattle.std.proofs.Common.{◌≡◌, ◌∙◌, ℕ, ◌+◌, ◌-◌, ◌*◌, ◌<◌, ◌≤◌, ◌==◌, List, [], ◌∷◌, ◌++◌, append_assoc, append-nil, length, take, drop, get_or, refl, sym, ap, arith, subst}
+use Rattle.std.proofs.lemmas.Grind.{common_steps}
+use Rattle.std.proofs.Common.{◌≡◌, ◌∙◌, ℕ, ◌+◌, ◌-◌, ◌*◌, ◌<◌, ◌≤◌, ◌==◌, List, [], ◌∷◌, ◌++◌, append_assoc, length, take, drop, get_or, refl, sym, ap, arith, subst}
 use Rattle.std.proofs.Common.{Bool, true, false, Option, None, Some, Ok}
 use Rattle.std.specs.Prelude.{IfSome, option_map, if◌then◌else◌, not, nat_lt, ◌&&◌}
-use Rattle.std.proofs.Math.Seq.{take-append_seam}
-use Rattle.std.proofs.lemmas.Bool.{and_parts, or_parts}
+use Rattle.std.proofs.lemmas.Bool.{and_parts}
 use Rattle.std.proofs.lemmas.Bool.Decides.{nat_tests}
 use Rattle.std.proofs.lemmas.List.{length-append}
 use Rattle.std.proofs.lemmas.List.Folds.{list_any-append}
 use Rattle.std.specs.List.{list_any}
-use Rattle.std.proofs.lemmas.List.{take_all}
 use Rattle.hum_kern.specs.declared.Length.{Length}
 use Rattle.hum_kern.specs.declared.runs.Class.TheVariants.{Digit, Dot}
 use Rattle.hum_kern.specs.Classes.{is_in, is_divider, is_rest_sign}
@@ -21,8 +20,7 @@ use Rattle.hum_kern.proofs.Leading.{leading_duration, digits_plain}
 use Rattle.hum_kern.proofs.LeadingParts.{undivided, free, no_run, digit_is, value_is, leading_holds, leading_cut}
 
 no_dots : (rest : List ℕ) → ends_plainly rest ≡ true → run (is_in Dot) rest ≡ 0
-no_dots [] ends = refl
-no_dots (b ∷ bytes) ends = rw (free b bytes ends).dot refl
+no_dots = grind (arith, nat_tests)
 
 -- what is known of what stands behind the digits
 record IsShortEnd (digits rest : List ℕ) (dots n : ℕ) : Type 0 where
@@ -31,18 +29,7 @@ record IsShortEnd (digits rest : List ℕ) (dots n : ℕ) : Type 0 where
   said_is : plain_value digits ≡ Some (record { top = 1; bottom = n }) → said (spelling [] digits rest) ≡ Ok (short_length n (length digits) dots)
 
 plain_end : (digits rest : List ℕ) (n : ℕ) → ends_plainly rest ≡ true → IsShortEnd digits rest 0 n
-plain_end digits [] n ends = record {
-  digitless = refl;
-  undivided_is = refl;
-  said_is = λ is. let same : 0 + length digits + 0 + 0 ≡ length digits + 0 = omega arith in rw (is, same) refl;
-}
-plain_end digits (b ∷ bytes) n ends =
-    let first = free b bytes ends in
-    record {
-      digitless = no_run (b ∷ bytes) ends;
-      undivided_is = undivided (b ∷ bytes) ends;
-      said_is = λ is. let same : 0 + length digits + 0 + 0 ≡ length digits + 0 = omega arith in rw (first.percent, first.dot, is, same) refl;
-    }
+plain_end = grind (arith, nat_tests, free, no_run, undivided)
 
 dotted_end : (digits rest : List ℕ) (n : ℕ) → ends_plainly rest ≡ true → IsShortEnd digits (46 ∷ rest) 1 n
 dotted_end digits rest n ends = record {
@@ -60,27 +47,15 @@ short_end digits (b ∷ rest) dots n h = go (b == 46) refl (ends_plainly rest) r
   where
     go : (x : Bool) → (b == 46) ≡ x → (y : Bool) → ends_plainly rest ≡ y → (z : Bool) → ends_plainly (b ∷ rest) ≡ z
         → (if x then (if y then Some 1 else None) else if z then Some 0 else None) ≡ Some dots → IsShortEnd digits (b ∷ rest) dots n
-    go true e true f z g w =
-        let dot : b ≡ 46 = grind arith in
-        let is : 1 ≡ dots = cc in
-        rw dot (subst (λ d. IsShortEnd digits (46 ∷ rest) d n) is (dotted_end digits rest n f))
-    go true e false f z g w = cc
-    go false e y f true g w =
-        let is : 0 ≡ dots = cc in
-        subst (λ d. IsShortEnd digits (b ∷ rest) d n) is (plain_end digits (b ∷ rest) n g)
-    go false e y f false g w = cc
+    go true e true f z g w = grind (arith, nat_tests, dotted_end digits rest n f)
+    go false e y f true g w = grind (arith, nat_tests, plain_end digits (b ∷ rest) n g)
+    go x h y k z w e = grind (arith, nat_tests)
 
 -- a token by its digits and by what stands behind
 short_read : (token digits rest : List ℕ) (dots n : ℕ) → front (is_in Digit) token ≡ digits → behind (is_in Digit) token ≡ rest
     → is_empty digits ≡ false → plain_value digits ≡ Some (record { top = 1; bottom = n }) → IsShortEnd digits rest dots n
     → Ok (short_length n (length digits) dots) ≡ duration token
-short_read token digits rest dots n in_front at_end some is end =
-    let none : list_any is_divider (behind (is_in Digit) token) ≡ false = ap (list_any is_divider) at_end ∙ end.undivided_is in
-    let begins : is_empty (front (is_in Digit) token) ≡ false = ap is_empty in_front ∙ some in
-    sym (end.said_is is)
-    ∙ sym (ap (λ (digits : List ℕ). said (spelling [] digits (behind (is_in Digit) token))) in_front
-    ∙ ap (λ (rest : List ℕ). said (spelling [] digits rest)) at_end)
-    ∙ leading_duration token begins none
+short_read = grind (arith, nat_tests, leading_duration)
 
 one_short : (a n : ℕ) (rest : List ℕ) (dots : ℕ) → 48 < a → a ≤ 57 → n ≡ a - 48 → short_dots rest ≡ Some dots
     → Ok (short_length n 1 dots) ≡ duration (a ∷ rest)
@@ -129,21 +104,13 @@ answered_short token found result begins is = go (short_dots found.rest) refl re
   where
     go : (o : Option ℕ) → short_dots found.rest ≡ o → (result : Option Length) → result ≡ option_map (short_length found.number found.digits) o
         → IfSome result (λ length. Ok length ≡ duration token)
-    go None e None w = tt
-    go None e (Some length) w = cc
-    go (Some dots) e None w = cc
-    go (Some dots) e (Some length) w =
-        let same : length ≡ short_length found.number found.digits dots = cc in ap Ok same ∙ leading_short token found dots (sym begins) e
+    go = grind (arith, nat_tests, leading_short)
 
 -- ---- a duration as it is written
 
 stopless : (bytes : List ℕ) → list_any is_stop bytes ≡ false → (list_any is_divider bytes ≡ false) × (list_any is_rest_sign bytes ≡ false)
 stopless [] none = (refl, refl)
-stopless (b ∷ bytes) none =
-    let both = or_parts (is_stop b) (list_any is_stop bytes) none in
-    let one = or_parts (is_divider b) (is_rest_sign b) both.0 in
-    let more = stopless bytes both.1 in
-    (rw (one.0, more.0) refl, rw (one.1, more.1) refl)
+stopless (b ∷ bytes) none = grind (arith, nat_tests, stopless bytes)
 
 -- what is known of what stands behind digits and dots
 record IsEnd (rest : List ℕ) (is_rest : Bool) : Type 0 where
@@ -152,26 +119,18 @@ record IsEnd (rest : List ℕ) (is_rest : Bool) : Type 0 where
   alone : is_rest ≡ true → rest ≡ 114 ∷ []
 
 ended : (rest : List ℕ) (is_rest : Bool) → short_rest rest ≡ Some is_rest → IsEnd rest is_rest
-ended [] is_rest h =
-    let is : false ≡ is_rest = cc in rw (← is) (record { plainly = refl; sign = refl; alone = λ e. cc })
+ended [] is_rest h = grind (arith, nat_tests)
 ended (b ∷ rest) is_rest h = go (is_rest_sign b && is_empty rest) refl (nat_lt 57 b && not (list_any is_stop (b ∷ rest))) refl h
   where
     nothing : (bytes : List ℕ) → is_empty bytes ≡ true → bytes ≡ []
-    nothing [] e = refl
-    nothing (x ∷ bytes) e = cc
+    nothing = grind (arith, nat_tests)
 
     is_not : (x : Bool) → not x ≡ true → x ≡ false
-    is_not true e = cc
-    is_not false e = refl
+    is_not = grind (arith, nat_tests)
 
     go : (t : Bool) → (is_rest_sign b && is_empty rest) ≡ t → (u : Bool) → (nat_lt 57 b && not (list_any is_stop (b ∷ rest))) ≡ u
         → (if t then Some true else if u then Some false else None) ≡ Some is_rest → IsEnd (b ∷ rest) is_rest
-    go true w u v e =
-        let is : true ≡ is_rest = cc in
-        let both = and_parts (is_rest_sign b) (is_empty rest) w in
-        let first = both.0 in
-        let byte : b ≡ 114 = grind (arith, nat_tests, first) in
-        rw (← is, byte, nothing rest both.1) (record { plainly = refl; sign = refl; alone = λ e. refl })
+    go true w u v e = grind (arith, nat_tests, and_parts, nothing)
     go false w true v e =
         let is : false ≡ is_rest = cc in
         let both = and_parts (nat_lt 57 b) (not (list_any is_stop (b ∷ rest))) v in
@@ -194,16 +153,9 @@ lasting token found before rest dots is_rest begins ends none whole size restles
       text_is = let same : found.digits + dots - 0 ≡ found.digits + dots = omega arith in rw same (go is_rest end.sign end.alone);
     }
   where
-    sign_is : list_any is_rest_sign token ≡ list_any is_rest_sign rest
-    sign_is = rw (whole, list_any-append is_rest_sign before rest, restless) refl
-
-    front_is : take (found.digits + dots) token ≡ before
-    front_is = rw (← size, whole) (take-append_seam before rest)
-
     go : (b : Bool) → list_any is_rest_sign rest ≡ b → (b ≡ true → rest ≡ 114 ∷ []) → text_up_to token (found.digits + dots) b
         ≡ take (found.digits + dots) token ++ (if list_any is_rest_sign token then 114 ∷ [] else [])
-    go true sign alone = rw (sign_is, sign, front_is) (whole ∙ ap (λ (xs : List ℕ). before ++ xs) (alone refl))
-    go false sign alone = rw (sign_is, sign) (sym (append-nil (take (found.digits + dots) token)))
+    go = grind (arith, common_steps)
 
 -- what is answered
 texts : (token : List ℕ) (found : Leading) (front rest : List ℕ) (dots : ℕ) (result : Option (List ℕ)) → Some found ≡ leading token
@@ -214,18 +166,15 @@ texts token found before rest dots result begins ends whole size restless is = g
   where
     go : (o : Option Bool) → short_rest rest ≡ o → (result : Option (List ℕ)) → result ≡ option_map (text_up_to token (found.digits + dots)) o
         → IfSome result (IsLastingText token)
-    go None e None w = tt
-    go None e (Some text) w = cc
-    go (Some is_rest) e None w = cc
     go (Some is_rest) e (Some text) w =
         let same : text_up_to token (found.digits + dots) is_rest ≡ text = cc in
         let end = ended rest is_rest e in
         let both = ends end.plainly in
         subst (IsLastingText token) same (lasting token found before rest dots is_rest (sym begins) both.0 both.1 whole size restless end)
+    go o h result k = grind (arith, nat_tests)
 
 unmap : {A B : Type 0} (f : A → B) (r : Option A) (P : B → Type 0) → IfSome (option_map f r) P → IfSome r (λ x. P (f x))
-unmap f None P h = tt
-unmap f (Some x) P h = h
+unmap = grind (arith, nat_tests)
 
 pub plain_text : {A : Type 0} (f : A → List ℕ) (token : List ℕ) (found : Leading) (result : Option A) → Some found ≡ leading token
     → option_map f result ≡ option_map (text_up_to token found.digits) (short_rest found.rest) → IfSome result (λ text. IsLastingText token (f text))
@@ -238,8 +187,7 @@ plain_text f token found result begins is =
     cut.whole (omega (arith, size)) cut.restless (rw none is))
   where
     dotless : (rest : List ℕ) → ends_plainly rest ≡ true → short_dots rest ≡ Some 0
-    dotless [] ends = refl
-    dotless (b ∷ rest) ends = let dot = (free b rest ends).dot in rw (dot, ends) refl
+    dotless = grind (arith, nat_tests)
 
 pub dotted_text : {A : Type 0} (f : A → List ℕ) (token : List ℕ) (found : Leading) (rest : List ℕ) (result : Option A) → Some found ≡ leading token
     → 1 ≤ length found.rest → get_or found.rest 0 0 ≡ 46 → rest ≡ take (length found.rest - 1) (drop 1 found.rest)
@@ -256,7 +204,4 @@ dotted_text f token found rest result begins filled dot rest_is is =
     (rw (list_any-append is_rest_sign cut.front (46 ∷ []), cut.restless) refl) is)
   where
     behind_dot : (all : List ℕ) → 1 ≤ length all → get_or all 0 0 ≡ 46 → rest ≡ take (length all - 1) (drop 1 all) → all ≡ 46 ∷ rest
-    behind_dot [] filled dot is = absurd (omega (arith, filled))
-    behind_dot (b ∷ all) filled dot is =
-        let whole : take (length (b ∷ all) - 1) all ≡ all = take_all (length (b ∷ all) - 1) all (omega arith) in
-        rw (dot, is, whole) refl
+    behind_dot = grind (arith, common_steps)

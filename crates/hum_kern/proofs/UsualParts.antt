@@ -1,7 +1,9 @@
 -- Subtokens as most are.
+use Rattle.std.proofs.lemmas.Grind.{common_steps}
+use Rattle.std.proofs.lemmas.Bool.Decides.{nat_tests}
 use Rattle.std.proofs.Common.{◌≡◌, ℕ, ℤ, zero, suc, ◌+◌, ◌==◌, ◌<◌, ◌≤◌, Bool, true, false, List, [], ◌∷◌, ◌++◌}
 use Rattle.std.proofs.Common.{Option, Some, None, Ok, length, take, drop, refl, sym, ap, ◌∙◌, arith, subst, slice_index_or}
-use Rattle.std.specs.Prelude.{nat_lt, ◌||◌, not, if◌then◌else◌}
+use Rattle.std.specs.Prelude.{◌||◌, not, if◌then◌else◌}
 use Rattle.std.specs.List.{list_any, AllByRecursion}
 use Rattle.std.proofs.lemmas.List.Folds.{list_any-append}
 use Rattle.std.proofs.lemmas.List.{take-append-drop, length-take-le}
@@ -49,8 +51,7 @@ plain_parts b h =
     record { letter = letter.0; sign = sign.0; mark = mark.0; space = mark.1 }
   where
     is_not : (x : Bool) → not x ≡ true → x ≡ false
-    is_not true e = cc
-    is_not false e = refl
+    is_not = grind (arith, nat_tests)
 
 plain_letter : (b : ℕ) → is_plain b ≡ true → is_letter b ≡ false
 plain_letter b h = (plain_parts b h).letter
@@ -68,12 +69,10 @@ plain_rest : (b : ℕ) → is_plain b ≡ true → is_rest_sign b ≡ false
 plain_rest b h = (no_more (is_rest_sign b) (is_grace_sign b || is_continued_sign b) (plain_mark b h)).0
 
 plain_grace : (b : ℕ) → is_plain b ≡ true → is_grace_sign b ≡ false
-plain_grace b h =
-    (no_more (is_grace_sign b) (is_continued_sign b) (no_more (is_rest_sign b) (is_grace_sign b || is_continued_sign b) (plain_mark b h)).1).0
+plain_grace = grind (arith, nat_tests)
 
 plain_continued : (b : ℕ) → is_plain b ≡ true → is_continued_sign b ≡ false
-plain_continued b h =
-    (no_more (is_grace_sign b) (is_continued_sign b) (no_more (is_rest_sign b) (is_grace_sign b || is_continued_sign b) (plain_mark b h)).1).1
+plain_continued = grind (arith, nat_tests)
 
 space_letter : (b : ℕ) → is_letter b ≡ true → is_space b ≡ false
 space_letter b h = grind arith
@@ -84,8 +83,7 @@ space_sign b h = grind arith
 -- a text without spaces is one subtoken
 one_part : (bytes : List ℕ) → list_any is_space bytes ≡ false → subtokens bytes ≡ bytes ∷ []
 one_part [] none = refl
-one_part (b ∷ bytes) none =
-    let both = no_more (is_space b) (list_any is_space bytes) none in rw (both.0, one_part bytes both.1) refl
+one_part (b ∷ bytes) none = grind (arith, nat_tests, one_part bytes)
 
 -- what is known of the last byte, if it is at most a tie's mark
 record IsTieAtEnd (last : List ℕ) (continued : Bool) : Type 0 where
@@ -100,14 +98,11 @@ tie : (b : ℕ) → is_continued_sign b ≡ true → IsTieAtEnd (b ∷ []) true
 tie b h = go (b == 95) refl h
   where
     go : (x : Bool) → (b == 95) ≡ x → (x || (b == 93)) ≡ true → IsTieAtEnd (b ∷ []) true
-    go true e w =
-        let is : b ≡ 95 = grind arith in rw is (record { no_rest = refl; no_grace = refl; held = refl; no_letter = refl; no_space = refl; no_sign = refl })
-    go false e w =
-        let is : b ≡ 93 = grind arith in rw is (record { no_rest = refl; no_grace = refl; held = refl; no_letter = refl; no_space = refl; no_sign = refl })
+    go true e w = grind (arith, nat_tests)
+    go false e w = grind (arith, nat_tests)
 
 tied : (last : List ℕ) (continued : Bool) → Some continued ≡ tie_at_end last → IsTieAtEnd last continued
-tied [] continued h =
-    let is : continued ≡ false = cc in rw is (record { no_rest = refl; no_grace = refl; held = refl; no_letter = refl; no_space = refl; no_sign = tt })
+tied [] continued h = grind (arith, nat_tests)
 tied (b ∷ []) continued h = go (is_continued_sign b) refl h
   where
     go : (x : Bool) → is_continued_sign b ≡ x → Some continued ≡ (if x then Some true else None) → IsTieAtEnd (b ∷ []) continued
@@ -140,17 +135,14 @@ no_letters (b ∷ before) all = (rw (plain_letter b all.0) refl, no_letters befo
 repeats : (letter : ℕ) (more : List ℕ) → is_letter letter ≡ true → AllByRecursion (λ b. is_in (Repeat letter) b ≡ true) more
     → AllByRecursion (λ b. is_letter b ≡ true) more
 repeats letter [] h all = tt
-repeats letter (b ∷ more) h all =
-    let is : b ≡ letter = grind (arith, all.0) in (rw is h, repeats letter more h all.1)
+repeats letter (b ∷ more) h all = grind (arith, nat_tests, repeats letter more h all.1)
 
 ends_signs : (plain last : List ℕ) → AllByRecursion (λ b. is_plain b ≡ true) plain → EndsBefore Sign last → EndsBefore Sign (plain ++ last)
 ends_signs [] last all h = h
 ends_signs (b ∷ plain) last all h = plain_sign b all.0
 
 uniform : (signs : List ℕ) → length signs ≤ 1 → is_uniform signs ≡ true
-uniform [] few = refl
-uniform (b ∷ []) few = refl
-uniform (b ∷ c ∷ signs) few = absurd (omega (arith, few))
+uniform = grind (arith, common_steps)
 
 -- what is known of the pieces of such a text
 pub record IsUsual (before : List ℕ) (letter : ℕ) (more signs plain last : List ℕ) (continued : Bool) : Type 0 where
@@ -178,12 +170,7 @@ usual_note before letter more signs plain last continued h =
     let letters : AllByRecursion (λ b. is_letter b ≡ true) (letter ∷ more) = (h.letter_is, repeats letter more h.letter_is h.repeated.all_in) in
     let text : List ℕ = before ++ ((letter ∷ more) ++ (signs ++ (plain ++ last))) in
     let parts : Notation = record { before = before; letters = letter ∷ more; signs = signs; left = plain ++ last } in
-    let are : AreNoteParts text parts = record {
-      text = refl;
-      before = record { all_in = no_letters before h.plain_before; ends = not_of (is_letter letter) h.letter_is };
-      letters = h.repeated;
-      signs = record { all_in = h.signs_are; ends = ends_signs plain last h.plain_behind end.no_sign };
-    } in
+    let are : AreNoteParts text parts = grind (arith, nat_tests, no_letters, not_of, ends_signs) in
     let rest : is_rest text ≡ false =
     none_but_last is_rest_sign plain_rest rest_letter rest_sign before (letter ∷ more) signs plain last h.plain_before letters h.signs_are h.plain_behind
     ∙ end.no_rest in
@@ -198,11 +185,8 @@ usual_note before letter more signs plain last continued h =
     let few = h.few in
     let one = h.one_sign in
     let letters_few : length (letter ∷ more) ≤ 8 = omega (arith, few) in
-    let doubtful : is_doubtful parts ≡ false =
-    neither (list_any is_letter (plain ++ last)) (not (is_uniform signs)) clear (not_of (is_uniform signs) (uniform signs one)) in
-    let excessive : is_excessive parts ≡ false =
-    neither (nat_lt 8 (length (letter ∷ more))) (nat_lt 7 (length signs))
-    (not_over 8 (length (letter ∷ more)) letters_few) (not_over 7 (length signs) (omega (arith, one))) in
+    let doubtful : is_doubtful parts ≡ false = grind (arith, nat_tests, neither, not_of, uniform) in
+    let excessive : is_excessive parts ≡ false = grind (arith, nat_tests, neither, not_over) in
     ap (note_by text) (one_notation text parts are)
     ∙ otherwise (is_rest text) (Ok (marks_of text)) _ rest
     ∙ otherwise (is_doubtful parts) _ _ doubtful
@@ -253,23 +237,13 @@ usual_read before letter rest more next signs plain last continued p q more_is n
     let tail : behind (is_in (Repeat letter)) rest ≡ take signs next ++ (plain ++ last) =
     sym next_is ∙ sym (take-append-drop signs next) ∙ ap (λ (xs : List ℕ). take signs next ++ xs) (sym pieces) in
     let whole : rest ≡ more ++ (take signs next ++ (plain ++ last)) =
-    sym (front-behind (Repeat letter) rest) ∙ ap (λ (xs : List ℕ). xs ++ behind (is_in (Repeat letter)) rest) (sym more_is)
-    ∙ ap (λ (xs : List ℕ). more ++ xs) tail in
+    grind (arith, nat_tests, front-behind) in
     let repeated : IsMaximal (Repeat letter) more (take signs next ++ (plain ++ last)) =
-    subst (IsMaximal (Repeat letter) more) tail
-    (subst (λ (xs : List ℕ). IsMaximal (Repeat letter) xs (behind (is_in (Repeat letter)) rest)) (sym more_is) (run_maximal (Repeat letter) rest)) in
+    grind (arith, nat_tests, run_maximal) in
     let plain_behind : AllByRecursion (λ b. is_plain b ≡ true) plain =
     subst (AllByRecursion (λ b. is_plain b ≡ true)) (sym plain_is) (run_maximal Plain (drop signs next)).all_in in
-    let usual : IsUsual before letter more (take signs next) plain last continued = record {
-      plain_before = p;
-      letter_is = q;
-      repeated = repeated;
-      signs_are = s;
-      one_sign = omega (arith, counted, one);
-      plain_behind = plain_behind;
-      tie = t;
-      few = few;
-    } in
+    let usual : IsUsual before letter more (take signs next) plain last continued =
+    grind (arith, nat_tests, tie) in
     subst (λ (xs : List ℕ). IsReadAlone (before ++ (letter ∷ xs)) (usual_reading before letter more (take signs next) continued)) (sym whole) (record {
       read = sym (usual_note before letter more (take signs next) plain last continued usual);
       alone = usual_alone before letter more (take signs next) plain last continued usual;

@@ -1,4 +1,5 @@
-use Rattle.std.proofs.Common.{◌≡◌, ◌∙◌, sym, ap, refl, true, false, not, ℕ, List, []}
+use Rattle.std.proofs.lemmas.Bool.Decides.{nat_tests}
+use Rattle.std.proofs.Common.{◌≡◌, ◌∙◌, sym, ap, refl, false, ℕ, List, [], arith}
 use Rattle.std.specs.List.{list_any}
 use Rattle.hum_kern.specs.declared.runs.Class.TheVariants.{Digit}
 use Rattle.hum_kern.specs.Classes.{is_in, is_divider}
@@ -7,8 +8,6 @@ use Rattle.hum_kern.specs.Runs.{front, behind}
 use Rattle.hum_kern.proofs.Leading.{leading_plain, leading_duration, leads_by, empty_is, not_empty}
 use Rattle.std.proofs.lemmas.Bool.{and_right}
 use Rattle.hum_kern.proofs.duration.read_leading.Goals as goal
-use Rattle.hum_kern.proofs.duration.read_leading.Goals.{then-is_empty-via-then-is_empty}
-use Rattle.hum_kern.proofs.duration.read_leading.Goals.{then-is_empty-via-else-is_empty+then-has_divider}
 
 pub returns-clause-read : goal.returns-clause-read
 returns-clause-read c =
@@ -36,16 +35,4 @@ returns-clause-which c =
     rw (leads_by token, some, none) refl
 
 pub returns-then-is_empty-clause-which : goal.returns-then-is_empty-clause-which
-returns-then-is_empty-clause-which c =
-    let token = c.args.token.now in
-    sym (leads_by token ∙ elim c.then-is_empty.branch [
-      | then-is_empty-via-then-is_empty w ↦
-          let none : is_empty (front (is_in Digit) token) ≡ true =
-          ap is_empty (sym c.split_run.ensures.front) ∙ sym (empty_is c.split_run.result.0.now)
-          ∙ sym c.is_empty.ensures ∙ w.if-is_empty.true in
-          rw none refl
-      | then-is_empty-via-else-is_empty+then-has_divider w ↦
-          let some : list_any is_divider (behind (is_in Digit) token) ≡ true =
-          ap (list_any is_divider) (sym c.split_run.ensures.behind) ∙ sym w.has_divider.ensures ∙ w.if-has_divider.true in
-          rw some (and_right (not (is_empty (front (is_in Digit) token))) false refl)
-    ])
+returns-then-is_empty-clause-which = grind (arith, nat_tests, leads_by, empty_is, and_right)

@@ -1,4 +1,5 @@
-use Rattle.std.proofs.Common.{◌≡◌, ◌∙◌, ◌||◌, get_or, ne_eqb, refl, sym, ap, ap₂}
+use Rattle.std.proofs.lemmas.Bool.Decides.{nat_tests}
+use Rattle.std.proofs.Common.{◌≡◌, ◌∙◌, ◌||◌, get_or, ne_eqb, refl, sym, ap, ap₂, arith}
 use Rattle.std.proofs.lemmas.List.{take_all}
 use Rattle.std.proofs.lemmas.List.Folds.{list_any_more}
 use Rattle.hum_kern.specs.Classes.{is_rest_sign, is_grace_sign, is_continued_sign}
@@ -28,7 +29,4 @@ loop-b-preserved c =
     }
 
 pub returns : goal.returns
-returns c =
-    let all = take_all c.loop-b.b-index c.args.bytes.now c.loop-b-test.false in
-    let marks = rw all at c.loop-b.invariant in
-    same_marks marks.rest marks.grace marks.continued
+returns = grind (arith, nat_tests, take_all, same_marks)
