@@ -1,5 +1,6 @@
 -- The state goes on with one record more.
-use Rattle.std.proofs.Common.{◌≡◌, ◌∙◌, refl, sym, ap, ℕ, ◌<◌, Bool, true, false, not, List, []}
+use Rattle.std.proofs.lemmas.Bool.Decides.{nat_tests}
+use Rattle.std.proofs.Common.{◌≡◌, ◌∙◌, sym, ap, ℕ, ◌<◌, Bool, not, List, []}
 use Rattle.std.proofs.Common.{◌∷◌, ◌++◌, length, cond, arith}
 use Rattle.hum_score.specs.Row.{Row}
 use Rattle.hum_score.specs.Spines.{Path, after}
@@ -18,19 +19,14 @@ use Rattle.hum_yank.proofs.Next.{next_is, number_is, last_is, counted_few}
 use Rattle.hum_yank.proofs.Telling.{tells, tell_more, last_next, is_of, are_more}
 
 not_not : (b : Bool) → not (not b) ≡ b
-not_not true = refl
-not_not false = refl
+not_not = grind (arith, nat_tests)
 
 -- no more are counted than there are
 pub few : (options : YankOptions) (path : Path) (marks : Passages) (last : ℕ) (held : List Held)
     (look : Look) (past rows : List Row) (n : ℕ)
     → Follows options path marks last held look past rows → length (passed past rows) < n
     → marks.counted < n
-few options path marks last held look past rows n h below =
-    let form = form_of options.markers in
-    let is = ap (λ m. m.counted) h.at_hand in
-    let within = counted_few form (passed past rows) in
-    omega (arith, is, within, below)
+few = grind (arith, nat_tests, counted_few)
 
 pub goes_on : (options : YankOptions) (path path' : Path) (marks marks' : Passages) (last last' : ℕ)
     (held held' : List Held) (kept : Held) (look : Look) (past rows : List Row) (row : Row)
@@ -48,13 +44,10 @@ goes_on options path path' marks marks' last last' held held' kept look past row
     let o = choice_of options in
     let seen = passed past rows in
     let push : passed past (rows ++ row ∷ []) ≡ row ∷ seen = passed-push past rows row in
-    let now : marks' ≡ passages_of form (row ∷ seen) = at_hand ∙ ap
-    (λ m. next_passages m (mark_of form row) (is_last form row)) h.at_hand ∙ next_is form row
-    seen in
+    let now : marks' ≡ passages_of form (row ∷ seen) = grind (arith, nat_tests, next_is) in
     let newest : last_in form marks' ≡ last_of form (row ∷ seen) = ap (last_in form) now ∙ last_is
     form (row ∷ seen) in
-    let within : not (is_closed path) ≡ is_unfinished (path_after seen) = not_not
-    (is_unfinished path) ∙ ap is_unfinished h.spines in
+    let within : not (is_closed path) ≡ is_unfinished (path_after seen) = grind (arith, nat_tests, not_not) in
     let number = ap (λ m. number_in m (mark_of form row)) h.at_hand ∙ number_is form row seen in
     let one : Tells o seen row kept = rw (keeps, within, number) (tells o seen row) in
     record {
@@ -63,6 +56,5 @@ goes_on options path path' marks marks' last last' held held' kept look past row
       at_hand = rw push now;
       last = rw push ((rw (h.spines, newest, h.last) at ends) ∙ sym (last_next form row seen));
       tell = rw more (tell_more o past rows held row kept h.tell one);
-      kept = rw more (are_more rows held row kept h.kept
-          (rw keeps (is_of options.ranges.items (not (is_closed path)) row _)));
+      kept = grind (arith, nat_tests, are_more, is_of);
     }

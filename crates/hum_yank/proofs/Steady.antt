@@ -1,8 +1,8 @@
 -- What yank decides stays.
-use Rattle.std.proofs.Common.{◌≡◌, ◌∙◌, refl, sym, ap, ℕ, ◌+◌, ◌≤◌, Bool, true, false, ◌&&◌, ◌||◌}
-use Rattle.std.proofs.Common.{List, [], ◌∷◌, ◌++◌, length, filter, arith, cond, Option, Some, None}
+use Rattle.std.proofs.Common.{◌≡◌, refl, ℕ, ◌+◌, ◌≤◌, Bool, true, false}
+use Rattle.std.proofs.Common.{List, [], ◌∷◌, ◌++◌, length, arith, cond, Option, Some, None}
 use Rattle.std.proofs.Common.{inl, inr}
-use Rattle.std.specs.Prelude.{nat_le, Result, Ok, ◌==◌}
+use Rattle.std.specs.Prelude.{Result, Ok}
 use Rattle.std.specs.List.{list_any, list_all}
 use Rattle.std.proofs.lemmas.Bool.{cases_Bool}
 use Rattle.std.proofs.lemmas.Bool.Decides.{nat_tests}
@@ -15,95 +15,52 @@ use Rattle.hum_score.specs.Score.{IsOpen, path_after, passed}
 use Rattle.hum_stage.specs.declared.faults.Rule.{Rule}
 use Rattle.hum_stage.specs.Order.{passed-push}
 use Rattle.hum_stage.specs.Look.{IsSteady}
-use Rattle.hum_yank.specs.Passages.{Form, Lines, Numbers, Occurrences, Labels, last_of}
-use Rattle.hum_yank.specs.Passages.{is_counted}
+use Rattle.hum_yank.specs.Passages.{Form, last_of}
 use Rattle.hum_choices.specs.declared.yank.YankRange.{YankRange}
-use Rattle.hum_choices.specs.declared.yank.YankRange.TheVariants.{Through, Onward, ToEnd, FromEnd}
 use Rattle.hum_yank.specs.Yank.{Choice, chosen_by, chooses_early, chooses_late, chooses_now}
 use Rattle.hum_yank.specs.Yank.{drops_now, to_spined, is_chosen, last_at, is_yanked, kept}
 use Rattle.hum_yank.specs.Yank.{yank_numbered, yank}
 use Rattle.hum_yank.proofs.Telling.{all_decided}
 
--- a record more makes the last number no less
-filter_more : {X : Type 0} (p : X → Bool) (x : X) (xs : List X) → length (filter p xs) ≤ length
-    (filter p (x ∷ xs))
-filter_more p x xs = elim (p x) as (λ b. length (filter p xs) ≤ length
-    (cond b (x ∷ filter p xs) (filter p xs))) [ true ↦ omega arith | false ↦ omega arith ]
-
 pub last_grows : (form : Form) (row : Row) (seen : List Row) → last_of form seen ≤ last_of form
     (row ∷ seen)
-last_grows Lines row seen = omega arith
-last_grows (Numbers end_of) row seen = omega arith
-last_grows (Occurrences opens ends) row seen = filter_more (is_counted (Occurrences opens ends)) row
-    seen
-last_grows (Labels name) row seen = filter_more (is_counted (Labels name)) row seen
+last_grows = grind (arith, nat_tests)
 
 -- a range that chooses for good, and one that drops for good
 now_stays : (least more x : ℕ) (range : YankRange) → least ≤ more → chooses_now least x range ≡ true
     → chooses_now more x range ≡ true
-now_stays least more x (ToEnd a n) h e = both (nat_le a x) (nat_le (x + n) least)
-    (nat_le (x + n) more) (λ k. grind (arith, nat_tests, k, h)) e
-  where
-    both : (b c d : Bool) → (c ≡ true → d ≡ true) → (b && c) ≡ true → (b && d) ≡ true
-    both true c d f e = f e
-    both false c d f e = cc
-now_stays least more x range h e = cc
+now_stays = grind (arith, nat_tests)
 
 now_late : (least x : ℕ) (range : YankRange) → chooses_now least x range ≡ true → chooses_late least
     x range ≡ true
-now_late least x (ToEnd a n) e = e
-now_late least x range e = cc
+now_late = grind (arith, nat_tests)
 
 drop_stays : (least more x : ℕ) (range : YankRange) → least ≤ more → drops_now least x range ≡ true
     → drops_now more x range ≡ true
-drop_stays least more x (Through a b) h e = refl
-drop_stays least more x (Onward a) h e = refl
-drop_stays least more x (ToEnd a n) h e = e
-drop_stays least more x (FromEnd m n) h e = grind (arith, nat_tests, h, e)
+drop_stays = grind (arith, nat_tests)
 
 dropped_now : (least x : ℕ) (range : YankRange) → drops_now least x range ≡ true → chooses_now least
     x range ≡ false
-dropped_now least x (Through a b) e = refl
-dropped_now least x (Onward a) e = refl
-dropped_now least x (ToEnd a n) e = let k : nat_le a x ≡ false = grind (arith, nat_tests, e) in rw k
-    refl
-dropped_now least x (FromEnd m n) e = refl
+dropped_now = grind (arith, nat_tests)
 
 dropped_late : (least x : ℕ) (range : YankRange) → drops_now least x range ≡ true → chooses_late
     least x range ≡ false
-dropped_late least x (Through a b) e = refl
-dropped_late least x (Onward a) e = refl
-dropped_late least x (ToEnd a n) e = let k : nat_le a x ≡ false = grind (arith, nat_tests, e) in rw
-    k refl
-dropped_late least x (FromEnd m n) e = let k : nat_le least (x + m) ≡ false = grind
-    (arith, nat_tests, e) in rw k refl
+dropped_late = grind (arith, nat_tests)
 
 any_stays : {X : Type 0} (p q : X → Bool) (xs : List X) → ((x : X) → p x ≡ true → q x ≡ true)
     → list_any p xs ≡ true → list_any q xs ≡ true
 any_stays p q [] h e = cc
-any_stays p q (x ∷ xs) h e = on (p x) (q x) (h x) e (any_stays p q xs h)
-  where
-    on : (a b : Bool) → (a ≡ true → b ≡ true) → (a || list_any p xs) ≡ true
-        → (list_any p xs ≡ true → list_any q xs ≡ true) → (b || list_any q xs) ≡ true
-    on = grind (arith, nat_tests)
+any_stays p q (x ∷ xs) h e = grind (arith, nat_tests, any_stays p q xs h)
 
 all_stays : {X : Type 0} (p q : X → Bool) (xs : List X) → ((x : X) → p x ≡ true → q x ≡ true)
     → list_all p xs ≡ true → list_all q xs ≡ true
 all_stays p q [] h e = refl
-all_stays p q (x ∷ xs) h e = on (p x) (q x) (h x) e (all_stays p q xs h)
-  where
-    on : (a b : Bool) → (a ≡ true → b ≡ true) → (a && list_all p xs) ≡ true
-        → (list_all p xs ≡ true → list_all q xs ≡ true) → (b && list_all q xs) ≡ true
-    on = grind (arith, nat_tests)
+all_stays p q (x ∷ xs) h e = grind (arith, nat_tests, all_stays p q xs h)
 
 all_none : {X : Type 0} (p q : X → Bool) (xs : List X) → ((x : X) → p x ≡ true → q x ≡ false)
     → list_all p xs ≡ true → list_any q xs ≡ false
 all_none p q [] h e = refl
-all_none p q (x ∷ xs) h e = on (p x) (q x) (h x) e (all_none p q xs h)
-  where
-    on : (a b : Bool) → (a ≡ true → b ≡ false) → (a && list_all p xs) ≡ true
-        → (list_all p xs ≡ true → list_any q xs ≡ false) → (b || list_any q xs) ≡ false
-    on = grind (arith, nat_tests)
+all_none p q (x ∷ xs) h e = grind (arith, nat_tests, all_none p q xs h)
 
 -- what is chosen or dropped while a spine is open stays so, with a greater last number and
 -- after the close
@@ -112,38 +69,10 @@ pub chosen_stays : (ranges : List YankRange) (closed : Bool) (least more x : ℕ
 chosen_stays ranges closed least more x d h e = elim
     (cases_Bool (list_any (chooses_now least x) ranges)) as
     (λ _. is_chosen ranges closed more x ≡ Some d) [
-      | inl w ↦
-          let is : true ≡ d = let k : Some true ≡ Some d = rw w at e in cc in
-          let now = any_stays (chooses_now least x) (chooses_now more x) ranges
-          (λ range. now_stays least more x range h) w in
-          let late = any_stays (chooses_now more x) (chooses_late more x) ranges (now_late more x)
-          now in
-          yes closed now late ∙ ap (λ (b : Bool). Some b) is
-      | inr w ↦ elim (cases_Bool (list_all (drops_now least x) ranges)) as
-          (λ _. is_chosen ranges closed more x ≡ Some d) [
-            | inl v ↦
-                let is : false ≡ d = let k : Some false ≡ Some d = rw (w, v) at e in cc in
-                let drops = all_stays (drops_now least x) (drops_now more x) ranges
-                (λ range. drop_stays least more x range h) v in
-                let now = all_none (drops_now more x) (chooses_now more x) ranges (dropped_now more x)
-                drops in
-                let late = all_none (drops_now more x) (chooses_late more x) ranges (dropped_late more x)
-                drops in
-                never closed now late drops ∙ ap (λ (b : Bool). Some b) is
-            | inr v ↦ let k : None ≡ Some d = rw (w, v) at e in cc
-          ]
+      | inl w ↦ grind (arith, nat_tests, any_stays, now_stays, now_late)
+      | inr w ↦
+          grind (arith, nat_tests, cases_Bool, all_stays, drop_stays, all_none, dropped_now, dropped_late)
     ]
-  where
-    yes : (closed : Bool) → list_any (chooses_now more x) ranges ≡ true → list_any
-        (chooses_late more x) ranges ≡ true → is_chosen ranges closed more x ≡ Some true
-    yes true now late = rw late refl
-    yes false now late = rw now refl
-
-    never : (closed : Bool) → list_any (chooses_now more x) ranges ≡ false → list_any
-        (chooses_late more x) ranges ≡ false → list_all (drops_now more x) ranges ≡ true → is_chosen
-        ranges closed more x ≡ Some false
-    never true now late drops = rw late refl
-    never false now late drops = rw (now, drops) refl
 
 -- the opening record has passed
 abbrev pub IsOpened : Path → Type 0
@@ -151,12 +80,10 @@ IsOpened Unopened = ⊥
 IsOpened (Spines names) = Unit {0}
 
 unfinished_opened : (path : Path) → is_unfinished path ≡ true → IsOpened path
-unfinished_opened Unopened e = cc
-unfinished_opened (Spines names) e = tt
+unfinished_opened = grind (arith, nat_tests)
 
 stays_opened : (path : Path) (row : Row) → IsOpened path → IsOpened (after path row)
-stays_opened path (Spined Interpretation tokens) h = tt
-stays_opened path row h = h
+stays_opened = grind (arith, nat_tests)
 
 all_opened : (past rows : List Row) → IsOpened (path_after past) → IsOpened
     (path_after (passed past rows))
@@ -166,13 +93,7 @@ all_opened past (row ∷ rows) h = all_opened (row ∷ past) rows (stays_opened 
 -- after the last spine's end only comments follow
 closed_then : (path : Path) (kind : SpinedKind) (tokens : List (List ℕ)) → IsOpened path → is_closed
     path ≡ true → fault_of path (Spined kind tokens) ≡ None → ⊥
-closed_then Unopened kind tokens opened c e = opened
-closed_then (Spines (name ∷ names)) kind tokens opened c e =
-    let k : (length (name ∷ names) == 0) ≡ false = grind (arith, nat_tests) in
-    let l : true ≡ false = cc in
-    cc
-closed_then (Spines []) Interpretation tokens opened c e = cc
-closed_then path kind tokens opened c e = cc
+closed_then = grind (arith, nat_tests)
 
 -- What is decided of a number, by the records so far, stays with one more.
 pub seen_stays : (o : Choice) (seen : List Row) (next : Row) (x : ℕ) (d : Bool) → IsOpened
@@ -205,8 +126,7 @@ seen_stays o seen (Spined kind tokens) x d opened score e = elim
         x ≡ Some d → is_chosen o.ranges closed (cond closed
         (last_of o.form (Spined kind tokens ∷ seen)) (last_of o.form (Spined kind tokens ∷ seen))) x
         ≡ Some d
-    whole true k = k
-    whole false k = k
+    whole = grind (arith, nat_tests)
 
 yanked_stays : (o : Choice) (past : List Row) (row : Row) (rows : List Row) (next : Row) (x : ℕ)
     (d : Bool) → IsOpen (next ∷ passed (row ∷ past) rows) → is_yanked o past row rows x ≡ Some d
@@ -221,14 +141,11 @@ yanked_stays o past row rows next x d score e =
         (Some true) (cond b old (Some false)) ≡ Some d
         → (is_unfinished (path_after past) ≡ true → old ≡ Some d → new ≡ Some d) → cond a
         (Some true) (cond b new (Some false)) ≡ Some d
-    by_tests true b is k h = k
-    by_tests false true is k h = h (sym is) k
-    by_tests false false is k h = k
+    by_tests = grind (arith, nat_tests)
 
 kept_stays : (row : Row) (old new : Option Bool) (d : Result (List Row) Rule)
     → ((b : Bool) → old ≡ Some b → new ≡ Some b) → kept row old ≡ Some d → kept row new ≡ Some d
-kept_stays row None new d h e = cc
-kept_stays row (Some b) new d h e = rw (h b refl) e
+kept_stays = grind (arith, nat_tests)
 
 numbered_stays : (o : Choice) (past : List Row) (row : Row) (rows : List Row) (next : Row)
     (n : Option ℕ) (d : Result (List Row) Rule) → IsOpen (next ∷ passed (row ∷ past) rows)
@@ -245,8 +162,7 @@ one_kept = grind (arith, nat_tests)
 
 one_numbered : (o : Choice) (past : List Row) (row : Row) (rows : List Row) (n : Option ℕ)
     (new : List Row) → yank_numbered o past row rows n ≡ Some (Ok new) → length new ≤ 1
-one_numbered o past row rows None new e = one_kept row (Some false) new e
-one_numbered o past row rows (Some x) new e = one_kept row (is_yanked o past row rows x) new e
+one_numbered = grind (arith, nat_tests)
 
 pub yank_steady : (o : Choice) → IsSteady (yank o)
 yank_steady o = record {
@@ -268,10 +184,4 @@ yank_steady o = record {
 
     one : (past : List Row) (row : Row) (rows new : List Row) → yank o past row rows ≡ Some (Ok new)
         → length new ≤ 1
-    one past (Comment text) rows new e = one_numbered o past (Comment text) rows _ new e
-    one past (Spined Interpretation tokens) rows new e = one_kept (Spined Interpretation tokens)
-        (Some true) new e
-    one past (Spined Local tokens) rows new e = one_numbered o past (Spined Local tokens) rows _ new
-        e
-    one past (Spined Values tokens) rows new e = one_numbered o past (Spined Values tokens) rows _
-        new e
+    one = grind (arith, nat_tests, one_numbered, one_kept)
