@@ -1,4 +1,6 @@
 -- What the memory holds behind a record.
+use Rattle.std.proofs.lemmas.Grind.{common_steps}
+use Rattle.std.proofs.lemmas.Bool.Decides.{nat_tests}
 use Rattle.std.proofs.Common.{◌≡◌, ◌∙◌, refl, sym, ap, ℕ, Bool, true, false, List, [], ◌∷◌, ◌≤◌, length, map, Option, None, Some, arith}
 use Rattle.std.specs.Prelude.{Result, Ok, Err, OnOk, OnErr, IfSome}
 use Rattle.std.specs.List.{list_any}
@@ -46,8 +48,7 @@ pub begins_followed : (memory : Remembered) (options : DittoOptions) (holding : 
     → kind_of row ≡ AnyValues → IsTextOf row (text_of row) → ComeFrom row found → IsGivenFor memory row given → new ≡ given
     → HasFollowed memory row found (map seen_alone (tokens_of new))
 begins_followed memory options holding row given new found view none bare k lawful come becomes is =
-    data_followed memory (map seen_alone (tokens_of new)) row given found (ap (λ m. m.options.skip) (sym view) ∙ none)
-    (ap (λ m. m.options.parentheses) (sym view) ∙ bare) k lawful come becomes (ap (λ r. map seen_alone (tokens_of r)) is)
+    grind (arith, nat_tests, data_followed memory (map seen_alone (tokens_of new)) row given found)
 
 module _ (memory : Remembered) (options : DittoOptions) (holding : Holding) (old : Row) (stays : List Move)
     (view : seen_in options holding ≡ memory) (is : holding ≡ Given old stays) (whole : IsWhole options old stays) where
@@ -65,15 +66,13 @@ module _ (memory : Remembered) (options : DittoOptions) (holding : Holding) (old
       → made ≡ Spined Values (filled_from (tokens_of old) (tokens_of row)) → length (text_of made) ≤ 1048576
       → IsMade Values (all_filled memory.options.parentheses memory.each (tokens_of row)) (Some made)
   held_filled row made =
-      made_under memory.options.parentheses memory.each old row made each
-      (ap (λ m. m.options.parentheses) (sym view) ∙ whole.bare) whole.kind
+      grind (arith, nat_tests, made_under memory.options.parentheses memory.each old row made each)
 
   pub held_filled_if : (row : Row) (result : Option Row) → IsTextOf old (text_of old)
       → IfSome result (λ made. made ≡ Spined Values (filled_from (tokens_of old) (tokens_of row)))
       → IfSome result (λ made. length (text_of made) ≤ 1048576)
       → IfSome result (λ made. IsMade Values (all_filled memory.options.parentheses memory.each (tokens_of row)) (Some made))
-  held_filled_if row None lawful e most = tt
-  held_filled_if row (Some made) lawful e most = held_filled row made lawful e most
+  held_filled_if = grind (arith, nat_tests, held_filled)
 
   -- a data record in the place of the one before
   in_place : (row given new : Row) → kind_of row ≡ AnyValues → IsTextOf row (text_of row) → length memory.each ≡ width_of row
@@ -103,14 +102,12 @@ module _ (memory : Remembered) (options : DittoOptions) (holding : Holding) (old
   pub goes_on_followed : (row given new : Row) (found : List Move) → kind_of row ≡ AnyValues → IsTextOf row (text_of row)
       → ComeFrom row found → IsGivenFor memory row given → new ≡ given → HasFollowed memory row found (map seen_alone (tokens_of new))
   goes_on_followed row given new found k lawful come becomes made =
-      data_followed memory (map seen_alone (tokens_of new)) row given found none (ap (λ m. m.options.parentheses) (sym view) ∙ whole.bare)
-      k lawful come becomes (ap (λ r. map seen_alone (tokens_of r)) made)
+      grind (arith, nat_tests, data_followed memory (map seen_alone (tokens_of new)) row given found none)
 
   pub sees_followed : (row given new : Row) → kind_of row ≡ AnyValues → IsTextOf row (text_of row) → IsGivenFor memory row given → new ≡ given
       → HasSeen memory row (map seen_alone (tokens_of new))
   sees_followed row given new k lawful becomes made past remember sound =
-      let found = moves (path_after past) row in
-      goes_on_followed row given new found k lawful (comes_same row found (data_stays past row found refl sound k)) becomes made past remember sound refl
+      grind (arith, nat_tests, goes_on_followed row given new, comes_same row, data_stays past row)
 
   pub sees_kept : (new : Row) → new ≡ old → seen_in options (Given new stays) ≡ memory
   sees_kept new kept = rw kept (ap (seen_in options) (sym is) ∙ view)
@@ -119,9 +116,7 @@ module _ (memory : Remembered) (options : DittoOptions) (holding : Holding) (old
   pub stays_followed : (row : Row) (found : List Move) (wide : ℕ) → kind_of row ≡ AnyInterpretation → IsTextOf row (text_of row) → ComeFrom row found
       → wide ≡ width_of old → found ≡ same_upto 0 wide → list_any (λ t. is_exclusive (sign_of t)) (tokens_of row) ≡ false
       → HasFollowed memory row found (map seen_alone (tokens_of old))
-  stays_followed row found wide k lawful come same stay plain =
-      plain_followed memory (map seen_alone (tokens_of old)) (sym each) row found k lawful come
-      (stay ∙ ap (same_upto 0) (same ∙ sym size)) plain
+  stays_followed = grind (arith, nat_tests, plain_followed, each, size)
 
   -- one that does is as wide
   pub steers_width : (row : Row) (found : List Move) → kind_of row ≡ AnyInterpretation → MayFollow memory row found → width_of row ≡ width_of old
@@ -130,18 +125,14 @@ module _ (memory : Remembered) (options : DittoOptions) (holding : Holding) (old
       (λ no. whole.some (empty (tokens_of old) (sym size ∙ no))) ∙ size
     where
       empty : (tokens : List (List ℕ)) → length tokens ≡ 0 → tokens ≡ []
-      empty [] h = refl
-      empty (token ∷ tokens) h = absurd (omega (arith, h))
+      empty = grind (arith, common_steps)
 
   pub steers_followed : (row : Row) (found : List Move) (skip : Option (List ℕ)) (old' new : List (Option (List ℕ)))
       → skip ≡ options.skip → old' ≡ map seen_alone (tokens_of old)
       → ((past : List Row) → Remember (last_seen skip) None past old' → found ≡ moves (path_after past) row
       → Remember (last_seen skip) None (row ∷ past) new)
       → HasFollowed memory row found new
-  steers_followed row found skip old' new kept alone follow past remember sound moved =
-      let same : skip ≡ memory.options.skip = kept ∙ ap (λ m. m.options.skip) view in
-      let before : Remember (last_seen skip) None past old' = rw (same, alone, ← each) remember in
-      rw (← same) (follow past before moved)
+  steers_followed = grind (arith, nat_tests)
 
 -- each column's own memory goes on
 pub each_followed : (memory : Remembered) (options : DittoOptions) (holding : Holding) (each new : List (Option (List ℕ))) (row : Row) (found : List Move)
@@ -149,10 +140,7 @@ pub each_followed : (memory : Remembered) (options : DittoOptions) (holding : Ho
     → ((past : List Row) → Remember (last_seen options.skip) None past each → found ≡ moves (path_after past) row
     → Remember (last_seen options.skip) None (row ∷ past) new)
     → HasFollowed memory row found new
-each_followed memory options holding each new row found view is follow past remember sound moved =
-    let same = ap (λ m. m.options.skip) view in
-    let before : Remember (last_seen options.skip) None past each = rw (same, ← is) (ap (λ m. m.each) view ∙ remember) in
-    rw (← same) (follow past before moved)
+each_followed = grind (arith, nat_tests)
 
 -- memories that open under an interpretation, and see a data record
 pub each_alone : (skip skip' : Option (List ℕ)) (row next : Row) (stays : List Move) (fresh first last : List (Option (List ℕ)))

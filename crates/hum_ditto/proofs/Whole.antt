@@ -1,5 +1,7 @@
 -- A data record as it was given tells what is remembered of each column.
-use Rattle.std.proofs.Common.{◌≡◌, ◌≢◌, ◌∙◌, refl, sym, ap, ℕ, zero, suc, ◌+◌, ◌<◌, ◌≤◌, Bool, true, false, List, [], ◌∷◌, length, map, cond}
+use Rattle.std.proofs.lemmas.Grind.{common_steps}
+use Rattle.std.proofs.lemmas.Bool.Decides.{nat_tests}
+use Rattle.std.proofs.Common.{◌≡◌, ◌≢◌, ◌∙◌, refl, sym, ℕ, zero, suc, ◌+◌, ◌<◌, ◌≤◌, Bool, true, false, List, [], ◌∷◌, length, map, cond}
 use Rattle.std.proofs.Common.{Option, None, Some, inl, inr, arith, get_or}
 use Rattle.std.specs.List.{list_any, find, AllByRecursion}
 use Rattle.std.proofs.lemmas.Bool.{cases_Bool, or_parts}
@@ -12,28 +14,23 @@ use Rattle.hum_record.specs.Contents.{is_null}
 use Rattle.hum_score.specs.Spelling.{IsToken, IsTextOf, kind_of_token, same_kind}
 use Rattle.hum_score.specs.declared.spines.Move.{Move}
 use Rattle.hum_score.specs.Sign.{sign_of, is_exclusive}
-use Rattle.hum_score.specs.Spines.{Path, Unopened, Spines, same_upto, width, moves}
+use Rattle.hum_score.specs.Spines.{Path, same_upto, width, moves}
 use Rattle.hum_score.specs.Rules.{breaks, in_order}
 use Rattle.hum_score.specs.Score.{IsOpen, path_after}
 use Rattle.hum_path.specs.Chains.{columns, longer, chain_of}
 use Rattle.hum_path.specs.Memories.{remembered, seen_each, Remember}
 use Rattle.hum_path.specs.Step.{ComeFrom}
 use Rattle.hum_path.proofs.Carry.{sees_on}
-use Rattle.hum_path.proofs.Plain.{sound_width}
 use Rattle.hum_path.proofs.Widths.{columns_width, text_width}
 use Rattle.hum_path.proofs.Within.{same_below}
 use Rattle.hum_ditto.specs.Ditto.{may_repeat, filled, all_filled}
 use Rattle.hum_ditto.specs.Memory.{last_seen}
 use Rattle.hum_ditto.specs.Held.{seen_alone, Remembered, HasFollowed, IsGivenFor}
-use Rattle.hum_ditto.proofs.Nearest.{exclusive_kind}
 use Rattle.hum_ditto.proofs.Tokens.{some_filled, filled_length}
 
 -- a token of another kind than interpretations isn't exclusive
 not_exclusive : (token : List ℕ) (kind : SpinedKind) → kind_of_token token ≡ kind → (Interpretation ≡ kind → ⊥) → is_exclusive (sign_of token) ≡ false
-not_exclusive token kind is other = elim (cases_Bool (is_exclusive (sign_of token))) as (λ _. is_exclusive (sign_of token) ≡ false) [
-  | inl same ↦ absurd (other (sym (exclusive_kind token same) ∙ is))
-  | inr isnt ↦ isnt
-]
+not_exclusive = grind (arith, nat_tests)
 
 value : Interpretation ≡ Values → ⊥
 value e = cc
@@ -58,14 +55,11 @@ Lasts (Some token) = seen_alone token ≡ Some token
 
 lasts_next : (token : List ℕ) (last : Option (List ℕ)) (e m : Bool) → is_exclusive (sign_of token) ≡ e → may_repeat None token ≡ m → Lasts last
     → Lasts (cond e None (cond m (Some token) last))
-lasts_next token last true m is may h = tt
-lasts_next token last false true is may h = rw (is, may) refl
-lasts_next token last false false is may h = h
+lasts_next = grind (arith, nat_tests)
 
 remembered_lasts : (above : List (List ℕ)) → Lasts (remembered (last_seen None) None above)
 remembered_lasts [] = tt
-remembered_lasts (token ∷ above) =
-    lasts_next token (remembered (last_seen None) None above) (is_exclusive (sign_of token)) (may_repeat None token) refl refl (remembered_lasts above)
+remembered_lasts (token ∷ above) = grind (arith, nat_tests, remembered_lasts above, lasts_next)
 
 all_last : (columns : List (List (List ℕ))) → AllByRecursion Lasts (map (remembered (last_seen None) None) columns)
 all_last [] = tt
@@ -83,13 +77,9 @@ given_tells token (Some source) h lasts = elim (cases_Bool (is_null token))
 
 all_tell : (tokens : List (List ℕ)) (memories : List (Option (List ℕ))) → AllByRecursion (IsToken Values) tokens → AllByRecursion Lasts memories
     → length memories ≡ length tokens → map seen_alone (all_filled false memories tokens) ≡ seen_each (last_seen None) tokens memories
-all_tell [] [] h lasts same = refl
-all_tell [] (last ∷ memories) h lasts same = absurd (omega (arith, same))
-all_tell (token ∷ tokens) [] h lasts same = absurd (omega (arith, same))
 all_tell (token ∷ tokens) (last ∷ memories) h lasts same =
-    let first = given_tells token last h.0 lasts.0 in
-    let rest = all_tell tokens memories h.1 lasts.1 (omega (arith, same)) in
-    cc
+    grind (arith, nat_tests, all_tell tokens memories h.1 lasts.1 (omega (arith, same)), given_tells)
+all_tell tokens memories h k w = grind (arith, common_steps)
 
 comment_no_data : Global ≡ AnyValues → ⊥
 comment_no_data e = cc
@@ -100,8 +90,7 @@ comment_no_sign e = cc
 -- as many memories as spines
 memories_width : (skip : Option (List ℕ)) (past : List Row) (memories : List (Option (List ℕ))) → Remember (last_seen skip) None past memories
     → IsOpen past → length memories ≡ width (path_after past)
-memories_width skip past memories remember sound =
-    ap length remember ∙ length-map (columns past) (remembered (last_seen skip) None) ∙ columns_width past sound
+memories_width = grind (arith, nat_tests, length-map, columns_width)
 
 pub data_width : (skip : Option (List ℕ)) (past : List Row) (row : Row) (memories : List (Option (List ℕ))) → Remember (last_seen skip) None past memories
     → IsOpen (row ∷ past) → kind_of row ≡ AnyValues → length memories ≡ width_of row
@@ -114,15 +103,10 @@ data_width skip past (Spined Values tokens) memories remember sound k =
 -- under data no spine moves
 pub data_stays : (past : List Row) (row : Row) (found : List Move) → found ≡ moves (path_after past) row → IsOpen (row ∷ past)
     → kind_of row ≡ AnyValues → found ≡ same_upto 0 (width_of row)
-data_stays past (Comment text) found moved sound k = absurd (comment_no_data k)
-data_stays past (Spined Local tokens) found moved sound k = absurd cc
-data_stays past (Spined Interpretation tokens) found moved sound k = absurd cc
-data_stays past (Spined Values tokens) found moved sound k =
-    moved ∙ ap (same_upto 0) (sym (text_width (path_after past) tokens sound.1))
+data_stays = grind (arith, nat_tests)
 
 opened_width : (path : Path) (tokens : List (List ℕ)) → find (breaks path tokens) in_order ≡ None → width path ≢ 0 → length tokens ≡ width path
-opened_width Unopened tokens h some = absurd (some refl)
-opened_width (Spines names) tokens h some = sound_width names tokens h
+opened_width = grind (arith, nat_tests)
 
 -- an interpretation is as wide as the spines before it, if there are some
 pub steered_width : (skip : Option (List ℕ)) (past : List Row) (row : Row) (memories : List (Option (List ℕ))) → Remember (last_seen skip) None past memories
@@ -146,8 +130,7 @@ data_followed before after (Spined Values tokens) given found none bare k lawful
     let old : Remember (last_seen None) None past before.each = rw none at remember in
     let lasts : AllByRecursion Lasts before.each = rw old (all_last (columns past)) in
     let became : tokens_of given ≡ all_filled false before.each tokens = rw bare at (becomes refl).1 in
-    let new : after ≡ seen_each (last_seen None) tokens before.each =
-    is ∙ ap (map seen_alone) became ∙ all_tell tokens before.each lawful.2 lasts wide in
+    let new : after ≡ seen_each (last_seen None) tokens before.each = grind (arith, nat_tests, all_tell) in
     rw none (sees_on (last_seen None) None (Spined Values tokens) past before.each after found come (λ no. absurd cc) new old moved)
 
 -- a cell that is no data and names no spine leaves nothing behind
@@ -157,22 +140,15 @@ unseen skip token last kind is other plain = rw (plain, is, other) refl
 
 comments_unseen : (skip : Option (List ℕ)) (tokens : List (List ℕ)) (memories : List (Option (List ℕ))) → AllByRecursion (IsToken Local) tokens
     → seen_each (last_seen skip) tokens memories ≡ memories
-comments_unseen skip [] memories h = refl
-comments_unseen skip (token ∷ tokens) [] h = refl
 comments_unseen skip (token ∷ tokens) (last ∷ memories) h =
-    let first = unseen skip token last Local h.0.of_kind refl (not_exclusive token Local h.0.of_kind comment) in
-    let rest = comments_unseen skip tokens memories h.1 in
-    cc
+    grind (arith, nat_tests, comments_unseen skip tokens memories h.1)
+comments_unseen skip tokens memories h = grind (arith, nat_tests)
 
 plain_unseen : (skip : Option (List ℕ)) (tokens : List (List ℕ)) (memories : List (Option (List ℕ))) → AllByRecursion (IsToken Interpretation) tokens
     → list_any (λ t. is_exclusive (sign_of t)) tokens ≡ false → seen_each (last_seen skip) tokens memories ≡ memories
-plain_unseen skip [] memories h plain = refl
-plain_unseen skip (token ∷ tokens) [] h plain = refl
 plain_unseen skip (token ∷ tokens) (last ∷ memories) h plain =
-    let both = or_parts (is_exclusive (sign_of token)) (list_any (λ t. is_exclusive (sign_of t)) tokens) plain in
-    let first = unseen skip token last Interpretation h.0.of_kind refl both.0 in
-    let rest = plain_unseen skip tokens memories h.1 both.1 in
-    cc
+    grind (arith, nat_tests, plain_unseen skip tokens memories h.1, or_parts, unseen)
+plain_unseen skip tokens memories h k = grind (arith, nat_tests)
 
 -- a comment changes nothing
 pub comment_followed : (memory : Remembered) (row : Row) (found : List Move) → kind_of row ≡ AnyLocal
@@ -209,33 +185,18 @@ data_behind : (tokens signs : List (List ℕ)) (j : ℕ) → AllByRecursion (IsT
     → map (remembered (last_seen None) None) (longer tokens (map (chain_of signs []) (same_upto j (length tokens)))) ≡ map seen_alone tokens
 data_behind [] signs j h few = refl
 data_behind (token ∷ tokens) signs j h few =
-    let first = ap (last_seen None token) (nothing_seen signs j h (omega (arith, few))) in
-    let rest = data_behind tokens signs (j + 1) h (omega (arith, few)) in
-    cc
+    grind (arith, nat_tests, data_behind tokens signs (j + 1) h (omega (arith, few)), nothing_seen)
 
 -- a data record behind an interpretation that opens its spines
 pub seen_behind : (row next : Row) → kind_of row ≡ AnyValues → kind_of next ≡ AnyInterpretation → IsTextOf next (text_of next)
     → width_of next ≡ width_of row → (memories : List (Option (List ℕ))) → Remember (last_seen None) None (row ∷ next ∷ []) memories
     → memories ≡ map seen_alone (tokens_of row)
-seen_behind (Spined Values tokens) (Spined Interpretation signs) k n lawful same memories remember =
-    remember ∙ rw same (data_behind tokens signs 0 lawful.2 (omega (arith, same)))
-seen_behind (Comment text) next k n lawful same memories remember = absurd (comment_no_data k)
-seen_behind (Spined Local tokens) next k n lawful same memories remember = absurd cc
-seen_behind (Spined Interpretation tokens) next k n lawful same memories remember = absurd cc
-seen_behind (Spined Values tokens) (Comment text) k n lawful same memories remember = absurd (comment_no_sign n)
-seen_behind (Spined Values tokens) (Spined Local signs) k n lawful same memories remember = absurd cc
-seen_behind (Spined Values tokens) (Spined Values signs) k n lawful same memories remember = absurd cc
+seen_behind = grind (arith, nat_tests, data_behind, comment_no_data, comment_no_sign)
 
 pub stays_behind : (row next : Row) (found : List Move) → kind_of row ≡ AnyValues → kind_of next ≡ AnyInterpretation
     → width_of next ≡ width_of row → found ≡ same_upto 0 (width_of row)
     → (found ≡ moves (path_after []) next) × (found ≡ moves (path_after (next ∷ [])) row)
-stays_behind (Spined Values tokens) (Spined Interpretation signs) found k n same stays = rw same (stays, stays)
-stays_behind (Comment text) next found k n same stays = absurd (comment_no_data k)
-stays_behind (Spined Local tokens) next found k n same stays = absurd cc
-stays_behind (Spined Interpretation tokens) next found k n same stays = absurd cc
-stays_behind (Spined Values tokens) (Comment text) found k n same stays = absurd (comment_no_sign n)
-stays_behind (Spined Values tokens) (Spined Local signs) found k n same stays = absurd cc
-stays_behind (Spined Values tokens) (Spined Values signs) found k n same stays = absurd cc
+stays_behind = grind (arith, nat_tests)
 
 -- spines that stay come from spines under the tokens
 pub comes_same : (row : Row) (found : List Move) → found ≡ same_upto 0 (width_of row) → ComeFrom row found
@@ -244,11 +205,8 @@ comes_same (Spined kind tokens) found stays = rw stays (same_below (length token
 
 -- what is given for a data record is as wide, and a record
 pub given_width : (memory : Remembered) (row given : Row) → kind_of row ≡ AnyValues → IsGivenFor memory row given → width_of given ≡ width_of row
-given_width memory row given k becomes =
-    ap length (becomes k).1 ∙ filled_length memory.options.parentheses memory.each (tokens_of row)
+given_width = grind (arith, nat_tests, filled_length)
 
 pub given_some : (memory : Remembered) (row given : Row) → kind_of row ≡ AnyValues → IsTextOf row (text_of row) → IsGivenFor memory row given
     → tokens_of given ≢ []
-given_some memory (Comment text) given k lawful becomes = absurd (comment_no_data k)
-given_some memory (Spined kind tokens) given k lawful becomes =
-    rw (becomes k).1 (some_filled memory.options.parentheses memory.each tokens lawful.1)
+given_some = grind (arith, nat_tests, comment_no_data, some_filled)
