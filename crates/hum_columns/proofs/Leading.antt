@@ -89,9 +89,21 @@ first_sound ps ns k some h few =
     let none = first_exchange 0 false [] ps ns h.formed in
     let stay = first_none (λ t. is_exclusive (sign_of t)) ps refl h.stay in
     let bare = first_none (bytes_eq (codes "**")) ps refl h.bare in
-    grind (arith, nat_tests, length-map, first_size ps, formed_length false [] ps ns h.formed, first_comes ps ns h, merged_fewer ps ns, none, bare,
-    none_unnamed ns (map sign_of (first_alone ps)) h.named, steady_steers (first_alone ps) stay, first_lone false [] ps ns h.formed,
-    first_unmixed ps ns h.formed)
+    grind (
+      arith,
+      nat_tests,
+      length-map,
+      first_size ps,
+      formed_length false [] ps ns h.formed,
+      first_comes ps ns h,
+      merged_fewer ps ns,
+      none,
+      bare,
+      none_unnamed ns (map sign_of (first_alone ps)) h.named,
+      steady_steers (first_alone ps) stay,
+      first_lone false [] ps ns h.formed,
+      first_unmixed ps ns h.formed,
+    )
 
 left_comes : (ps : List JoinedToken) (ns : List (List ℕ)) → Steady ps ns → come_to (first_done ps) (merged ps ns) ≡ come_to ps ns
 left_comes = grind (arith, nat_tests, steady_comes, merged, done_steady, done_swapped, done_onward, signs_in)
